@@ -1,0 +1,11 @@
+-- When a count of faults rose, and what an answer of failure says of it.
+use Rattle.std.specs.Prelude.{◌≡◌, ℕ, ◌-◌, ◌^◌, ◌<◌, ◌≤◌, ◌⊎◌, Result, OnErr}
+
+-- the count is above what it was, or stands at the last value of a `u64`
+abbrev pub Rose : ℕ → ℕ → Type 0
+Rose before now = (before < now) ⊎ (now ≡ 2 ^ 64 - 1)
+
+-- the count does not fall, and a failure comes only where it rose
+pub record HasCause {T E : Type 0} (before now : ℕ) (result : Result T E) : Type 0 where
+  pub later : before ≤ now
+  pub failed : OnErr result (Rose before now)

@@ -1,0 +1,4 @@
+pub mod Profile
+pub mod Causes
+pub mod Outside
+pub mod Reading

@@ -1,0 +1,24 @@
+//! Types that every crate speaks of, the traits of the outside, and whole reads and writes over them.
+#![tactic(auto)]
+
+mod memory_sink;
+mod memory_source;
+mod node;
+mod outside;
+mod packet;
+mod payload;
+mod profile;
+mod read;
+mod standard;
+mod write;
+
+pub use memory_sink::MemorySink;
+pub use memory_source::MemorySource;
+pub use node::NodeId;
+pub use outside::{Failed, Memory, Sink, Source};
+pub use packet::Packet;
+pub use payload::Payload;
+pub use profile::Profile;
+pub use read::{INPUT_LIMIT, ReadStop, read_all};
+pub use standard::{ReaderSource, WriterSink};
+pub use write::{WriteFault, write_all};

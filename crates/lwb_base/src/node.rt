@@ -1,0 +1,39 @@
+ghost use Rattle.std.specs.Prelude.{◌≡◌, ℕ, ◌≤◌, SomeIff};
+
+use std::marker::Model;
+
+/// The id of a node, 1 to 200. Contracts see the number.
+#[derive(Clone, Copy, Debug, PartialEq, Eq, PartialOrd, Ord)]
+pub struct NodeId {
+    id: u8,
+}
+
+impl Model for NodeId {
+    ghost Value = { ℕ };
+
+    ghost view = { λ n. n.id };
+
+    ghost invariant = { λ n. (1 ≤ n.id) × (n.id ≤ 200) };
+
+    ghost inverse = { λ n. record { id = n } };
+}
+
+impl NodeId {
+    /// None exactly outside 1 to 200.
+    pub fn new(id: u8) -> Option<NodeId>
+        ensures { SomeIff result ((1 ≤ id) × (id ≤ 200)) id }
+    {
+        if 1 <= id && id <= 200 {
+            Some(NodeId { id })
+        } else {
+            None
+        }
+    }
+
+    pub fn number(&self) -> u8
+        ensures value { result ≡ self.now }
+        ensures range { (1 ≤ self.now) × (self.now ≤ 200) }
+    {
+        self.id
+    }
+}

@@ -1,0 +1,41 @@
+ghost use Rattle.std.specs.Prelude.{◌≡◌, ℕ, ◌≤◌, List, length};
+ghost use Rattle.std.specs.Option.{SomeIff};
+
+use arrayvec::ArrayVec;
+use std::marker::Model;
+
+/// What a data packet carries, at most 96 bytes. Contracts see the list of bytes.
+#[derive(Drop)]
+pub struct Payload {
+    bytes: ArrayVec<u8, 96>,
+}
+
+impl Model for Payload {
+    ghost Value = { List ℕ };
+
+    ghost view = { λ p. p.bytes.items };
+
+    ghost invariant = { λ p. length p.bytes.items ≤ 96 };
+
+    ghost inverse = { λ xs. record { bytes = record { items = xs } } };
+}
+
+impl Payload {
+    /// None exactly where there are more than 96 bytes.
+    pub fn new(bytes: &[u8]) -> Option<Payload>
+        ensures { SomeIff result (length bytes.now ≤ 96) bytes.now }
+    {
+        let mut kept = ArrayVec::new();
+        match kept.try_extend_from_slice(bytes) {
+            Ok(()) => Some(Payload { bytes: kept }),
+            Err(_) => None,
+        }
+    }
+
+    pub fn bytes(&self) -> &[u8]
+        ensures value { result.now ≡ self.now }
+        ensures length { length self.now ≤ 96 }
+    {
+        self.bytes.as_slice()
+    }
+}
