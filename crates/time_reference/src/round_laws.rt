@@ -1,7 +1,7 @@
 //! Laws of one round: good zeros, its slots in true time, and its place in the frame.
 
-ghost use Rattle.std.specs.Prelude.{◌≡◌, ℕ, ◌+◌, ◌*◌, ◌/◌, ◌^◌, ◌<◌, ◌≤◌, ◌↔◌, max};
-ghost use Rattle.lwb_base.specs.Profile.{Numbers, one};
+ghost use Rattle.std.specs.Prelude.{◌≡◌, ℕ, ◌+◌, ◌*◌, ◌<◌, ◌≤◌, ◌↔◌, max};
+ghost use Rattle.lwb_base.specs.Profile.{Numbers};
 ghost use Rattle.tick_clock.specs.Clocks.{Near, IsClock, due};
 ghost use Rattle.time_reference.specs.Budgets.{Budget, Fits, span};
 ghost use Rattle.time_reference.specs.Drift.{drift};

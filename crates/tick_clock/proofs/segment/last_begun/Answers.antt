@@ -2,7 +2,7 @@ use Rattle.std.proofs.Common.{rules}
 use Rattle.std.proofs.lemmas.List.Sorted.{IsPartitionPoint-from_clause, IsPartitionedBy-leb}
 use Rattle.tick_clock.specs.Segments.{has_begun}
 use Rattle.tick_clock.proofs.Walks.{splits_from, starts_rise}
-use Rattle.tick_clock.proofs.segment_clock.last_begun.Goals as goal
+use Rattle.tick_clock.proofs.segment.last_begun.Goals as goal
 
 pub returns : goal.returns
 returns c =

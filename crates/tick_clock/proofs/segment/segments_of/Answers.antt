@@ -7,7 +7,7 @@ use Rattle.tick_clock.specs.declared.segment.Segment.{Segment}
 use Rattle.tick_clock.specs.Segments.{AreKept, last_of, first_segment, entry_of}
 use Rattle.tick_clock.proofs.Walks.{same_rate}
 use Rattle.tick_clock.proofs.KeptSegments.{InOrder, IsSmall, in_order, step_kept, step_last, step_small, step_entries}
-use Rattle.tick_clock.proofs.segment_clock.segments_of.Goals as goal
+use Rattle.tick_clock.proofs.segment.segments_of.Goals as goal
 
 pub counted-count-requires : goal.counted-count-requires
 counted-count-requires c =

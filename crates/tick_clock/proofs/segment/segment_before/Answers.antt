@@ -1,7 +1,7 @@
 use Rattle.std.proofs.Common.{◌≡◌, ℕ, ◌-◌, suc, ◌∙◌, sym, ap, arith}
 use Rattle.tick_clock.specs.Segments.{first_segment, last_of}
 use Rattle.tick_clock.proofs.Walks.{last_at}
-use Rattle.tick_clock.proofs.segment_clock.segment_before.Goals as goal
+use Rattle.tick_clock.proofs.segment.segment_before.Goals as goal
 
 pub returns-else-count-eq0 : goal.returns-else-count-eq0
 returns-else-count-eq0 c =

@@ -2,7 +2,7 @@ use Rattle.std.proofs.Common.{rules}
 use Rattle.std.proofs.lemmas.List.Sorted.{IsPartitionPoint-from_clause, IsPartitionedBy-ltb}
 use Rattle.tick_clock.specs.Segments.{counts_less}
 use Rattle.tick_clock.proofs.Walks.{splits_from, counts_rise}
-use Rattle.tick_clock.proofs.segment_clock.last_below.Goals as goal
+use Rattle.tick_clock.proofs.segment.last_below.Goals as goal
 
 pub returns : goal.returns
 returns c =

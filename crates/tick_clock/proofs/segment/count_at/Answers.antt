@@ -1,6 +1,6 @@
 use Rattle.std.proofs.Common.{◌∙◌, sym, arith}
 use Rattle.tick_clock.proofs.Walks.{in_force_found, count_small}
-use Rattle.tick_clock.proofs.segment_clock.count_at.Goals as goal
+use Rattle.tick_clock.proofs.segment.count_at.Goals as goal
 
 pub counted-requires : goal.counted-requires
 counted-requires c =

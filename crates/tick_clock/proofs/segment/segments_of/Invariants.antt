@@ -1,7 +1,7 @@
 use Rattle.std.proofs.Common.{◌≡◌, length, map, take, drop}
 use Rattle.tick_clock.specs.Segments.{AreKept, first_segment, last_of, entry_of}
 use Rattle.tick_clock.proofs.KeptSegments.{InOrder, IsSmall}
-use Rattle.tick_clock.proofs.segment_clock.segments_of.Given as goal
+use Rattle.tick_clock.proofs.segment.segments_of.Given as goal
 
 abbrev pub invariant-loop-start : goal.invariant-loop-start
 invariant-loop-start l = record {
