@@ -77,7 +77,8 @@ pub fn ages_end_in_range()
     ensures { (p : Numbers) (b : Budget) → Fits p b → b.age + 4096 * p.frame ≤ 2 ^ 48 }
 {}
 
-/// The bounds of the laws in numbers: one reference over its age, two zeros, contenders, and how late a window opens on its own clock.
+/// The bounds of the laws in numbers: one reference over its age, two zeros, contenders, and how late a window opens on
+/// its own clock.
 pub fn bounds_in_numbers()
     ensures ages { (drift budget_one.age + 56 ≡ 22456) × (drift budget_two.age + 56 ≡ 29112) }
     ensures zeros { (apart budget_one ≡ 44914) × (apart budget_two ≡ 58226) }

@@ -139,7 +139,8 @@ pub fn relays_end_before_later_openings()
         → point own z (starting p i) + span p n + 11 < point other y (opening p j) }
 {}
 
-/// Slot 1 opens late where its new zero z came in slot 0, which closed by the old zero y; its own start has not passed then.
+/// Slot 1 opens late where its new zero z came in slot 0, which closed by the old zero y. Its own start has not passed
+/// then.
 pub fn late_opening_before_start()
     ensures { (p : Numbers) (b : Budget) → Fits p b → (host own : ℕ → ℕ) (z y f : ℕ) → IsClock host → IsClock own
         → 1 ≤ b.last
