@@ -22,3 +22,6 @@ pub use profile::Profile;
 pub use read::{INPUT_LIMIT, ReadStop, read_all};
 pub use standard::{ReaderSource, WriterSink};
 pub use write::{WriteFault, write_all};
+
+#[cfg(test)]
+mod tests;
