@@ -6,3 +6,6 @@ mod trace;
 
 pub use lines::{LinkLine, LoseLine};
 pub use trace::Trace;
+
+#[cfg(test)]
+mod tests;

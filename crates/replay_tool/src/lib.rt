@@ -7,3 +7,6 @@ mod top_call;
 mod whole_steps;
 
 pub use top_call::{Outcome, top};
+
+#[cfg(test)]
+mod tests;
