@@ -6,12 +6,12 @@ use Rattle.std.proofs.lemmas.List.Folds.{Any-from_list_any, list_any-append}
 use Rattle.std.proofs.lemmas.List.Quantifiers.{all_pairs_push}
 use Rattle.std.proofs.lemmas.List.Sums.{AllPass-from_list_all}
 use Rattle.std.proofs.lemmas.Option.{IfSome_then}
-use Rattle.std.specs.List.{AllByRecursion, list_all, list_any}
+use Rattle.std.specs.List.{AllByRecursion, AllPass, list_all, list_any}
 use Rattle.std.specs.Option.{IfSome, option_and_then}
 use Rattle.link_trace.specs.Passes.{is_link, is_loss}
 use Rattle.scenario_text.specs.Drafts.{IsBegun}
 use Rattle.scenario_text.specs.FloodParts.{knows}
-use Rattle.scenario_text.specs.PlainText.{Drafted, nothing, only, joins, linked, next, after_lines}
+use Rattle.scenario_text.specs.PlainText.{Drafted, nothing, only, is_next_node, joins, linked, next, after_lines}
 use Rattle.scenario_text.specs.declared.lines.NodeLine.{NodeLine}
 use Rattle.scenario_text.specs.declared.plain_line.PlainLine.{PlainLine}
 use Rattle.scenario_text.specs.declared.plain_line.PlainLine.TheVariants.{Sends, Node, Link, Pair, Lose, Start}
@@ -32,6 +32,21 @@ joined_small d u v begun joined =
     let p = and_parts (knows d.nodes u && knows d.nodes v) (not (u == v)) joined in
     let q = and_parts (knows d.nodes u) (knows d.nodes v) p.0 in
     (known_small d.nodes u begun.ids q.0, known_small d.nodes v begun.ids q.1)
+
+record IsNextNode (ns : List NodeLine) (i : ℕ) : Type 0 where
+  high : i ≤ 200
+  above : AllPass (λ (n : NodeLine). nat_lt n.node i) ns
+  few : length ns < 64
+
+next_node : (ns : List NodeLine) (i : ℕ) → is_next_node ns i ≡ true → IsNextNode ns i
+next_node ns i is =
+    let p = and_parts (nat_le 1 i && nat_le i 200 && list_all (λ (n : NodeLine). nat_lt n.node i) ns) (nat_lt (length ns) 64) is in
+    let q = and_parts (nat_le 1 i && nat_le i 200) (list_all (λ (n : NodeLine). nat_lt n.node i) ns) p.0 in
+    record {
+      high = leb-true _ _ (and_parts (nat_le 1 i) (nat_le i 200) q.0).1;
+      above = AllPass-from_list_all (λ (n : NodeLine). nat_lt n.node i) ns q.1;
+      few = ltb-true _ _ p.1;
+    }
 
 linked_keeps : (d : Drafted) (u v : ℕ) → IsBegun d → IfSome (linked d u v) IsBegun
 linked_keeps d u v begun =
@@ -85,18 +100,14 @@ next_keeps d (Sends n) begun =
 next_keeps d (Node i o) begun =
     only_gives IsBegun _ _ (λ allowed.
     let n : NodeLine = record { node = i; offset = o } in
-    let p = and_parts (is_some d.sends && not d.closed && nat_lt (length d.nodes) 64 && nat_le 1 i && nat_le i 200 && list_all (λ (n : NodeLine). nat_lt n.node i) d.nodes) (nat_le o 256000) allowed in
-    let q = and_parts (is_some d.sends && not d.closed && nat_lt (length d.nodes) 64 && nat_le 1 i && nat_le i 200) (list_all (λ (n : NodeLine). nat_lt n.node i) d.nodes) p.0 in
-    let r = and_parts (is_some d.sends && not d.closed && nat_lt (length d.nodes) 64 && nat_le 1 i) (nat_le i 200) q.0 in
-    let s = and_parts (is_some d.sends && not d.closed && nat_lt (length d.nodes) 64) (nat_le 1 i) r.0 in
-    let t = and_parts (is_some d.sends && not d.closed) (nat_lt (length d.nodes) 64) s.0 in
-    let few = ltb-true _ _ t.1 in
-    let above = AllPass-from_list_all (λ (n : NodeLine). nat_lt n.node i) d.nodes q.1 in
+    let p = and_parts (is_some d.sends && not d.closed && is_next_node d.nodes i) (nat_le o 256000) allowed in
+    let at = next_node d.nodes i (and_parts (is_some d.sends && not d.closed) (is_next_node d.nodes i) p.0).1 in
+    let few = at.few in
     record {
       sends = begun.sends;
       few_nodes = omega (arith, few, length-append d.nodes (n ∷ []));
-      ids = All-push (λ (n : NodeLine). n.node ≤ 200) d.nodes n begun.ids (leb-true _ _ r.1);
-      ascending = all_pairs_push (λ (a b : NodeLine). a.node < b.node) d.nodes n begun.ascending (λ k x below. ltb-true _ _ (above k x below));
+      ids = All-push (λ (n : NodeLine). n.node ≤ 200) d.nodes n begun.ids at.high;
+      ascending = all_pairs_push (λ (a b : NodeLine). a.node < b.node) d.nodes n begun.ascending (λ k x below. ltb-true _ _ (at.above k x below));
       offsets = All-push (λ (n : NodeLine). n.offset ≤ 256000) d.nodes n begun.offsets (leb-true _ _ p.1);
       start_known = IfSome_then d.start begun.start_known (λ v known. pushed_knows d.nodes n v known);
     })
@@ -127,10 +138,8 @@ next_small d (Sends n) begun =
     only_gives (λ e. n < 10 ^ 13) _ _ (λ allowed. let few = leb-true _ _ (and_parts (is_none d.sends && nat_le 1 n) (nat_le n 4) allowed).1 in omega (arith, few))
 next_small d (Node i o) begun =
     only_gives (λ e. (i < 10 ^ 13) × (o < 10 ^ 13)) _ _ (λ allowed.
-    let p = and_parts (is_some d.sends && not d.closed && nat_lt (length d.nodes) 64 && nat_le 1 i && nat_le i 200 && list_all (λ (n : NodeLine). nat_lt n.node i) d.nodes) (nat_le o 256000) allowed in
-    let q = and_parts (is_some d.sends && not d.closed && nat_lt (length d.nodes) 64 && nat_le 1 i && nat_le i 200) (list_all (λ (n : NodeLine). nat_lt n.node i) d.nodes) p.0 in
-    let r = and_parts (is_some d.sends && not d.closed && nat_lt (length d.nodes) 64 && nat_le 1 i) (nat_le i 200) q.0 in
-    let low = leb-true _ _ r.1 in
+    let p = and_parts (is_some d.sends && not d.closed && is_next_node d.nodes i) (nat_le o 256000) allowed in
+    let low = (next_node d.nodes i (and_parts (is_some d.sends && not d.closed) (is_next_node d.nodes i) p.0).1).high in
     let small = leb-true _ _ p.1 in
     (omega (arith, low), omega (arith, small)))
 next_small d (Link u v) begun = IfSome_then (linked d u v) (linked_small d u v begun) (λ e small. (omega (arith, small.0), omega (arith, small.1)))

@@ -13,7 +13,7 @@ use lwb_base::{Memory, NodeId};
 use std::alloc::Global;
 use std::marker::Model;
 
-/// What the lines of a text say that have been read.
+/// What the lines say that have been read. `closed` tells that a line other than `sends` and `node` was among them.
 #[derive(Drop)]
 pub struct Draft {
     sends: Option<u8>,
@@ -60,7 +60,7 @@ impl Draft {
         }
     }
 
-    /// What the text says, where it has a start and two nodes at least.
+    /// What the text says. None comes exactly where `sends`, a second node or the start is missing.
     pub fn finish(self, alloc: Global) -> Option<FloodText>
         requires { IsBegun self }
         ensures { result ≡ finished self }

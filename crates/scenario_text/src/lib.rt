@@ -1,4 +1,4 @@
-//! The text of a flood.
+//! Flood texts: what they say, and a reader of their plain form.
 #![tactic(auto)]
 
 mod cursor;
@@ -11,3 +11,6 @@ mod plain_line;
 pub use flood_text::FloodText;
 pub use lines::{NodeLine, RateLine};
 pub use plain::{PlainFault, parse_plain, plain_text_is_unambiguous};
+
+#[cfg(test)]
+mod tests;
