@@ -1,0 +1,5 @@
+pub mod Readings
+pub mod DueTicks
+pub mod JumpDues
+pub mod Walks
+pub mod KeptSegments

@@ -1,0 +1,78 @@
+ghost use Rattle.std.specs.Prelude.{◌≡◌, ℕ, ◌^◌, ◌<◌, ◌≤◌, true, false};
+ghost use Rattle.tick_clock.specs.Jumps.{jump_reading};
+ghost use Rattle.tick_clock.specs.JumpLaw.{jump_law};
+
+use crate::DriftClock;
+
+/// A clock that gains, or loses, each tick of a drift of 20 parts per million as early as it may.
+///
+/// It reads `offset + t + ceil(20 * t / 1,000,000)` if it is fast, else `offset + t - ceil(20 * t / 1,000,000)`.
+#[derive(Clone, Copy, Debug)]
+pub struct JumpClock {
+    offset: u64,
+    fast: bool,
+    ghost early: { offset ≤ 256000 },
+}
+
+impl JumpClock {
+    ghost use Rattle.tick_clock.specs.ClockReadings.{jump_clock_reads};
+
+    pub fn new(offset: u64, fast: bool) -> JumpClock
+        requires { offset ≤ 256000 }
+        ensures { jump_clock_reads result ≡ jump_reading offset fast }
+    {
+        JumpClock { offset, fast }
+    }
+}
+
+/// The ticks in which a jump clock gains or loses one.
+const JUMP: u64 = 50_000;
+
+impl DriftClock for JumpClock {
+    ghost use Rattle.tick_clock.specs.ClockReadings.{jump_clock_reads};
+
+    ghost readings = { jump_clock_reads };
+
+    ghost keeps_drift_law = { λ c. jump_law c.offset c.fast c.early };
+
+    fn reading(&self, t: u64) -> u64 {
+        let jumped = t.div_ceil(JUMP);
+        if self.fast {
+            self.offset + t + jumped
+        } else {
+            self.offset + t - jumped
+        }
+    }
+
+    fn due(&self, local: u64) -> u64 {
+        let ahead = local.saturating_sub(self.offset);
+        if self.fast {
+            fast_due(ahead)
+        } else {
+            slow_due(ahead)
+        }
+    }
+}
+
+// In 50,000 ticks a fast clock reads 50,001 more, two of them in the first tick.
+fn fast_due(ahead: u64) -> u64
+    requires { ahead ≤ 2 ^ 48 }
+    ensures reached { ahead ≤ jump_reading 0 true result }
+    ensures before { (s : ℕ) → s < result → jump_reading 0 true s < ahead }
+{
+    let rest = ahead % (JUMP + 1);
+    ahead / (JUMP + 1) * JUMP + if rest < 2 { rest } else { rest - 1 }
+}
+
+// In 50,000 ticks a slow clock reads 49,999 more, none of them in the first tick.
+fn slow_due(ahead: u64) -> u64
+    requires { ahead ≤ 2 ^ 48 }
+    ensures reached { ahead ≤ jump_reading 0 false result }
+    ensures before { (s : ℕ) → s < result → jump_reading 0 false s < ahead }
+{
+    if ahead == 0 {
+        0
+    } else {
+        ahead + (ahead - 1) / (JUMP - 1) + 1
+    }
+}

@@ -1,0 +1,8 @@
+pub mod Ages
+pub mod BudgetRoom
+pub mod Run
+pub mod Rounds
+pub mod Points
+pub mod Steps
+pub mod ProfileSizes
+pub mod HeardZeros

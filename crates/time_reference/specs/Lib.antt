@@ -1,0 +1,5 @@
+pub mod Budgets
+pub mod Drift
+pub mod Zeros
+pub mod Floods
+pub mod Reference
