@@ -26,3 +26,6 @@ pub use rank::Rank;
 pub use read::{INPUT_LIMIT, ReadStop, read_all};
 pub use standard::{ReaderSource, WriterSink};
 pub use write::{WriteFault, write_all};
+
+#[cfg(test)]
+mod tests;

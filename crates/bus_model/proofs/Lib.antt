@@ -1,0 +1,6 @@
+mod Options
+pub mod OneInitiator
+pub mod FirstHearings
+pub mod LeastPaths
+pub mod SendingCounts
+mod WorkedFloods

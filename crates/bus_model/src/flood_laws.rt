@@ -1,0 +1,20 @@
+ghost use Rattle.std.specs.Prelude.{◌≡◌, [], ◌∷◌, ℕ, suc, true, Some, ◌↔◌, ◌<◌};
+ghost use Rattle.bus_model.specs.Flooding.{Setting, Hears, Accepts, has, accepted, STEPS};
+ghost use Rattle.bus_model.specs.RelayPaths.{HasPath, IsLeast};
+
+/// What a node has accepted at the end of a flood is its first hearing, and nothing is heard after step 11.
+pub fn accepts_the_first_hearing()
+    ensures accepted { (s : Setting) (v o k : ℕ) → accepted s v ≡ Some (o, k) ↔ Accepts s v o k }
+    ensures in_time { (s : Setting) (k v o : ℕ) → Hears s v k o → k < STEPS }
+{}
+
+/// With one initiator a node hears in a step exactly where a relay path with one link more leads to it; a listener
+/// accepts in the step of the shortest, and accepts at all exactly where there is a path.
+pub fn accepts_by_the_least_relay_path()
+    ensures hears { (s : Setting) (start : ℕ) → s.initiators ≡ start ∷ [] → has s.everyone start ≡ true → (k v : ℕ) → has s.everyone v ≡ true
+        → Hears s v k start ↔ HasPath s start (suc k) v }
+    ensures least { (s : Setting) (start : ℕ) → s.initiators ≡ start ∷ [] → has s.everyone start ≡ true → (k v : ℕ) → has s.everyone v ≡ true → (v ≡ start → ⊥)
+        → Accepts s v start k ↔ IsLeast s start (suc k) v }
+    ensures some { (s : Setting) (start : ℕ) → s.initiators ≡ start ∷ [] → has s.everyone start ≡ true → (v : ℕ) → has s.everyone v ≡ true → (v ≡ start → ⊥)
+        → ((k : ℕ) × Accepts s v start k) ↔ ((m : ℕ) × HasPath s start m v) }
+{}

@@ -1,0 +1,3 @@
+pub mod FloodState
+pub mod Relaying
+pub mod Runs

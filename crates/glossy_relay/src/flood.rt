@@ -1,0 +1,170 @@
+ghost use Rattle.std.specs.Prelude.{◌≡◌, ◌≤◌, slice_index, true};
+ghost use Rattle.lwb_packets.specs.DataPackets.{is_data};
+ghost use Rattle.glossy_relay.specs.Relaying.{carries as carries_body, is_spelling as spells};
+
+use lwb_base::Packet;
+use lwb_packets::{Kind, decode_payload, same_body, with_counter};
+use std::marker::Model;
+
+/// The greatest relay counter. A packet that comes with it is kept and not relayed.
+const LAST_COUNTER: u8 = 11;
+
+/// What is to be done with a packet that was heard.
+#[derive(Drop)]
+pub enum Reply {
+    /// It fits, and this packet is to be sent on.
+    Relay(Packet),
+    /// It fits, and has the greatest counter.
+    Keep,
+    /// It does not fit, and nothing changed.
+    Ignore,
+}
+
+/// What follows the end of a sending.
+#[derive(Clone, Copy, Debug, PartialEq, Eq)]
+pub enum After {
+    /// The radio listens again.
+    More,
+    /// The radio goes off for the rest of the slot: this was the last sending.
+    Off,
+}
+
+/// One flood at one node. A packet fits where the flood has sent fewer than n times, waits for no ordered sending,
+/// and the packet is a spelling of its kind in its slot and of the body that it carries, if it carries one.
+#[derive(Drop)]
+pub struct Flood {
+    kind: Kind,
+    slot: u8,
+    limit: u8,
+    sent: u8,
+    waiting: bool,
+    initiated: bool,
+    first: Option<Packet>,
+}
+
+impl Model for Flood {
+    ghost use Rattle.std.specs.Prelude.{◌≤◌, ◌<◌, ◌≡◌, true};
+    ghost use Rattle.glossy_relay.specs.FloodState.{FloodState};
+
+    ghost Value = { FloodState };
+
+    ghost view = { λ s. record { kind = s.kind; slot = s.slot; limit = s.limit; sent = s.sent; waiting = s.waiting; initiated = s.initiated; first = s.first } };
+
+    ghost invariant = { λ s. (s.limit ≤ 4) × (s.sent ≤ s.limit) × (s.waiting ≡ true → s.sent < s.limit) };
+}
+
+impl Flood {
+    ghost use Rattle.glossy_relay.specs.FloodState.{listening, initiating};
+    ghost use Rattle.glossy_relay.specs.Relaying.{reply_to, after_heard, after_sent, after_ending, accepted_of};
+
+    /// A flood that begins here with this data packet, whose sending is ordered. It sends at most n times.
+    pub fn initiate(packet: &Packet, n: u8) -> Flood
+        requires spelled { is_data packet.now ≡ true }
+        requires counter { slice_index packet.now 2 ≡ 0 }
+        requires sends { (1 ≤ n) × (n ≤ 4) }
+        ensures { result ≡ initiating packet.now n }
+    {
+        Flood {
+            kind: Kind::Payload,
+            slot: packet.slot(),
+            limit: n,
+            sent: 0,
+            waiting: true,
+            initiated: true,
+            first: Some(copy_of(packet)),
+        }
+    }
+
+    /// A flood that listens for packets of one kind in one slot. It sends at most n times.
+    pub fn listen(kind: Kind, slot: u8, n: u8) -> Flood
+        requires { (1 ≤ n) × (n ≤ 4) }
+        ensures { result ≡ listening kind slot n }
+    {
+        Flood {
+            kind,
+            slot,
+            limit: n,
+            sent: 0,
+            waiting: false,
+            initiated: false,
+            first: None,
+        }
+    }
+
+    /// `Ignore` comes exactly where the packet does not fit; `Relay`, with the counter plus 1, where it fits and its
+    /// counter is below 11; `Keep` where it fits and its counter is 11.
+    pub fn heard(&mut self, p: &Packet) -> Reply
+        ensures reply { result ≡ reply_to self.old p.now }
+        ensures state { self.new ≡ after_heard self.old p.now }
+    {
+        if self.sent >= self.limit
+            || self.waiting
+            || p.slot() != self.slot
+            || !is_spelling(self.kind, p)
+            || !carries(&self.first, p)
+        {
+            return Reply::Ignore;
+        }
+        let counter = p.counter();
+        if self.first.is_none() {
+            self.first = Some(copy_of(p));
+        }
+        if counter >= LAST_COUNTER {
+            return Reply::Keep;
+        }
+        self.waiting = true;
+        Reply::Relay(with_counter(p, counter + 1))
+    }
+
+    /// The ordered sending ended. `Off` comes exactly at the n-th.
+    pub fn sent(&mut self) -> After
+        requires { self.old.waiting ≡ true }
+        ensures state { self.new ≡ after_sent self.old }
+        ensures off { result ≡ after_ending self.old }
+    {
+        self.sent += 1;
+        self.waiting = false;
+        if self.sent == self.limit {
+            After::Off
+        } else {
+            After::More
+        }
+    }
+
+    /// A listener's first packet that fitted, and its counter. None exactly where none did or the flood began here.
+    pub fn accepted(&self) -> Option<(Packet, u8)>
+        ensures { result ≡ accepted_of self.now }
+    {
+        if self.initiated {
+            return None;
+        }
+        match &self.first {
+            Some(p) => Some((copy_of(p), p.counter())),
+            None => None,
+        }
+    }
+}
+
+fn copy_of(p: &Packet) -> Packet
+    ensures { result ≡ p.now }
+{
+    with_counter(p, p.counter())
+}
+
+fn is_spelling(kind: Kind, p: &Packet) -> bool
+    ensures { result ≡ spells kind p.now }
+{
+    match kind {
+        Kind::Payload => decode_payload(p).is_some(),
+        Kind::Schedule | Kind::Request => false,
+    }
+}
+
+fn carries(first: &Option<Packet>, p: &Packet) -> bool
+    ensures { result ≡ carries_body first.now p.now }
+{
+    match first {
+        Some(first) => same_body(first, p),
+        None => true,
+    }
+}

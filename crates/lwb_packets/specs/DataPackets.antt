@@ -1,0 +1,25 @@
+-- Data packets and their bytes.
+use Rattle.std.specs.Prelude.{◌≡◌, ℕ, ◌+◌, ◌*◌, ◌/◌, ◌%◌, ◌≤◌, List, ◌∷◌, length, Bool, nat_le, ◌&&◌, ◌==◌, slice_index}
+use Rattle.lwb_packets.specs.declared.data_packet.DataPacket.{DataPacket}
+
+-- each field is in its range
+pub record InRange (d : DataPacket) : Type 0 where
+  pub slot : (1 ≤ d.slot) × (d.slot ≤ 40)
+  pub counter : d.counter ≤ 11
+  pub boot : (1 ≤ d.boot) × (d.boot ≤ 200)
+  pub stream : d.stream ≤ 3
+  pub seq : d.seq ≤ 65534
+
+-- kind, slot, counter, node, boot, stream, number in two bytes with the high one first, payload
+abbrev pub spelling : DataPacket → List ℕ
+spelling d = 2 ∷ d.slot ∷ d.counter ∷ d.node ∷ d.boot ∷ d.stream ∷ d.seq / 256 ∷ d.seq % 256 ∷ d.payload
+
+abbrev pub between : ℕ → ℕ → ℕ → Bool
+between low high x = nat_le low x && nat_le x high
+
+-- whether these bytes are a spelling: the length, the kind, and the range of each byte and of the number
+abbrev pub is_data : List ℕ → Bool
+is_data p =
+    between 8 104 (length p) && (slice_index p 0 == 2) && between 1 40 (slice_index p 1) && nat_le (slice_index p 2) 11
+    && between 1 200 (slice_index p 3) && between 1 200 (slice_index p 4) && nat_le (slice_index p 5) 3
+    && nat_le (256 * slice_index p 6 + slice_index p 7) 65534

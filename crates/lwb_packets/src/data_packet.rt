@@ -1,0 +1,85 @@
+ghost use Rattle.std.specs.Prelude.{◌≡◌, IfSome, is_some};
+ghost use Rattle.lwb_packets.specs.DataPackets.{InRange, spelling, is_data};
+
+use byteorder::{BigEndian, ByteOrder};
+use lwb_base::{NodeId, Packet, Payload};
+
+/// A data packet: a payload of one stream of a node, with its place in the round and in the flood.
+#[derive(Drop)]
+pub struct DataPacket {
+    /// The slot of the round, 1 to 40.
+    pub slot: u8,
+    /// The relay counter, 0 to 11.
+    pub counter: u8,
+    pub node: NodeId,
+    /// The boot of the node that sent it, 1 to 200.
+    pub boot: u8,
+    /// The stream of the node, 0 to 3.
+    pub stream: u8,
+    /// The number of the packet in its stream, 0 to 65,534.
+    pub seq: u16,
+    pub payload: Payload,
+}
+
+/// The one spelling of a data packet.
+pub fn encode_payload(d: &DataPacket) -> Packet
+    requires { InRange d.now }
+    ensures { result ≡ spelling d.now }
+{
+    let payload = d.payload.bytes();
+    let end = 8 + payload.len();
+    let mut bytes = [0u8; 104];
+    bytes[0] = 2;
+    bytes[1] = d.slot;
+    bytes[2] = d.counter;
+    bytes[3] = d.node.number();
+    bytes[4] = d.boot;
+    bytes[5] = d.stream;
+    BigEndian::write_u16(&mut bytes[6..8], d.seq);
+    bytes[8..end].copy_from_slice(payload);
+    Packet::new(&bytes[..end]).unwrap()
+}
+
+/// The data packet that these bytes spell. None exactly where they spell none.
+pub fn decode_payload(p: &Packet) -> Option<DataPacket>
+    ensures some { IfSome result (λ d. InRange d × (spelling d ≡ p.now)) }
+    ensures none { is_some result ≡ is_data p.now }
+{
+    let bytes = p.bytes();
+    let [
+        2,
+        slot,
+        counter,
+        node,
+        boot,
+        stream,
+        high,
+        low,
+        payload @ ..,
+    ] = bytes
+    else {
+        return None;
+    };
+    let seq = BigEndian::read_u16(&[*high, *low]);
+    if *slot < 1
+        || *slot > 40
+        || *counter > 11
+        || *boot < 1
+        || *boot > 200
+        || *stream > 3
+        || seq > 65534
+    {
+        return None;
+    }
+    let node = NodeId::new(*node)?;
+    let payload = Payload::new(payload)?;
+    Some(DataPacket {
+        slot: *slot,
+        counter: *counter,
+        node,
+        boot: *boot,
+        stream: *stream,
+        seq,
+        payload,
+    })
+}

@@ -1,0 +1,4 @@
+pub mod Steps
+pub mod WholeFlood
+pub mod Words
+pub mod Due

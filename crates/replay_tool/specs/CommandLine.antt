@@ -1,0 +1,70 @@
+-- What the words ask for, and the text that is due.
+use Rattle.std.specs.Prelude.{◌≡◌, ◌<◌, ◌≤◌, ◌+◌, ◌⊎◌, ℕ, List, [], ◌∷◌, length, take, Option, codes}
+use Rattle.std.specs.Io.KnownBytes.{Appends, Consumes, IsAtEnd}
+use Rattle.lwb_base.specs.Reading.{Took}
+use Rattle.lwb_base.specs.declared.read.TheConstants.{INPUT_LIMIT}
+use Rattle.scenario_text.specs.FloodParts.{FloodParts}
+use Rattle.scenario_text.specs.PlainText.{Reads}
+use Rattle.bus_model.specs.FloodOfText.{outcome}
+use Rattle.replay_tool.specs.FloodReport.{flood_report}
+
+abbrev pub IsFlood : List (List ℕ) → Type 0
+IsFlood words = words ≡ codes "flood" ∷ []
+
+abbrev pub usage : List ℕ
+usage = codes "usage: flood\n"
+
+abbrev pub refusal : List ℕ
+refusal = codes "fault text\n"
+
+abbrev pub too_long : List ℕ
+too_long = codes "fault too long\n"
+
+-- the report of the flood that these bytes are a text of
+pub record IsReport (b text : List ℕ) : Type 0 where
+  pub flood : FloodParts
+  pub reads : Reads b flood
+  pub is : text ≡ flood_report (outcome flood)
+
+-- the bytes are no flood text
+pub record IsNoText (b : List ℕ) : Type 0 where
+  pub none : (f : FloodParts) → Reads b f → ⊥
+
+-- all bytes were read to the end, at most so many as are allowed, and this holds of them
+abbrev pub WholeRead : Option (List ℕ) → Option (List ℕ) → (List ℕ → Type 0) → Type 0
+WholeRead old new P = (b : List ℕ) × Consumes old new b × IsAtEnd new × (length b ≤ INPUT_LIMIT) × P b
+
+-- one byte more than is allowed was taken, and no more
+abbrev pub TooMuchRead : Option (List ℕ) → Option (List ℕ) → Type 0
+TooMuchRead old new = Took old new (λ n. n ≡ INPUT_LIMIT + 1)
+
+-- a report is due, by the words and by what the source had left before and after
+abbrev pub ReportDue : List (List ℕ) → Option (List ℕ) → Option (List ℕ) → List ℕ → Type 0
+ReportDue words old new text = IsFlood words × WholeRead old new (λ b. IsReport b text)
+
+-- a fault line is due
+abbrev pub FaultDue : List (List ℕ) → Option (List ℕ) → Option (List ℕ) → List ℕ → Type 0
+FaultDue words old new text =
+    IsFlood words × ((WholeRead old new IsNoText × (text ≡ refusal)) ⊎ (TooMuchRead old new × (text ≡ too_long)))
+
+-- the usage line is due
+abbrev pub UsageDue : List (List ℕ) → List ℕ → Type 0
+UsageDue words text = (IsFlood words → ⊥) × (text ≡ usage)
+
+-- one of them is due
+abbrev pub SomeDue : List (List ℕ) → Option (List ℕ) → Option (List ℕ) → List ℕ → Type 0
+SomeDue words old new text = ReportDue words old new text ⊎ (FaultDue words old new text ⊎ UsageDue words text)
+
+-- the text that is due went out whole
+abbrev pub Written : Option (List ℕ) → Option (List ℕ) → (List ℕ → Type 0) → Type 0
+Written old new Due = (text : List ℕ) × Due text × Appends old new text
+
+-- a front of the text that is due went out, and not the whole
+abbrev pub PartWritten : Option (List ℕ) → Option (List ℕ) → (List ℕ → Type 0) → Type 0
+PartWritten old new Due = (text : List ℕ) × (gone : ℕ) × Due text × (gone < length text) × Appends old new (take gone text)
+
+-- where b was left and nothing failed, the status is the one that is due, or want of memory
+pub record IsComplete (b : List ℕ) (status : ℕ) : Type 0 where
+  pub accepted : (f : FloodParts) → Reads b f → length b ≤ INPUT_LIMIT → (status ≡ 0) ⊎ (status ≡ 5)
+  pub refused : IsNoText b → length b ≤ INPUT_LIMIT → (status ≡ 1) ⊎ (status ≡ 5)
+  pub too_long : INPUT_LIMIT < length b → (status ≡ 1) ⊎ (status ≡ 5)

@@ -1,0 +1,3 @@
+pub mod WholeSteps
+pub mod FloodReport
+pub mod CommandLine

@@ -1,0 +1,12 @@
+//! The command line, from the bytes read to the bytes written.
+#![tactic(auto)]
+
+mod command;
+mod report;
+mod top_call;
+mod whole_steps;
+
+pub use top_call::{Outcome, top};
+
+#[cfg(test)]
+mod tests;

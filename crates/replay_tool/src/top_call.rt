@@ -1,0 +1,101 @@
+ghost use Rattle.std.specs.Prelude.{◌≡◌, ◌≢◌, ◌⊎◌, ◌≤◌, ◌<◌, ℕ, List, Option, Some, length, take, IfOk, IfSome, IfNone, map, string_bytes};
+ghost use Rattle.std.specs.Io.KnownBytes.{Appends};
+ghost use Rattle.lwb_base.specs.Causes.{Rose};
+ghost use Rattle.scenario_text.specs.FloodParts.{FloodParts};
+ghost use Rattle.scenario_text.specs.PlainText.{Reads};
+ghost use Rattle.replay_tool.specs.CommandLine.{IsFlood, IsReport, IsNoText, ReportDue, FaultDue, UsageDue, SomeDue, IsComplete, Written, PartWritten};
+
+use crate::command::is_flood;
+use crate::report::flood_report;
+use crate::whole_steps::flood_by_whole_steps;
+use lwb_base::{INPUT_LIMIT, Memory, ReadStop, Sink, Source, read_all, write_all};
+use scenario_text::{PlainFault, parse_plain};
+use std::alloc::Global;
+
+/// How a call of `top` ended.
+#[derive(Clone, Copy, Debug, PartialEq, Eq)]
+pub struct Outcome {
+    /// 0: the whole text was written. 1: the input was refused. 2: the words are no command. 3: the source failed.
+    /// 4: the sink failed. 5: want of memory.
+    pub status: u8,
+}
+
+const USAGE: &[u8; 13] = b"usage: flood\n";
+
+const REFUSAL: &[u8; 11] = b"fault text\n";
+
+const TOO_LONG: &[u8; 15] = b"fault too long\n";
+
+/// Does what the words of the command line ask for: it reads the source to its end, and writes the text that is due.
+/// The words do not contain the program's name.
+pub fn top<S: Source, K: Sink>(
+    alloc: Global,
+    words: &[String],
+    source: &mut S,
+    sink: &mut K,
+) -> Outcome
+    ensures known { result.status ≤ 5 }
+    ensures report { result.status ≡ 0 → Written (K.held sink.old) (K.held sink.new) (ReportDue (map string_bytes words.now) (S.left source.old) (S.left source.new)) }
+    ensures fault { result.status ≡ 1 → Written (K.held sink.old) (K.held sink.new) (FaultDue (map string_bytes words.now) (S.left source.old) (S.left source.new)) }
+    ensures usage { result.status ≡ 2 → Written (K.held sink.old) (K.held sink.new) (UsageDue (map string_bytes words.now)) }
+
+    // A source that failed, a sink that failed, and want of memory.
+    ensures read_fault { result.status ≡ 3 → IsFlood (map string_bytes words.now) × Rose (S.faults source.old) (S.faults source.new) × (sink.new ≡ sink.old) }
+    ensures write_fault { result.status ≡ 4 → Rose (K.faults sink.old) (K.faults sink.new)
+        × PartWritten (K.held sink.old) (K.held sink.new) (SomeDue (map string_bytes words.now) (S.left source.old) (S.left source.new)) }
+    ensures memory { result.status ≡ 5 → IsFlood (map string_bytes words.now) × (sink.new ≡ sink.old) }
+
+    // The counts of faults never fall, and for words that are no command the source stays as it was.
+    ensures source_later { S.faults source.old ≤ S.faults source.new }
+    ensures sink_later { K.faults sink.old ≤ K.faults sink.new }
+    ensures complete { IsFlood (map string_bytes words.now) → (Rose (S.faults source.old) (S.faults source.new) → ⊥) → (Rose (K.faults sink.old) (K.faults sink.new) → ⊥)
+        → (b : List ℕ) → S.left source.old ≡ Some b → IsComplete b result.status }
+    ensures complete_usage { (IsFlood (map string_bytes words.now) → ⊥) → (Rose (K.faults sink.old) (K.faults sink.new) → ⊥) → result.status ≡ 2 }
+    ensures untouched { (IsFlood (map string_bytes words.now) → ⊥) → source.new ≡ source.old }
+{
+    if !is_flood(words) {
+        return say(sink, USAGE, 2);
+    }
+    let bytes = match read_all(alloc, source) {
+        Ok(bytes) => bytes,
+        Err(ReadStop::ReadFault) => return Outcome { status: 3 },
+        Err(ReadStop::TooLong) => return say(sink, TOO_LONG, 1),
+        Err(ReadStop::Memory) => return Outcome { status: 5 },
+    };
+    match flood_text(alloc, &bytes) {
+        Ok(Some(text)) => say(sink, text.as_bytes(), 0),
+        Ok(None) => say(sink, REFUSAL, 1),
+        Err(Memory) => Outcome { status: 5 },
+    }
+}
+
+// The report of the flood that the bytes are a text of. None exactly where they are no flood text.
+fn flood_text(alloc: Global, bytes: &[u8]) -> Result<Option<String>, Memory>
+    ensures report { IfOk result (λ o. IfSome o (λ text. IsReport bytes.now (string_bytes text))) }
+    ensures refused { IfOk result (λ o. IfNone o (IsNoText bytes.now)) }
+{
+    let text = match parse_plain(alloc, bytes) {
+        Ok(text) => text,
+        Err(PlainFault::NotPlain) => return Ok(None),
+        Err(PlainFault::Memory) => return Err(Memory),
+    };
+    let result = flood_by_whole_steps(alloc, &text)?;
+    match flood_report(alloc, &result) {
+        Ok(report) => Ok(Some(report)),
+        Err(_) => Err(Memory),
+    }
+}
+
+// Writes a text whole, with that status, or a part of it.
+fn say<K: Sink>(sink: &mut K, text: &[u8], status: u8) -> Outcome
+    requires { status < 3 }
+    ensures known { (result.status ≡ status) ⊎ (result.status ≡ 4) }
+    ensures whole { result.status ≡ status → Appends (K.held sink.old) (K.held sink.new) text.now }
+    ensures part { result.status ≢ status → PartWritten (K.held sink.old) (K.held sink.new) (λ t. t ≡ text.now) × Rose (K.faults sink.old) (K.faults sink.new) }
+    ensures later { K.faults sink.old ≤ K.faults sink.new }
+{
+    match write_all(sink, text) {
+        Ok(()) => Outcome { status },
+        Err(_) => Outcome { status: 4 },
+    }
+}

@@ -1,0 +1,28 @@
+-- What a flood text says, and what is true of each.
+use Rattle.std.specs.Prelude.{◌≡◌, ◌<◌, ◌≤◌, ℕ, List, [], Bool, true, length, ◌==◌, All}
+use Rattle.std.specs.List.{list_any, AllPairs}
+use Rattle.link_trace.specs.Passes.{Lines}
+use Rattle.scenario_text.specs.declared.lines.NodeLine.{NodeLine}
+use Rattle.scenario_text.specs.declared.lines.RateLine.{RateLine}
+
+-- the most sendings of a node, the nodes, the rates of their clocks, the trace, and the starting node
+pub record FloodParts : Type 0 where
+  pub sends : ℕ
+  pub nodes : List NodeLine
+  pub rates : List RateLine
+  pub trace : Lines
+  pub start : ℕ
+
+-- v is the id of one of these nodes
+abbrev pub knows : List NodeLine → ℕ → Bool
+knows ns v = list_any (λ n. n.node == v) ns
+
+pub record IsSound (f : FloodParts) : Type 0 where
+  pub some_sends : 1 ≤ f.sends
+  pub few_sends : f.sends ≤ 4
+  pub two_nodes : 2 ≤ length f.nodes
+  pub few_nodes : length f.nodes ≤ 64
+  pub ascending : AllPairs (λ a b. a.node < b.node) f.nodes
+  pub offsets : All (λ n. n.offset ≤ 256000) f.nodes
+  pub start_known : knows f.nodes f.start ≡ true
+  pub no_rates : f.rates ≡ []

@@ -1,0 +1,4 @@
+pub mod FloodParts
+pub mod PlainText
+pub mod Cursor
+pub mod Drafts

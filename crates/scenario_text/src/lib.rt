@@ -1,0 +1,16 @@
+//! Flood texts: what they say, and a reader of their plain form.
+#![tactic(auto)]
+
+mod cursor;
+mod draft;
+mod flood_text;
+mod lines;
+mod plain;
+mod plain_line;
+
+pub use flood_text::FloodText;
+pub use lines::{NodeLine, RateLine};
+pub use plain::{PlainFault, parse_plain, plain_text_is_unambiguous};
+
+#[cfg(test)]
+mod tests;
