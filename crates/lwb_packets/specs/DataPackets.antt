@@ -14,6 +14,13 @@ pub record InRange (d : DataPacket) : Type 0 where
 abbrev pub spelling : DataPacket → List ℕ
 spelling d = 2 ∷ d.slot ∷ d.counter ∷ d.node ∷ d.boot ∷ d.stream ∷ d.seq / 256 ∷ d.seq % 256 ∷ d.payload
 
+-- d is a data packet with each part in its range, and these are its bytes
+pub record SpellsData (p : List ℕ) (d : DataPacket) : Type 0 where
+  pub in_range : InRange d
+  pub node : (1 ≤ d.node) × (d.node ≤ 200)
+  pub payload : length d.payload ≤ 96
+  pub bytes : spelling d ≡ p
+
 abbrev pub between : ℕ → ℕ → ℕ → Bool
 between low high x = nat_le low x && nat_le x high
 
