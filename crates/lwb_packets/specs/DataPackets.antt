@@ -1,5 +1,6 @@
 -- Data packets and their bytes.
 use Rattle.std.specs.Prelude.{◌≡◌, ℕ, ◌+◌, ◌*◌, ◌/◌, ◌%◌, ◌≤◌, List, ◌∷◌, length, Bool, nat_le, ◌&&◌, ◌==◌, slice_index}
+use Rattle.lwb_packets.specs.Ranges.{between}
 use Rattle.lwb_packets.specs.declared.data_packet.DataPacket.{DataPacket}
 
 -- each field is in its range
@@ -20,9 +21,6 @@ pub record SpellsData (p : List ℕ) (d : DataPacket) : Type 0 where
   pub node : (1 ≤ d.node) × (d.node ≤ 200)
   pub payload : length d.payload ≤ 96
   pub bytes : spelling d ≡ p
-
-abbrev pub between : ℕ → ℕ → ℕ → Bool
-between low high x = nat_le low x && nat_le x high
 
 -- whether these bytes are a spelling: the length, the kind, and the range of each byte and of the number
 abbrev pub is_data : List ℕ → Bool
