@@ -1,6 +1,6 @@
 -- The definitions at worked values.
 use Rattle.std.proofs.Common.{◌≡◌, ℕ, List, [], ◌∷◌, length, Some, None, refl, replicate}
-use Rattle.lwb_base.specs.Messages.{Ask, Plan, Schedule}
+use Rattle.lwb_base.specs.Messages.{Schedule}
 use Rattle.schedule_codec.specs.Packing.{number, digits}
 use Rattle.schedule_codec.specs.OwnerLists.{least, owners_bytes}
 use Rattle.schedule_codec.specs.Spelling.{spelling}

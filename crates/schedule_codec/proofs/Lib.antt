@@ -1,1 +1,4 @@
+pub mod Numbers
+pub mod Streams
+pub mod Packs
 pub mod Examples

@@ -1,7 +1,7 @@
 -- Lists of acknowledgements in the order of their owner codes, and their bytes.
 use Rattle.std.specs.Prelude.{ℕ, ◌-◌, List, [], ◌∷◌, Bool, true, ◌&&◌, nat_lt, nat_le, length, Some, None}
 use Rattle.std.specs.declared.option.Option.{Option}
-use Rattle.std.specs.List.{list_all, slice_get}
+use Rattle.std.specs.List.{slice_get}
 use Rattle.lwb_base.specs.Messages.{Ask, code_of}
 use Rattle.lwb_packets.specs.Ranges.{between}
 

@@ -1,9 +1,9 @@
 -- Ascending lists of owners, as codes, and their bytes.
-use Rattle.std.specs.Prelude.{ℕ, zero, suc, ◌+◌, ◌-◌, ◌*◌, ◌/◌, ◌%◌, ◌^◌, List, [], ◌∷◌, ◌++◌, Bool, true, ◌&&◌, nat_lt, nat_le, if◌then◌else◌, length, Some, None}
+use Rattle.std.specs.Prelude.{ℕ, zero, suc, ◌+◌, ◌-◌, ◌*◌, ◌/◌, ◌%◌, List, [], ◌∷◌, ◌++◌, Bool, true, ◌&&◌, nat_lt, nat_le, if◌then◌else◌, length, Some, None}
 use Rattle.std.specs.declared.option.Option.{Option}
 use Rattle.std.specs.List.{list_all, slice_get}
 use Rattle.lwb_packets.specs.Ranges.{between}
-use Rattle.schedule_codec.specs.Packing.{bytes_for, packed}
+use Rattle.schedule_codec.specs.Packing.{fit, bytes_for, packed}
 
 -- each is not below the one before
 abbrev pub ascend : List ℕ → Bool
@@ -34,10 +34,6 @@ differences (c ∷ d ∷ cs) = (d - c) ∷ differences (d ∷ cs)
 unfoldable pub least : ℕ → (ℕ → Bool) → ℕ
 least zero passes = zero
 least (suc n) passes = if passes zero then zero else suc (least n (λ w. passes (suc w)))
-
--- each is below 2 ^ w
-abbrev pub fit : ℕ → List ℕ → Bool
-fit w ds = list_all (λ d. nat_lt d (2 ^ w)) ds
 
 -- the least width that all of them fit. A difference of two codes fits 10 bits
 abbrev pub width_of : List ℕ → ℕ

@@ -1,5 +1,5 @@
 -- The bytes of a schedule, by slot and counter.
-use Rattle.std.specs.Prelude.{◌≡◌, ℕ, ◌+◌, ◌-◌, ◌*◌, ◌≤◌, List, [], ◌∷◌, ◌++◌, Bool, true, ◌&&◌, ◌==◌, nat_le, if◌then◌else◌, length, flat_map, slice_index, bytes_eq}
+use Rattle.std.specs.Prelude.{ℕ, ◌+◌, ◌-◌, ◌*◌, List, [], ◌∷◌, ◌++◌, Bool, ◌&&◌, ◌==◌, nat_le, if◌then◌else◌, length, flat_map, slice_index, bytes_eq}
 use Rattle.std.specs.List.{list_all}
 use Rattle.lwb_base.specs.Messages.{Ask, Schedule}
 use Rattle.lwb_packets.specs.Ranges.{between}
