@@ -1,4 +1,5 @@
 pub mod Numbers
 pub mod Streams
 pub mod Packs
+pub mod Lists
 pub mod Examples

@@ -11,6 +11,10 @@ strictly_ascend [] = true
 strictly_ascend (a ∷ []) = true
 strictly_ascend (a ∷ b ∷ more) = nat_lt (code_of a) (code_of b) && strictly_ascend (b ∷ more)
 
+-- at most 4, in the order of their codes
+abbrev pub are_acks : List Ask → Bool
+are_acks acks = nat_le (length acks) 4 && strictly_ascend acks
+
 -- above the last
 abbrev pub may_follow : Option Ask → Ask → Bool
 may_follow None a = true
