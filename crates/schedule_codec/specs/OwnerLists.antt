@@ -30,14 +30,14 @@ differences [] = []
 differences (c ∷ []) = []
 differences (c ∷ d ∷ cs) = (d - c) ∷ differences (d ∷ cs)
 
--- the least number that passes; n where none below n does
-unfoldable pub least : ℕ → (ℕ → Bool) → ℕ
-least zero passes = zero
-least (suc n) passes = if passes zero then zero else suc (least n (λ w. passes (suc w)))
+-- the least number from w on that passes; w + n where the first n do not
+unfoldable pub least : ℕ → ℕ → (ℕ → Bool) → ℕ
+least zero w passes = w
+least (suc n) w passes = if passes w then w else least n (w + 1) passes
 
 -- the least width that all of them fit. A difference of two codes fits 10 bits
 abbrev pub width_of : List ℕ → ℕ
-width_of ds = least 10 (λ w. fit w ds)
+width_of ds = least 10 0 (λ w. fit w ds)
 
 -- a number in two bytes, the high one first
 abbrev pub two_bytes : ℕ → List ℕ

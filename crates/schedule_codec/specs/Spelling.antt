@@ -6,17 +6,20 @@ use Rattle.lwb_packets.specs.Ranges.{between}
 use Rattle.schedule_codec.specs.AckLists.{strictly_ascend, ask_in_range, ask_bytes}
 use Rattle.schedule_codec.specs.OwnerLists.{are_owners, owners_bytes, owners_length}
 
--- version 1 has one acknowledgement, or zeros for none
+-- one acknowledgement, or zeros for none
 abbrev pub single_ack : List Ask → List ℕ
 single_ack [] = 0 ∷ 0 ∷ 0 ∷ 0 ∷ []
 single_ack (a ∷ more) = ask_bytes a
 
--- version 1 where no contention slots are named, else version 2
+-- version 1, where no contention slots are named, has one at most; version 2 has their number, the count, and so many
+abbrev pub acks_bytes : ℕ → List Ask → List ℕ
+acks_bytes contend acks = if contend == 0 then single_ack acks else ((contend - 1) * 16 + length acks) ∷ flat_map ask_bytes acks
+
+abbrev pub kind_byte : ℕ → ℕ
+kind_byte contend = if contend == 0 then 1 else 4
+
 abbrev pub spelling : Schedule → ℕ → ℕ → List ℕ
-spelling s slot counter =
-    if s.plan.contend == 0
-    then 1 ∷ slot ∷ counter ∷ (s.plan.rank * 16 + s.gap) ∷ s.plan.boot ∷ single_ack s.plan.acks ++ owners_bytes s.plan.owners
-    else 4 ∷ slot ∷ counter ∷ (s.plan.rank * 16 + s.gap) ∷ s.plan.boot ∷ ((s.plan.contend - 1) * 16 + length s.plan.acks) ∷ flat_map ask_bytes s.plan.acks ++ owners_bytes s.plan.owners
+spelling s slot counter = kind_byte s.plan.contend ∷ slot ∷ counter ∷ (s.plan.rank * 16 + s.gap) ∷ s.plan.boot ∷ acks_bytes s.plan.contend s.plan.acks ++ owners_bytes s.plan.owners
 
 abbrev pub most_acks : ℕ → ℕ
 most_acks contend = if contend == 0 then 1 else 4

@@ -41,8 +41,8 @@ impl Ack {
 
 // A place of the list, which holds some acknowledgement also where it is not used.
 #[derive(Clone, Copy)]
-struct Place {
-    ack: Ack,
+pub(crate) struct Place {
+    pub(crate) ack: Ack,
 }
 
 impl Default for Place {
@@ -121,6 +121,13 @@ impl Acks {
         ensures acks { are_acks self.now ≡ true }
     {
         self.places.len() as u8
+    }
+
+    pub(crate) fn places(&self) -> &[Place]
+        ensures value { result.now ≡ self.now }
+        ensures acks { are_acks self.now ≡ true }
+    {
+        self.places.as_slice()
     }
 }
 
