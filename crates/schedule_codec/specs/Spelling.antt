@@ -1,9 +1,9 @@
 -- The bytes of a schedule, by slot and counter.
-use Rattle.std.specs.Prelude.{ℕ, ◌+◌, ◌-◌, ◌*◌, List, [], ◌∷◌, ◌++◌, Bool, ◌&&◌, ◌==◌, nat_le, if◌then◌else◌, length, flat_map, slice_index, bytes_eq}
+use Rattle.std.specs.Prelude.{◌≡◌, ◌≤◌, true, ℕ, ◌+◌, ◌-◌, ◌*◌, List, [], ◌∷◌, ◌++◌, Bool, ◌&&◌, ◌==◌, nat_le, if◌then◌else◌, length, flat_map, slice_index, bytes_eq}
 use Rattle.std.specs.List.{list_all}
 use Rattle.lwb_base.specs.Messages.{Ask, Schedule}
 use Rattle.lwb_packets.specs.Ranges.{between}
-use Rattle.schedule_codec.specs.AckLists.{strictly_ascend, ask_in_range, ask_bytes}
+use Rattle.schedule_codec.specs.AckLists.{are_acks, ask_in_range, ask_bytes}
 use Rattle.schedule_codec.specs.OwnerLists.{are_owners, owners_bytes, owners_length}
 
 -- one acknowledgement, or zeros for none
@@ -33,8 +33,17 @@ abbrev pub in_range : Schedule → ℕ → ℕ → Bool
 in_range s slot counter =
     nat_le counter 11 && slot_in_range s slot && nat_le s.gap 4
     && nat_le s.plan.rank 3 && between 1 200 s.plan.boot && nat_le s.plan.contend 4
-    && nat_le (length s.plan.acks) (most_acks s.plan.contend) && list_all ask_in_range s.plan.acks && strictly_ascend s.plan.acks
+    && nat_le (length s.plan.acks) (most_acks s.plan.contend) && list_all ask_in_range s.plan.acks && are_acks s.plan.acks
     && are_owners s.plan.owners
+
+-- what a schedule needs beside what its types say, to be written in this slot
+pub record IsWritable (s : Schedule) (slot : ℕ) : Type 0 where
+  pub boot : (1 ≤ s.plan.boot) × (s.plan.boot ≤ 200)
+  pub gap : s.gap ≤ 4
+  pub contend : s.plan.contend ≤ 4
+  pub few : length s.plan.acks ≤ most_acks s.plan.contend
+  pub acks : list_all ask_in_range s.plan.acks ≡ true
+  pub place : slot_in_range s slot ≡ true
 
 -- these bytes are the schedule's, in some slot and with some counter
 abbrev pub spells : List ℕ → Schedule → Bool

@@ -5,11 +5,14 @@ mod ack_bytes;
 mod acks;
 mod bits;
 mod differences;
+mod encode;
 mod owner_bytes;
 mod owners;
 mod packing;
 mod schedule;
 
+
 pub use acks::{Ack, Acks};
 pub use owners::Owners;
 pub use schedule::Schedule;
+pub use encode::write;
