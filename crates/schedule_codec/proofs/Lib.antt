@@ -3,4 +3,5 @@ pub mod Streams
 pub mod Packs
 pub mod Lists
 pub mod Widths
+pub mod Readings
 pub mod Examples
