@@ -1,15 +1,15 @@
 -- What is read off the bytes of a schedule is the schedule.
-use Rattle.std.proofs.Common.{◌≡◌, ℕ, zero, suc, ◌+◌, ◌-◌, ◌*◌, ◌/◌, ◌%◌, ◌^◌, ◌<◌, ◌≤◌, List, [], ◌∷◌, ◌++◌, Bool, true, false, ◌==◌, if◌then◌else◌, cond, length, drop, slice_index, flat_map, bytes_eq, Option, Some, None, inl, inr, refl, sym, ◌∙◌, ap, subst, arith}
-use Rattle.std.proofs.lemmas.Bool.{and_parts, and_from, leb-true, eqb-true, eq-eqb, cond-true, cond-false, cases_eq, ne_eqb, false≢true}
+use Rattle.std.proofs.Common.{◌≡◌, ℕ, zero, suc, ◌+◌, ◌-◌, ◌*◌, ◌/◌, ◌%◌, ◌^◌, ◌<◌, ◌≤◌, List, [], ◌∷◌, ◌++◌, Bool, true, false, ◌==◌, if◌then◌else◌, cond, length, length-append, drop, slice_index, flat_map, bytes_eq, Option, Some, None, inl, inr, refl, sym, ◌∙◌, ap, subst, arith}
+use Rattle.std.proofs.lemmas.Bool.{and_parts, and_from, leb-true, le-leb, eqb-true, eq-eqb, cond-true, cond-false, cases_eq, ne_eqb, false≢true}
 use Rattle.std.proofs.lemmas.List.{drop_at, drop-drop}
 use Rattle.std.specs.List.{list_all}
 use Rattle.lwb_base.specs.Messages.{Ask, Plan, Schedule}
-use Rattle.schedule_codec.specs.Packing.{fit, number, digits, packed}
-use Rattle.schedule_codec.specs.AckLists.{ask_bytes, ask_in_range}
-use Rattle.schedule_codec.specs.OwnerLists.{are_owners, ascend, differences, width_of, owners_bytes}
-use Rattle.schedule_codec.specs.Spelling.{spelling, in_range, spells, acks_bytes, single_ack, most_acks, kind_byte}
+use Rattle.schedule_codec.specs.Packing.{fit, number, digits, packed, bytes_for}
+use Rattle.schedule_codec.specs.AckLists.{are_acks, ask_bytes, ask_in_range}
+use Rattle.schedule_codec.specs.OwnerLists.{are_owners, ascend, differences, width_of, owners_bytes, owners_length}
+use Rattle.schedule_codec.specs.Spelling.{spelling, in_range, spells, acks_bytes, single_ack, most_acks, kind_byte, length_of, IsWritable}
 use Rattle.schedule_codec.specs.Reading.{summed, owners_in, ask_in, asks_in, said, schedule_of}
-use Rattle.schedule_codec.proofs.Numbers.{unpacked}
+use Rattle.schedule_codec.proofs.Numbers.{unpacked, length-packed}
 use Rattle.schedule_codec.proofs.Widths.{codes_of, differences_fit, width_fits, length-differences}
 
 pub summed-differences : (c : ℕ) (cs : List ℕ) → ascend (c ∷ cs) ≡ true → summed c (differences (c ∷ cs)) ≡ c ∷ cs
@@ -180,3 +180,49 @@ spelled_by bs s is = by_test (spells bs (said bs)) refl is
 
 pub spells_own : (s : Schedule) (slot counter : ℕ) → in_range s slot counter ≡ true → spells (spelling s slot counter) s ≡ true
 spells_own s slot counter is = and_from _ _ is (same_bytes (spelling s slot counter))
+
+length-owners : (cs : List ℕ) → length (owners_bytes cs) ≡ owners_length cs
+length-owners [] = refl
+length-owners (c ∷ cs) =
+    let ds : List ℕ = differences (c ∷ cs) in
+    let bits = ap (λ n. bytes_for (n * width_of ds)) (length-differences c cs) in
+    omega (arith, length-packed (width_of ds) ds)
+
+length-single : (acks : List Ask) → length (single_ack acks) ≡ 4
+length-single [] = refl
+length-single (a ∷ acks) = refl
+
+pub length-spelling : (s : Schedule) (slot counter : ℕ) → length (spelling s slot counter) ≡ length_of s
+length-spelling s slot counter =
+    let acks = s.plan.acks in
+    let rest = length-owners s.plan.owners in
+    let whole = length-append (acks_bytes s.plan.contend acks) (owners_bytes s.plan.owners) in
+    let first : 5 + length (acks_bytes s.plan.contend acks) ≡ (if s.plan.contend == 0 then 9 else 6 + 4 * length acks) =
+    either (s.plan.contend == 0) (single_ack acks) (((s.plan.contend - 1) * 16 + length acks) ∷ flat_map ask_bytes acks) 9 (6 + 4 * length acks) (omega (arith, length-single acks)) (omega (arith, length-asks acks)) in
+    omega arith
+  where
+    either : (b : Bool) (xs ys : List ℕ) (m n : ℕ) → 5 + length xs ≡ m → 5 + length ys ≡ n → ◌≡◌ {A = ℕ} (5 + length (if b then xs else ys)) (if b then m else n)
+    either true xs ys m n p q = p
+    either false xs ys m n p q = q
+
+-- what may be written is in range
+pub writable_in_range : (s : Schedule) (slot : ℕ) → IsWritable s slot → s.plan.rank ≤ 3 → are_acks s.plan.acks ≡ true → are_owners s.plan.owners ≡ true → in_range s slot 0 ≡ true
+writable_in_range s slot w rank acks owners =
+    and_from _ _
+    (and_from _ _
+    (and_from _ _
+    (and_from _ _
+    (and_from _ _
+    (and_from _ _
+    (and_from _ _
+    (and_from _ _ w.place (le-leb _ 4 w.gap))
+    (le-leb _ 3 rank))
+    (and_from _ _ (le-leb 1 _ w.boot.0) (le-leb _ 200 w.boot.1)))
+    (le-leb _ 4 w.contend))
+    (le-leb _ _ w.few))
+    w.acks)
+    acks)
+    owners
+
+pub schedule_spelled : (s : Schedule) (slot counter : ℕ) → in_range s slot counter ≡ true → schedule_of (spelling s slot counter) ≡ Some s
+schedule_spelled s slot counter is = read_as (spelling s slot counter) s (spells_own s slot counter is)

@@ -1,6 +1,6 @@
 ghost use Rattle.std.specs.Prelude.{◌≡◌, ◌≤◌, length, true};
 ghost use Rattle.lwb_base.specs.Messages.{Ask};
-ghost use Rattle.schedule_codec.specs.AckLists.{ask_bytes};
+ghost use Rattle.schedule_codec.specs.AckLists.{are_acks, ask_bytes};
 ghost use Rattle.schedule_codec.specs.Spelling.{acks_bytes, most_acks};
 
 use crate::{Ack, Acks};
@@ -11,8 +11,10 @@ use arrayvec::ArrayVec;
 pub fn write_acks(contend: u8, acks: &Acks) -> ArrayVec<u8, 17>
     requires contend { contend ≤ 4 }
     requires few { length acks.now ≤ most_acks contend }
-    ensures { result.items ≡ acks_bytes contend acks.now }
+    ensures value { result.items ≡ acks_bytes contend acks.now }
+    ensures acks { are_acks acks.now ≡ true }
 {
+    let count = acks.count();
     let mut bytes = ArrayVec::new();
     if contend == 0 {
         let single = match acks.at(0) {
@@ -22,7 +24,7 @@ pub fn write_acks(contend: u8, acks: &Acks) -> ArrayVec<u8, 17>
         bytes.try_extend_from_slice(&single).unwrap();
         return bytes;
     }
-    bytes.push((contend - 1) * 16 + acks.count());
+    bytes.push((contend - 1) * 16 + count);
     for place in acks.places() {
         bytes.try_extend_from_slice(&ack_bytes(&place.ack)).unwrap();
     }

@@ -11,8 +11,7 @@ mod owners;
 mod packing;
 mod schedule;
 
-
 pub use acks::{Ack, Acks};
+pub use encode::write;
 pub use owners::Owners;
 pub use schedule::Schedule;
-pub use encode::write;

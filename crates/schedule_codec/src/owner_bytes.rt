@@ -9,7 +9,8 @@ use byteorder::{BigEndian, ByteOrder};
 
 /// The count of owners; where there are any, the first code with the width, and the packed differences.
 pub fn write_owners(owners: &Owners) -> ArrayVec<u8, 52>
-    ensures { result.items ≡ owners_bytes owners.now }
+    ensures value { result.items ≡ owners_bytes owners.now }
+    ensures owners { are_owners owners.now ≡ true }
 {
     let mut bytes = ArrayVec::new();
     bytes.push(owners.count());
