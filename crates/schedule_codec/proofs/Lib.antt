@@ -4,4 +4,6 @@ pub mod Packs
 pub mod Lists
 pub mod Widths
 pub mod Readings
+pub mod Sums
+pub mod CodeBytes
 pub mod Examples

@@ -8,7 +8,7 @@ use Rattle.schedule_codec.specs.Packing.{fit, number, digits, packed, bytes_for}
 use Rattle.schedule_codec.specs.AckLists.{are_acks, ask_bytes, ask_in_range}
 use Rattle.schedule_codec.specs.OwnerLists.{are_owners, ascend, differences, width_of, owners_bytes, owners_length}
 use Rattle.schedule_codec.specs.Spelling.{spelling, in_range, spells, acks_bytes, single_ack, most_acks, kind_byte, length_of, IsWritable}
-use Rattle.schedule_codec.specs.Reading.{summed, owners_in, ask_in, asks_in, said, schedule_of}
+use Rattle.schedule_codec.specs.Reading.{following, summed, owners_in, ask_in, asks_in, said, schedule_of}
 use Rattle.schedule_codec.proofs.Numbers.{unpacked, length-packed}
 use Rattle.schedule_codec.proofs.Widths.{codes_of, differences_fit, width_fits, length-differences}
 
@@ -19,6 +19,18 @@ summed-differences c (d ∷ cs) ascending =
     let above = leb-true c d both.0 in
     let next : c + (d - c) ≡ d = omega arith in
     ap (λ n. c ∷ summed n (differences (d ∷ cs))) next ∙ ap (λ l. c ∷ l) (summed-differences d cs both.1)
+
+pub differences-summed : (c : ℕ) (ds : List ℕ) → differences (summed c ds) ≡ ds
+differences-summed c [] = refl
+differences-summed c (d ∷ ds) = let step : c + d - c ≡ d = omega arith in ap (λ n. n ∷ differences (summed (c + d) ds)) step ∙ ap (λ l. d ∷ l) (differences-summed (c + d) ds)
+
+pub length-following : (c : ℕ) (ds : List ℕ) → length (following c ds) ≡ length ds
+length-following c [] = refl
+length-following c (d ∷ ds) = ap suc (length-following (c + d) ds)
+
+pub summed_ascends : (c : ℕ) (ds : List ℕ) → ascend (summed c ds) ≡ true
+summed_ascends c [] = refl
+summed_ascends c (d ∷ ds) = and_from _ _ (le-leb c (c + d) (omega arith)) (summed_ascends (c + d) ds)
 
 -- the first code and its width in one number, and the packed differences
 codes_read : (first c w n : ℕ) (ds rest : List ℕ) → first ≡ c * 16 + w → w < 16 → n ≡ length ds → rest ≡ packed w ds → fit w ds ≡ true
