@@ -6,4 +6,5 @@ pub mod Widths
 pub mod Readings
 pub mod Sums
 pub mod CodeBytes
+pub mod AckRuns
 pub mod Examples

@@ -10,7 +10,7 @@ use Rattle.schedule_codec.specs.AckLists as acks
 use Rattle.schedule_codec.specs.OwnerLists as owners
 
 -- the last of a list of two and more is that of its rest
-last_of_rest : {X : Type 0} (x y : X) (xs : List X) → slice_get (x ∷ y ∷ xs) (length (x ∷ y ∷ xs) - 1) ≡ slice_get (y ∷ xs) (length (y ∷ xs) - 1)
+pub last_of_rest : {X : Type 0} (x y : X) (xs : List X) → slice_get (x ∷ y ∷ xs) (length (x ∷ y ∷ xs) - 1) ≡ slice_get (y ∷ xs) (length (y ∷ xs) - 1)
 last_of_rest x y xs =
     let whole : suc (suc (length xs)) - 1 ≡ suc (length xs) = omega arith in
     let rest : length xs ≡ suc (length xs) - 1 = omega arith in

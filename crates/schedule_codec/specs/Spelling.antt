@@ -24,6 +24,15 @@ spelling s slot counter = kind_byte s.plan.contend ∷ slot ∷ counter ∷ (s.p
 abbrev pub most_acks : ℕ → ℕ
 most_acks contend = if contend == 0 then 1 else 4
 
+-- the acknowledgements of a schedule of this kind, and their bytes
+pub record SpellsAcks (kind : ℕ) (bs : List ℕ) (contend : ℕ) (acks : List Ask) : Type 0 where
+  pub kind_is : kind_byte contend ≡ kind
+  pub named : contend ≤ 4
+  pub few : length acks ≤ most_acks contend
+  pub in_range : list_all ask_in_range acks ≡ true
+  pub ordered : are_acks acks ≡ true
+  pub bytes : acks_bytes contend acks ≡ bs
+
 -- an opening stands in slot 0, and a closing in the last slot of its round
 abbrev pub slot_in_range : Schedule → ℕ → Bool
 slot_in_range s slot = if s.gap == 0 then slot == 0 else between 2 (if s.plan.contend == 0 then 42 else 45) slot
