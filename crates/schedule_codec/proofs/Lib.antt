@@ -7,4 +7,5 @@ pub mod Readings
 pub mod Sums
 pub mod CodeBytes
 pub mod AckRuns
+pub mod Heads
 pub mod Examples

@@ -7,7 +7,7 @@ use Rattle.lwb_base.specs.Messages.{Ask, Plan, Schedule}
 use Rattle.schedule_codec.specs.Packing.{fit, number, digits, packed, bytes_for}
 use Rattle.schedule_codec.specs.AckLists.{are_acks, ask_bytes, ask_in_range}
 use Rattle.schedule_codec.specs.OwnerLists.{are_owners, ascend, differences, width_of, owners_bytes, owners_length}
-use Rattle.schedule_codec.specs.Spelling.{spelling, in_range, spells, acks_bytes, single_ack, most_acks, kind_byte, length_of, IsWritable}
+use Rattle.schedule_codec.specs.Spelling.{spelling, in_range, spells, acks_bytes, single_ack, most_acks, kind_byte, length_of, slot_fits, IsWritable}
 use Rattle.schedule_codec.specs.Reading.{following, summed, owners_in, ask_in, asks_in, said, schedule_of}
 use Rattle.schedule_codec.proofs.Numbers.{unpacked, length-packed}
 use Rattle.schedule_codec.proofs.Widths.{codes_of, differences_fit, width_fits, length-differences}
@@ -79,25 +79,49 @@ abbrev schedule : ℕ → ℕ → ℕ → ℕ → List Ask → List ℕ → Sche
 schedule rank boot gap contend acks owners = record { gap = gap; plan = record { rank = rank; boot = boot; contend = contend; acks = acks; owners = owners } }
 
 -- the parts that schedules in range have
-record Parts (s : Schedule) : Type 0 where
-  rank : s.plan.rank ≤ 3
-  gap : s.gap ≤ 4
-  contend : s.plan.contend ≤ 4
-  few : length s.plan.acks ≤ most_acks s.plan.contend
-  acks : list_all ask_in_range s.plan.acks ≡ true
-  owners : are_owners s.plan.owners ≡ true
+pub record Parts (s : Schedule) (slot counter : ℕ) : Type 0 where
+  pub count : counter ≤ 11
+  pub place : slot_fits s.gap s.plan.contend slot ≡ true
+  pub rank : s.plan.rank ≤ 3
+  pub boot : (1 ≤ s.plan.boot) × (s.plan.boot ≤ 200)
+  pub gap : s.gap ≤ 4
+  pub contend : s.plan.contend ≤ 4
+  pub few : length s.plan.acks ≤ most_acks s.plan.contend
+  pub acks : list_all ask_in_range s.plan.acks ≡ true
+  pub ordered : are_acks s.plan.acks ≡ true
+  pub owners : are_owners s.plan.owners ≡ true
 
-parts_of : (s : Schedule) (slot counter : ℕ) → in_range s slot counter ≡ true → Parts s
+pub parts_of : (s : Schedule) (slot counter : ℕ) → in_range s slot counter ≡ true → Parts s slot counter
 parts_of s slot counter is =
     let owners = and_parts _ _ is in
-    let ascending = and_parts _ _ owners.0 in
-    let all = and_parts _ _ ascending.0 in
+    let ordered = and_parts _ _ owners.0 in
+    let all = and_parts _ _ ordered.0 in
     let few = and_parts _ _ all.0 in
     let contend = and_parts _ _ few.0 in
     let boot = and_parts _ _ contend.0 in
     let rank = and_parts _ _ boot.0 in
     let gap = and_parts _ _ rank.0 in
-    record { rank = leb-true _ 3 rank.1; gap = leb-true _ 4 gap.1; contend = leb-true _ 4 contend.1; few = leb-true _ _ few.1; acks = all.1; owners = owners.1 }
+    let place = and_parts _ _ gap.0 in
+    let within = and_parts _ _ boot.1 in
+    record {
+      count = leb-true counter 11 place.0;
+      place = place.1;
+      rank = leb-true _ 3 rank.1;
+      boot = (leb-true 1 _ within.0, leb-true _ 200 within.1);
+      gap = leb-true _ 4 gap.1;
+      contend = leb-true _ 4 contend.1;
+      few = leb-true _ _ few.1;
+      acks = all.1;
+      ordered = ordered.1;
+      owners = owners.1;
+    }
+
+pub range_from : (s : Schedule) (slot counter : ℕ) → Parts s slot counter → in_range s slot counter ≡ true
+range_from s slot counter p =
+    let within = and_from _ _ (le-leb 1 _ p.boot.0) (le-leb _ 200 p.boot.1) in
+    let head = and_from _ _ (and_from _ _ (le-leb counter 11 p.count) p.place) (le-leb _ 4 p.gap) in
+    let host = and_from _ _ (and_from _ _ (and_from _ _ head (le-leb _ 3 p.rank)) within) (le-leb _ 4 p.contend) in
+    and_from _ _ (and_from _ _ (and_from _ _ (and_from _ _ host (le-leb _ _ p.few)) p.acks) p.ordered) p.owners
 
 single_drop : (acks : List Ask) (rest : List ℕ) → drop 4 (single_ack acks ++ rest) ≡ rest
 single_drop [] rest = refl
@@ -158,11 +182,11 @@ module _ (s : Schedule) (slot counter : ℕ) (is : in_range s slot counter ≡ t
             ∙ said_two some
       ]
 
-same_bytes : (xs : List ℕ) → bytes_eq xs xs ≡ true
+pub same_bytes : (xs : List ℕ) → bytes_eq xs xs ≡ true
 same_bytes [] = refl
 same_bytes (x ∷ xs) = and_from _ _ (eq-eqb x x refl) (same_bytes xs)
 
-bytes_same : (xs ys : List ℕ) → bytes_eq xs ys ≡ true → xs ≡ ys
+pub bytes_same : (xs ys : List ℕ) → bytes_eq xs ys ≡ true → xs ≡ ys
 bytes_same [] [] is = refl
 bytes_same [] (y ∷ ys) is = absurd (false≢true is)
 bytes_same (x ∷ xs) [] is = absurd (false≢true is)
@@ -220,21 +244,7 @@ length-spelling s slot counter =
 -- what may be written is in range
 pub writable_in_range : (s : Schedule) (slot : ℕ) → IsWritable s slot → s.plan.rank ≤ 3 → are_acks s.plan.acks ≡ true → are_owners s.plan.owners ≡ true → in_range s slot 0 ≡ true
 writable_in_range s slot w rank acks owners =
-    and_from _ _
-    (and_from _ _
-    (and_from _ _
-    (and_from _ _
-    (and_from _ _
-    (and_from _ _
-    (and_from _ _
-    (and_from _ _ w.place (le-leb _ 4 w.gap))
-    (le-leb _ 3 rank))
-    (and_from _ _ (le-leb 1 _ w.boot.0) (le-leb _ 200 w.boot.1)))
-    (le-leb _ 4 w.contend))
-    (le-leb _ _ w.few))
-    w.acks)
-    acks)
-    owners
+    range_from s slot 0 (record { count = omega arith; place = w.place; rank = rank; boot = w.boot; gap = w.gap; contend = w.contend; few = w.few; acks = w.acks; ordered = acks; owners = owners })
 
 pub schedule_spelled : (s : Schedule) (slot counter : ℕ) → in_range s slot counter ≡ true → schedule_of (spelling s slot counter) ≡ Some s
 schedule_spelled s slot counter is = read_as (spelling s slot counter) s (spells_own s slot counter is)

@@ -4,6 +4,7 @@
 mod ack_bytes;
 mod acks;
 mod bits;
+mod decode;
 mod differences;
 mod encode;
 mod owner_bytes;
@@ -12,6 +13,7 @@ mod packing;
 mod schedule;
 
 pub use acks::{Ack, Acks};
+pub use decode::read;
 pub use encode::write;
 pub use owners::Owners;
 pub use schedule::Schedule;
