@@ -5,3 +5,5 @@ pub mod Spelling
 pub mod Drafts
 pub mod Readings
 pub mod PlainExamples
+pub mod FloodExamples
+pub mod LineFeeds

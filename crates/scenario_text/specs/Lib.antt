@@ -2,3 +2,7 @@ pub mod FloodParts
 pub mod PlainText
 pub mod Cursor
 pub mod Drafts
+pub mod Words
+pub mod FirstWords
+pub mod Network
+pub mod FloodGrammar

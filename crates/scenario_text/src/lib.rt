@@ -3,11 +3,18 @@
 
 mod cursor;
 mod draft;
+mod fault;
+mod flood_line;
 mod flood_text;
 mod lines;
+mod network_line;
+mod numbers;
 mod plain;
 mod plain_line;
+mod word;
+mod words;
 
+pub use fault::{FaultKind, ParseFault};
 pub use flood_text::FloodText;
 pub use lines::{NodeLine, RateLine};
 pub use plain::{PlainFault, parse_plain, plain_text_is_unambiguous};

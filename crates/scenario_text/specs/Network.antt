@@ -1,0 +1,116 @@
+-- The lines that both texts have, and what is allowed of each of them behind the lines above it.
+use Rattle.std.specs.Prelude.{◌≡◌, ℕ, ◌+◌, ℤ, pos, neg_ℤ, List, [], ◌∷◌, ◌++◌, Bool, true, false, not, ◌&&◌, ◌==◌, nat_lt, nat_le, if◌then◌else◌, Some, None, Option, is_none, length, reverse, filter, find, count_by, insert}
+use Rattle.std.specs.List.{list_any, flat_map}
+use Rattle.std.specs.Option.{option_map_or}
+use Rattle.link_trace.specs.Passes.{Lines, is_link}
+use Rattle.scenario_text.specs.FloodParts.{knows}
+use Rattle.scenario_text.specs.declared.fault.FaultKind.{FaultKind}
+use Rattle.scenario_text.specs.declared.fault.FaultKind.TheVariants.{Range, UnknownNode, Order, Twice, TooMany}
+use Rattle.scenario_text.specs.declared.lines.NodeLine.{NodeLine}
+use Rattle.scenario_text.specs.declared.lines.RateLine.{RateLine}
+use Rattle.scenario_text.specs.declared.network_line.NetworkLine.{NetworkLine}
+use Rattle.scenario_text.specs.declared.network_line.NetworkLine.TheVariants.{Sends, Node, Rate, Link, Pair}
+
+-- What the lines above say of these lines: the sendings of a node, the nodes by id, the rates in the order of the text, the
+-- trace, and how many script lines there are
+pub record Network : Type 0 where
+  pub sends : Option ℕ
+  pub nodes : List NodeLine
+  pub rates : List RateLine
+  pub trace : Lines
+  pub scripted : ℕ
+
+abbrev pub no_network : Network
+no_network = record { sends = None; nodes = []; rates = []; trace = record { links = []; losses = [] }; scripted = 0 }
+
+abbrev pub is_id : ℕ → Bool
+is_id i = nat_le 1 i && nat_le i 200
+
+-- two ids that differ
+abbrev pub are_ends : ℕ → ℕ → Bool
+are_ends u v = is_id u && is_id v && not (u == v)
+
+-- the first test that fails, by the fault that this makes
+abbrev pub first_fault : List (Bool × FaultKind) → Option FaultKind
+first_fault [] = None
+first_fault (t ∷ ts) = if t.0 then first_fault ts else Some t.1
+
+-- the numbers of the line are in their ranges: a tick is not above the last tick
+abbrev pub in_range : ℕ → NetworkLine → Bool
+in_range last (Sends n) = nat_le 1 n && nat_le n 4
+in_range last (Node i o) = is_id i && nat_le o 256000
+in_range last (Rate i t slow p) = is_id i && nat_le t last && nat_le p 20
+in_range last (Link u v) = are_ends u v
+in_range last (Pair u v) = are_ends u v
+
+-- the ids of the line have lines above
+abbrev pub knows_ids : Network → NetworkLine → Bool
+knows_ids n (Sends x) = true
+knows_ids n (Node i o) = true
+knows_ids n (Rate i t slow p) = knows n.nodes i
+knows_ids n (Link u v) = knows n.nodes u && knows n.nodes v
+knows_ids n (Pair u v) = knows n.nodes u && knows n.nodes v
+
+-- the last rate line of a node
+abbrev pub last_rate : List RateLine → ℕ → Option RateLine
+last_rate rates i = find (λ r. r.node == i) (reverse rates)
+
+-- the rates of a node are given with ascending ticks
+abbrev pub in_order : Network → NetworkLine → Bool
+in_order n (Sends x) = true
+in_order n (Node i o) = true
+in_order n (Rate i t slow p) = option_map_or (λ r. nat_lt r.from t) (last_rate n.rates i) true
+in_order n (Link u v) = true
+in_order n (Pair u v) = true
+
+abbrev pub has_link : Lines → ℕ → ℕ → Bool
+has_link t u v = list_any (is_link u v) t.links
+
+-- no line above says the same
+abbrev pub is_new : Network → NetworkLine → Bool
+is_new n (Sends x) = is_none n.sends
+is_new n (Node i o) = not (knows n.nodes i)
+is_new n (Rate i t slow p) = true
+is_new n (Link u v) = not (has_link n.trace u v)
+is_new n (Pair u v) = not (has_link n.trace u v) && not (has_link n.trace v u)
+
+-- a script line more is allowed
+abbrev pub has_script_room : Network → Bool
+has_script_room n = nat_lt n.scripted 20000
+
+-- there are not too many nodes or script lines yet
+abbrev pub has_room : Network → NetworkLine → Bool
+has_room n (Sends x) = true
+has_room n (Node i o) = nat_lt (length n.nodes) 64
+has_room n (Rate i t slow p) = has_script_room n
+has_room n (Link u v) = true
+has_room n (Pair u v) = true
+
+-- the fault of the line, where its words and numbers are spelled right
+abbrev pub network_fault : ℕ → Network → NetworkLine → Option FaultKind
+network_fault last n l =
+    first_fault
+    ((in_range last l, Range) ∷ (knows_ids n l, UnknownNode) ∷ (in_order n l, Order) ∷ (is_new n l, Twice) ∷ (has_room n l, TooMany) ∷ [])
+
+-- a node among those with other ids, in the order of ids
+abbrev pub with_node : NodeLine → List NodeLine → List NodeLine
+with_node n ns = insert ns (count_by (λ m. nat_lt m.node n.node) ns) n
+
+abbrev pub with_link : ℕ → ℕ → Lines → Lines
+with_link u v t = record t { links = t.links ++ record { from = u; to = v } ∷ [] }
+
+-- by so many millionths fast, or slow
+abbrev pub ppm : Bool → ℕ → ℤ
+ppm slow p = if slow then neg_ℤ (pos p) else pos p
+
+-- what the lines say with an allowed line more
+abbrev pub with_line : Network → NetworkLine → Network
+with_line n (Sends x) = record n { sends = Some x }
+with_line n (Node i o) = record n { nodes = with_node (record { node = i; offset = o }) n.nodes }
+with_line n (Rate i t slow p) = record n { rates = n.rates ++ record { node = i; from = t; ppm = ppm slow p } ∷ []; scripted = n.scripted + 1 }
+with_line n (Link u v) = record n { trace = with_link u v n.trace }
+with_line n (Pair u v) = record n { trace = with_link v u (with_link u v n.trace) }
+
+-- the rates of each node in turn, by tick
+abbrev pub rates_by_node : Network → List RateLine
+rates_by_node n = flat_map (λ m. filter (λ r. r.node == m.node) n.rates) n.nodes
