@@ -1,43 +1,29 @@
 -- Flood text: what its lines say, and the first line that is refused.
-use Rattle.std.specs.Prelude.{◌≡◌, ℕ, ◌+◌, List, [], ◌∷◌, ◌++◌, Bool, true, false, not, ◌&&◌, ◌==◌, nat_lt, nat_le, if◌then◌else◌, Some, None, Option, is_none, is_some, Ok, Err, Result, length, drop, option_and_then}
+use Rattle.std.specs.Prelude.{◌≡◌, ℕ, ◌+◌, List, [], ◌∷◌, ◌++◌, Bool, true, false, not, ◌&&◌, ◌==◌, nat_lt, nat_le, if◌then◌else◌, Some, None, Option, is_none, is_some, Ok, Err, Result, length, drop, codes, option_map}
 use Rattle.std.specs.List.{list_all, list_any}
-use Rattle.std.specs.Str.{is_utf8}
+use Rattle.std.specs.Str.{bytes_eq, is_utf8}
 use Rattle.std.specs.Str.Lines.{lines}
 use Rattle.link_trace.specs.Passes.{Lines, is_loss}
 use Rattle.scenario_text.specs.FloodParts.{FloodParts, knows}
-use Rattle.scenario_text.specs.Words.{words, word, is_skipped, is_number, is_signed, has_minus, magnitude, number, number_at}
-use Rattle.scenario_text.specs.FirstWords.{first_word}
-use Rattle.scenario_text.specs.Network.{Network, no_network, is_id, are_ends, first_fault, network_fault, has_script_room, with_line, rates_by_node}
+use Rattle.scenario_text.specs.Words.{words, word, is_skipped, is_number, number_at, counted}
+use Rattle.scenario_text.specs.Network.{Network, network_line, network_numbers, no_network, is_id, are_ends, first_fault, network_fault, has_script_room, with_line, rates_by_node}
 use Rattle.scenario_text.specs.declared.fault.FaultKind.{FaultKind}
 use Rattle.scenario_text.specs.declared.fault.FaultKind.TheVariants.{NotUtf8, BadWord, BadNumber, Range, UnknownNode, Order, Twice, TooMany, Missing}
 use Rattle.scenario_text.specs.declared.flood_line.FloodLine.{FloodLine}
 use Rattle.scenario_text.specs.declared.flood_line.FloodLine.TheVariants.{InNetwork, Lose, Start}
-use Rattle.scenario_text.specs.declared.network_line.NetworkLine.TheVariants as network
-use Rattle.scenario_text.specs.declared.word.Word.{Word}
-use Rattle.scenario_text.specs.declared.word.Word.TheVariants as first
 
--- the line, if it has so many words
-abbrev pub counted : {L : Type 0} → ℕ → List (List ℕ) → L → Option L
-counted n ws l = if length ws == n then Some l else None
+-- what the words say, if they are those of a line
+unfoldable pub flood_line : List (List ℕ) → Option FloodLine
+flood_line ws =
+    if bytes_eq (word ws 0) (codes "lose") then counted 4 ws (Lose (number_at ws 1) (number_at ws 2) (number_at ws 3))
+    else if bytes_eq (word ws 0) (codes "start") then counted 2 ws (Start (number_at ws 1))
+    else option_map InNetwork (network_line ws)
 
--- what the words of a line say, the first of which is this one
-abbrev pub flood_line_of : Word → List (List ℕ) → Option FloodLine
-flood_line_of first.Sends ws = counted 2 ws (InNetwork (network.Sends (number_at ws 1)))
-flood_line_of first.Node ws = counted 3 ws (InNetwork (network.Node (number_at ws 1) (number_at ws 2)))
-flood_line_of first.Rate ws = counted 4 ws (InNetwork (network.Rate (number_at ws 1) (number_at ws 2) (has_minus (word ws 3)) (number (magnitude (word ws 3)))))
-flood_line_of first.Link ws = counted 3 ws (InNetwork (network.Link (number_at ws 1) (number_at ws 2)))
-flood_line_of first.Pair ws = counted 3 ws (InNetwork (network.Pair (number_at ws 1) (number_at ws 2)))
-flood_line_of first.Lose ws = counted 4 ws (Lose (number_at ws 1) (number_at ws 2) (number_at ws 3))
-flood_line_of first.Start ws = counted 2 ws (Start (number_at ws 1))
-flood_line_of other ws = None
-
-abbrev pub flood_line : List (List ℕ) → Option FloodLine
-flood_line ws = option_and_then (λ w. flood_line_of w ws) (first_word (word ws 0))
-
--- the numbers behind the first word are spelled right: only the last of a rate may have a `-`
-abbrev pub spells_numbers : FloodLine → List (List ℕ) → Bool
-spells_numbers (InNetwork (network.Rate i t slow p)) ws = is_number (word ws 1) && is_number (word ws 2) && is_signed (word ws 3)
-spells_numbers other ws = list_all is_number (drop 1 ws)
+-- the numbers of the line are spelled right
+abbrev pub flood_numbers : FloodLine → List (List ℕ) → Bool
+flood_numbers (InNetwork l) ws = network_numbers l ws
+flood_numbers (Lose k u v) ws = list_all is_number (drop 1 ws)
+flood_numbers (Start i) ws = list_all is_number (drop 1 ws)
 
 -- what the lines above say
 pub record Flood : Type 0 where
@@ -79,7 +65,7 @@ after_spelled f l = or_fault (rule_fault f l)
 -- behind a line of these words, or its fault
 abbrev pub after_words : Flood → List (List ℕ) → Option FloodLine → Result Flood FaultKind
 after_words f ws None = Err BadWord
-after_words f ws (Some l) = if spells_numbers l ws then after_spelled f l else Err BadNumber
+after_words f ws (Some l) = if flood_numbers l ws then after_spelled f l else Err BadNumber
 
 -- behind a line, or its fault
 unfoldable pub after_line : Flood → List ℕ → Result Flood FaultKind

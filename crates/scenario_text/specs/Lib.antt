@@ -3,6 +3,5 @@ pub mod PlainText
 pub mod Cursor
 pub mod Drafts
 pub mod Words
-pub mod FirstWords
 pub mod Network
 pub mod FloodGrammar

@@ -1,15 +1,36 @@
 -- The lines that both texts have, and what is allowed of each of them behind the lines above it.
-use Rattle.std.specs.Prelude.{◌≡◌, ℕ, ◌+◌, ℤ, pos, neg_ℤ, List, [], ◌∷◌, ◌++◌, Bool, true, false, not, ◌&&◌, ◌==◌, nat_lt, nat_le, if◌then◌else◌, Some, None, Option, is_none, length, reverse, filter, find, count_by, insert}
-use Rattle.std.specs.List.{list_any, flat_map}
+use Rattle.std.specs.Prelude.{◌≡◌, ℕ, ◌+◌, ℤ, pos, neg_ℤ, List, [], ◌∷◌, ◌++◌, Bool, true, false, not, ◌&&◌, ◌==◌, nat_lt, nat_le, if◌then◌else◌, Some, None, Option, is_none, length, drop, codes, reverse, filter, find, count_by, insert}
+use Rattle.std.specs.List.{list_all, list_any, flat_map}
+use Rattle.std.specs.Str.{bytes_eq}
 use Rattle.std.specs.Option.{option_map_or}
 use Rattle.link_trace.specs.Passes.{Lines, is_link}
 use Rattle.scenario_text.specs.FloodParts.{knows}
+use Rattle.scenario_text.specs.Words.{word, counted, is_number, is_signed, has_minus, magnitude, number, number_at}
 use Rattle.scenario_text.specs.declared.fault.FaultKind.{FaultKind}
 use Rattle.scenario_text.specs.declared.fault.FaultKind.TheVariants.{Range, UnknownNode, Order, Twice, TooMany}
 use Rattle.scenario_text.specs.declared.lines.NodeLine.{NodeLine}
 use Rattle.scenario_text.specs.declared.lines.RateLine.{RateLine}
 use Rattle.scenario_text.specs.declared.network_line.NetworkLine.{NetworkLine}
 use Rattle.scenario_text.specs.declared.network_line.NetworkLine.TheVariants.{Sends, Node, Rate, Link, Pair}
+
+-- what the words say, if they are those of such a line
+unfoldable pub network_line : List (List ℕ) → Option NetworkLine
+network_line ws =
+    if bytes_eq (word ws 0) (codes "sends") then counted 2 ws (Sends (number_at ws 1))
+    else if bytes_eq (word ws 0) (codes "node") then counted 3 ws (Node (number_at ws 1) (number_at ws 2))
+    else if bytes_eq (word ws 0) (codes "rate")
+    then counted 4 ws (Rate (number_at ws 1) (number_at ws 2) (has_minus (word ws 3)) (number (magnitude (word ws 3))))
+    else if bytes_eq (word ws 0) (codes "link") then counted 3 ws (Link (number_at ws 1) (number_at ws 2))
+    else if bytes_eq (word ws 0) (codes "pair") then counted 3 ws (Pair (number_at ws 1) (number_at ws 2))
+    else None
+
+-- the numbers of the line are spelled right: only the last of a rate may have a `-`
+abbrev pub network_numbers : NetworkLine → List (List ℕ) → Bool
+network_numbers (Sends x) ws = list_all is_number (drop 1 ws)
+network_numbers (Node i o) ws = list_all is_number (drop 1 ws)
+network_numbers (Rate i t slow p) ws = is_number (word ws 1) && is_number (word ws 2) && is_signed (word ws 3)
+network_numbers (Link u v) ws = list_all is_number (drop 1 ws)
+network_numbers (Pair u v) ws = list_all is_number (drop 1 ws)
 
 -- What the lines above say of these lines: the sendings of a node, the nodes by id, the rates in the order of the text, the
 -- trace, and how many script lines there are

@@ -1,6 +1,6 @@
 -- The words of a line, and what they spell. The lines of a text are cut at each line feed, and one carriage return before it
 -- is dropped: `lines` of std says so.
-use Rattle.std.specs.Prelude.{ℕ, List, [], ◌-◌, Bool, not, ◌&&◌, ◌||◌, ◌==◌, nat_lt, nat_le, if◌then◌else◌, length, drop, filter, slice_index, slice_index_or}
+use Rattle.std.specs.Prelude.{ℕ, List, [], ◌-◌, Bool, not, ◌&&◌, ◌||◌, ◌==◌, nat_lt, nat_le, if◌then◌else◌, Some, None, Option, length, drop, filter, slice_index, slice_index_or}
 use Rattle.std.specs.Char.{is_ascii_digit}
 use Rattle.std.specs.List.{slice_split, list_all}
 use Rattle.std.specs.Str.Parse.{digits_value}
@@ -43,3 +43,7 @@ is_signed w = is_number (magnitude w) && not (has_minus w && (number (magnitude 
 -- the number that word i is
 abbrev pub number_at : List (List ℕ) → ℕ → ℕ
 number_at ws i = number (word ws i)
+
+-- the line, if it has so many words
+abbrev pub counted : {L : Type 0} → ℕ → List (List ℕ) → L → Option L
+counted n ws l = if length ws == n then Some l else None

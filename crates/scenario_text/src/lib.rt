@@ -11,7 +11,6 @@ mod network_line;
 mod numbers;
 mod plain;
 mod plain_line;
-mod word;
 mod words;
 
 pub use fault::{FaultKind, ParseFault};
