@@ -6,7 +6,7 @@ use Rattle.std.specs.Str.Lines.{lines}
 use Rattle.link_trace.specs.Passes.{Lines, is_loss}
 use Rattle.scenario_text.specs.FloodParts.{FloodParts, knows}
 use Rattle.scenario_text.specs.Words.{words, word, is_skipped, is_number, number_at, counted}
-use Rattle.scenario_text.specs.Network.{Network, network_line, network_numbers, no_network, is_id, are_ends, first_fault, network_fault, has_script_room, with_line, rates_by_node}
+use Rattle.scenario_text.specs.Network.{Drafted, network_line, network_numbers, no_network, is_id, are_ends, first_fault, network_fault, has_script_room, with_line, rates_by_node}
 use Rattle.scenario_text.specs.declared.fault.FaultKind.{FaultKind}
 use Rattle.scenario_text.specs.declared.fault.FaultKind.TheVariants.{NotUtf8, BadWord, BadNumber, Range, UnknownNode, Order, Twice, TooMany, Missing}
 use Rattle.scenario_text.specs.declared.flood_line.FloodLine.{FloodLine}
@@ -27,7 +27,7 @@ flood_numbers (Start i) ws = list_all is_number (drop 1 ws)
 
 -- what the lines above say
 pub record Flood : Type 0 where
-  pub network : Network
+  pub network : Drafted
   pub start : Option ℕ
 
 abbrev pub no_flood : Flood

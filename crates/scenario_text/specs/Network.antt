@@ -34,14 +34,14 @@ network_numbers (Pair u v) ws = list_all is_number (drop 1 ws)
 
 -- What the lines above say of these lines: the sendings of a node, the nodes by id, the rates in the order of the text, the
 -- trace, and how many script lines there are
-pub record Network : Type 0 where
+pub record Drafted : Type 0 where
   pub sends : Option ℕ
   pub nodes : List NodeLine
   pub rates : List RateLine
   pub trace : Lines
   pub scripted : ℕ
 
-abbrev pub no_network : Network
+abbrev pub no_network : Drafted
 no_network = record { sends = None; nodes = []; rates = []; trace = record { links = []; losses = [] }; scripted = 0 }
 
 abbrev pub is_id : ℕ → Bool
@@ -65,7 +65,7 @@ in_range last (Link u v) = are_ends u v
 in_range last (Pair u v) = are_ends u v
 
 -- the ids of the line have lines above
-abbrev pub knows_ids : Network → NetworkLine → Bool
+abbrev pub knows_ids : Drafted → NetworkLine → Bool
 knows_ids n (Sends x) = true
 knows_ids n (Node i o) = true
 knows_ids n (Rate i t slow p) = knows n.nodes i
@@ -77,7 +77,7 @@ abbrev pub last_rate : List RateLine → ℕ → Option RateLine
 last_rate rates i = find (λ r. r.node == i) (reverse rates)
 
 -- the rates of a node are given with ascending ticks
-abbrev pub in_order : Network → NetworkLine → Bool
+abbrev pub in_order : Drafted → NetworkLine → Bool
 in_order n (Sends x) = true
 in_order n (Node i o) = true
 in_order n (Rate i t slow p) = option_map_or (λ r. nat_lt r.from t) (last_rate n.rates i) true
@@ -88,7 +88,7 @@ abbrev pub has_link : Lines → ℕ → ℕ → Bool
 has_link t u v = list_any (is_link u v) t.links
 
 -- no line above says the same
-abbrev pub is_new : Network → NetworkLine → Bool
+abbrev pub is_new : Drafted → NetworkLine → Bool
 is_new n (Sends x) = is_none n.sends
 is_new n (Node i o) = not (knows n.nodes i)
 is_new n (Rate i t slow p) = true
@@ -96,11 +96,11 @@ is_new n (Link u v) = not (has_link n.trace u v)
 is_new n (Pair u v) = not (has_link n.trace u v) && not (has_link n.trace v u)
 
 -- a script line more is allowed
-abbrev pub has_script_room : Network → Bool
+abbrev pub has_script_room : Drafted → Bool
 has_script_room n = nat_lt n.scripted 20000
 
 -- there are not too many nodes or script lines yet
-abbrev pub has_room : Network → NetworkLine → Bool
+abbrev pub has_room : Drafted → NetworkLine → Bool
 has_room n (Sends x) = true
 has_room n (Node i o) = nat_lt (length n.nodes) 64
 has_room n (Rate i t slow p) = has_script_room n
@@ -108,7 +108,7 @@ has_room n (Link u v) = true
 has_room n (Pair u v) = true
 
 -- the fault of the line, where its words and numbers are spelled right
-abbrev pub network_fault : ℕ → Network → NetworkLine → Option FaultKind
+abbrev pub network_fault : ℕ → Drafted → NetworkLine → Option FaultKind
 network_fault last n l =
     first_fault
     ((in_range last l, Range) ∷ (knows_ids n l, UnknownNode) ∷ (in_order n l, Order) ∷ (is_new n l, Twice) ∷ (has_room n l, TooMany) ∷ [])
@@ -125,7 +125,7 @@ abbrev pub ppm : Bool → ℕ → ℤ
 ppm slow p = if slow then neg_ℤ (pos p) else pos p
 
 -- what the lines say with an allowed line more
-abbrev pub with_line : Network → NetworkLine → Network
+abbrev pub with_line : Drafted → NetworkLine → Drafted
 with_line n (Sends x) = record n { sends = Some x }
 with_line n (Node i o) = record n { nodes = with_node (record { node = i; offset = o }) n.nodes }
 with_line n (Rate i t slow p) = record n { rates = n.rates ++ record { node = i; from = t; ppm = ppm slow p } ∷ []; scripted = n.scripted + 1 }
@@ -133,5 +133,5 @@ with_line n (Link u v) = record n { trace = with_link u v n.trace }
 with_line n (Pair u v) = record n { trace = with_link v u (with_link u v n.trace) }
 
 -- the rates of each node in turn, by tick
-abbrev pub rates_by_node : Network → List RateLine
+abbrev pub rates_by_node : Drafted → List RateLine
 rates_by_node n = flat_map (λ m. filter (λ r. r.node == m.node) n.rates) n.nodes

@@ -7,6 +7,7 @@ mod fault;
 mod flood_line;
 mod flood_text;
 mod lines;
+mod network_draft;
 mod network_line;
 mod numbers;
 mod plain;

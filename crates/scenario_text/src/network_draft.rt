@@ -1,0 +1,242 @@
+ghost use Rattle.std.specs.Prelude.{◌≡◌, ◌≤◌, ◌<◌, ◌&&◌, ◌==◌, not, nat_lt, nat_le, if◌then◌else◌, Ok, Some, None, true, false, ℕ, List, IfOk, count_by, reverse, length};
+ghost use Rattle.std.specs.List.{find, list_any};
+ghost use Rattle.std.specs.Option.{option_copied, option_map_or};
+ghost use Rattle.scenario_text.specs.FloodParts.{knows as knows_of};
+ghost use Rattle.scenario_text.specs.Network.{no_network, network_fault, with_line, with_node, with_link, has_link, are_ends, last_rate as last_rate_of, ppm as ppm_of, is_id};
+ghost use Rattle.scenario_text.specs.declared.network_line.NetworkLine.TheVariants.{Sends, Node, Rate, Link, Pair};
+
+use crate::network_line::NetworkLine;
+use crate::{FaultKind, NodeLine, RateLine};
+use link_trace::Trace;
+use lwb_base::{Memory, NodeId};
+use std::alloc::Global;
+use std::marker::Model;
+
+/// What the lines that both texts have say so far. The rates stand in the order of the text.
+#[derive(Drop)]
+pub struct NetworkDraft {
+    sends: Option<u8>,
+    nodes: Vec<NodeLine>,
+    rates: Vec<RateLine>,
+    trace: Trace,
+    scripted: u32,
+}
+
+impl Model for NetworkDraft {
+    ghost use Rattle.scenario_text.specs.Network.{Drafted};
+
+    ghost Value = { Drafted };
+
+    ghost view = { λ d. record { sends = d.sends; nodes = d.nodes.items; rates = d.rates.items; trace = d.trace; scripted = d.scripted } };
+}
+
+impl NetworkDraft {
+    /// A draft of no lines. It takes no memory.
+    pub fn new(alloc: Global) -> NetworkDraft
+        ensures { result ≡ no_network }
+    {
+        NetworkDraft {
+            sends: None,
+            nodes: Vec::new(alloc),
+            rates: Vec::new(alloc),
+            trace: Trace::new(alloc),
+            scripted: 0,
+        }
+    }
+
+    /// Goes on by one line, unless it is refused. No tick may be above the last tick.
+    pub fn add(&mut self, last_tick: u64, line: NetworkLine) -> Result<Option<FaultKind>, Memory>
+        ensures fault { IfOk result (λ k. k ≡ network_fault last_tick self.old line) }
+        ensures added { result ≡ Ok None → self.new ≡ with_line self.old line }
+    {
+        match line {
+            NetworkLine::Sends(count) => Ok(self.add_sends(count)),
+            NetworkLine::Node(id, offset) => self.add_node(id, offset),
+            NetworkLine::Rate(id, tick, slow, parts) => self.add_rate(
+                last_tick, id, tick, slow, parts,
+            ),
+            NetworkLine::Link(from, to) => self.add_link(from, to),
+            NetworkLine::Pair(one_end, other_end) => self.add_pair(one_end, other_end),
+        }
+    }
+
+    fn add_sends(&mut self, count: u64) -> Option<FaultKind>
+        ensures fault { result ≡ network_fault 0 self.old (Sends count) }
+        ensures added { result ≡ None → self.new ≡ with_line self.old (Sends count) }
+    {
+        if count < 1 || count > 4 {
+            return Some(FaultKind::Range);
+        }
+        if self.sends.is_some() {
+            return Some(FaultKind::Twice);
+        }
+        self.sends = Some(count as u8);
+        None
+    }
+
+    fn add_node(&mut self, id: u64, offset: u64) -> Result<Option<FaultKind>, Memory>
+        ensures fault { IfOk result (λ k. k ≡ network_fault 0 self.old (Node id offset)) }
+        ensures added { result ≡ Ok None → self.new ≡ with_line self.old (Node id offset) }
+    {
+        let Some(node) = node_id(id) else {
+            return Ok(Some(FaultKind::Range));
+        };
+        if offset > 256_000 {
+            return Ok(Some(FaultKind::Range));
+        }
+        if known(&self.nodes, id).is_some() {
+            return Ok(Some(FaultKind::Twice));
+        }
+        if self.nodes.len() >= 64 {
+            return Ok(Some(FaultKind::TooMany));
+        }
+        let place = count_below(&self.nodes, node);
+        match self.nodes.insert(place, NodeLine { node, offset }) {
+            Ok(()) => Ok(None),
+            Err(_) => Err(Memory),
+        }
+    }
+
+    fn add_rate(
+        &mut self,
+        last_tick: u64,
+        id: u64,
+        tick: u64,
+        slow: bool,
+        parts: u64,
+    ) -> Result<Option<FaultKind>, Memory>
+        ensures fault { IfOk result (λ k. k ≡ network_fault last_tick self.old (Rate id tick slow parts)) }
+        ensures added { result ≡ Ok None → self.new ≡ with_line self.old (Rate id tick slow parts) }
+    {
+        if node_id(id).is_none() || tick > last_tick || parts > 20 {
+            return Ok(Some(FaultKind::Range));
+        }
+        let Some(node) = known(&self.nodes, id) else {
+            return Ok(Some(FaultKind::UnknownNode));
+        };
+        if !is_later(&self.rates, node, tick) {
+            return Ok(Some(FaultKind::Order));
+        }
+        if self.scripted >= 20_000 {
+            return Ok(Some(FaultKind::TooMany));
+        }
+        self.scripted += 1;
+        let ppm = ppm(slow, parts as u8);
+        match self.rates.push(RateLine {
+            node,
+            from: tick,
+            ppm,
+        }) {
+            Ok(()) => Ok(None),
+            Err(_) => Err(Memory),
+        }
+    }
+
+    fn add_link(&mut self, from: u64, to: u64) -> Result<Option<FaultKind>, Memory>
+        ensures fault { IfOk result (λ k. k ≡ network_fault 0 self.old (Link from to)) }
+        ensures added { result ≡ Ok None → self.new ≡ with_line self.old (Link from to) }
+    {
+        if !are_two_ids(from, to) {
+            return Ok(Some(FaultKind::Range));
+        }
+        let Some((from, to)) = two_nodes(&self.nodes, from, to) else {
+            return Ok(Some(FaultKind::UnknownNode));
+        };
+        if !link(&mut self.trace, from, to)? {
+            return Ok(Some(FaultKind::Twice));
+        }
+        Ok(None)
+    }
+
+    fn add_pair(&mut self, one_end: u64, other_end: u64) -> Result<Option<FaultKind>, Memory>
+        ensures fault { IfOk result (λ k. k ≡ network_fault 0 self.old (Pair one_end other_end)) }
+        ensures added { result ≡ Ok None → self.new ≡ with_line self.old (Pair one_end other_end) }
+    {
+        if !are_two_ids(one_end, other_end) {
+            return Ok(Some(FaultKind::Range));
+        }
+        let Some((one, other)) = two_nodes(&self.nodes, one_end, other_end) else {
+            return Ok(Some(FaultKind::UnknownNode));
+        };
+        if !link(&mut self.trace, one, other)? || !link(&mut self.trace, other, one)? {
+            return Ok(Some(FaultKind::Twice));
+        }
+        Ok(None)
+    }
+}
+
+/// The node with that id.
+pub fn node_id(id: u64) -> Option<NodeId>
+    ensures { result ≡ (if is_id id then Some id else None) }
+{
+    NodeId::new(u8::try_from(id).ok()?)
+}
+
+/// Whether both are ids, and they differ.
+pub fn are_two_ids(from: u64, to: u64) -> bool
+    ensures { result ≡ are_ends from to }
+{
+    node_id(from).is_some() && node_id(to).is_some() && from != to
+}
+
+fn count_below(nodes: &[NodeLine], id: NodeId) -> usize
+    ensures count { result ≡ count_by (λ n. nat_lt n.node id) nodes.now }
+    ensures within { result ≤ length nodes.now }
+{
+    nodes.iter().filter(|n| n.node < id).count()
+}
+
+fn find_line(nodes: &[NodeLine], id: u64) -> Option<&NodeLine>
+    ensures { option_copied result ≡ find (λ n. n.node == id) nodes.now }
+{
+    nodes.iter().find(|n| u64::from(n.node.number()) == id)
+}
+
+/// The node of that id, if it is one of these.
+pub fn known(nodes: &[NodeLine], id: u64) -> Option<NodeId>
+    ensures { result ≡ (if knows_of nodes.now id then Some id else None) }
+{
+    let line = find_line(nodes, id)?;
+    Some(line.node)
+}
+
+/// Two of these nodes, by their ids.
+pub fn two_nodes(nodes: &[NodeLine], from: u64, to: u64) -> Option<(NodeId, NodeId)>
+    ensures { result ≡ (if knows_of nodes.now from && knows_of nodes.now to then Some (from, to) else None) }
+{
+    let from = known(nodes, from)?;
+    let to = known(nodes, to)?;
+    Some((from, to))
+}
+
+fn last_rate(rates: &[RateLine], node: NodeId) -> Option<&RateLine>
+    ensures { option_copied result ≡ last_rate_of rates.now node }
+{
+    rates.iter().rev().find(|r| r.node == node)
+}
+
+// Whether the tick is above that of the node's last rate.
+fn is_later(rates: &[RateLine], node: NodeId, tick: u64) -> bool
+    ensures { result ≡ option_map_or (λ r. nat_lt r.from tick) (last_rate_of rates.now node) true }
+{
+    match last_rate(rates, node) {
+        Some(rate) => rate.from < tick,
+        None => true,
+    }
+}
+
+fn ppm(slow: bool, parts: u8) -> i8
+    requires { parts ≤ 20 }
+    ensures { result ≡ ppm_of slow parts }
+{
+    let parts = parts as i8;
+    if slow { -parts } else { parts }
+}
+
+#[tactic(auto, using(crate::proofs::Known::link_is_there, crate::proofs::Known::link_is_new))]
+fn link(trace: &mut Trace, from: NodeId, to: NodeId) -> Result<bool, Memory>
+    ensures fresh { IfOk result (λ b. b ≡ not (has_link trace.old from to)) }
+    ensures added { result ≡ Ok true → trace.new ≡ with_link from to trace.old }
+{
+    trace.link(from, to)
+}
