@@ -7,3 +7,5 @@ pub mod Readings
 pub mod PlainExamples
 pub mod FloodExamples
 pub mod LineFeeds
+pub mod NodeIds
+pub mod FloodKeeps

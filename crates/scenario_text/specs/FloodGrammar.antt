@@ -1,12 +1,13 @@
 -- Flood text: what its lines say, and the first line that is refused.
 use Rattle.std.specs.Prelude.{◌≡◌, ℕ, ◌+◌, List, [], ◌∷◌, ◌++◌, Bool, true, false, not, ◌&&◌, ◌==◌, nat_lt, nat_le, if◌then◌else◌, Some, None, Option, is_none, is_some, Ok, Err, Result, length, drop, codes, option_map}
-use Rattle.std.specs.List.{list_all, list_any}
+use Rattle.std.specs.List.{list_all}
+use Rattle.std.specs.Option.{ok_or}
 use Rattle.std.specs.Str.{bytes_eq, is_utf8}
 use Rattle.std.specs.Str.Lines.{lines}
-use Rattle.link_trace.specs.Passes.{Lines, is_loss}
 use Rattle.scenario_text.specs.FloodParts.{FloodParts, knows}
+use Rattle.scenario_text.specs.Faults.{first_fault, unless_fault, in_line, ◌>>=◌}
 use Rattle.scenario_text.specs.Words.{words, word, is_skipped, is_number, number_at, counted}
-use Rattle.scenario_text.specs.Network.{Drafted, network_line, network_numbers, no_network, is_id, are_ends, first_fault, network_fault, has_script_room, with_line, rates_by_node}
+use Rattle.scenario_text.specs.Network.{Drafted, Parts, network_parts, network_line, network_numbers, no_network, is_id, are_ends, network_fault, has_loss, has_script_room, with_line, with_loss, with_script_line}
 use Rattle.scenario_text.specs.declared.fault.FaultKind.{FaultKind}
 use Rattle.scenario_text.specs.declared.fault.FaultKind.TheVariants.{NotUtf8, BadWord, BadNumber, Range, UnknownNode, Order, Twice, TooMany, Missing}
 use Rattle.scenario_text.specs.declared.flood_line.FloodLine.{FloodLine}
@@ -33,34 +34,24 @@ pub record Flood : Type 0 where
 abbrev pub no_flood : Flood
 no_flood = record { network = no_network; start = None }
 
-abbrev pub has_loss : Lines → ℕ → ℕ → ℕ → Bool
-has_loss t k u v = list_any (is_loss 5 1 k u v) t.losses
-
 -- the fault of a line that is spelled right
 abbrev pub rule_fault : Flood → FloodLine → Option FaultKind
 rule_fault f (InNetwork l) = network_fault 1048576000000 f.network l
 rule_fault f (Lose k u v) =
     first_fault
     ((nat_le k 11 && are_ends u v, Range) ∷ (knows f.network.nodes u && knows f.network.nodes v, UnknownNode)
-    ∷ (not (has_loss f.network.trace k u v), Twice) ∷ (has_script_room f.network, TooMany) ∷ [])
+    ∷ (not (has_loss f.network.trace 5 1 k u v), Twice) ∷ (has_script_room f.network, TooMany) ∷ [])
 rule_fault f (Start i) = first_fault ((is_id i, Range) ∷ (knows f.network.nodes i, UnknownNode) ∷ (is_none f.start, Twice) ∷ [])
-
-abbrev pub with_loss : ℕ → ℕ → ℕ → Lines → Lines
-with_loss k u v t = record t { losses = t.losses ++ record { frame = 5; slot = 1; step = k; from = u; to = v } ∷ [] }
 
 -- what the lines say with an allowed line more
 abbrev pub with_flood_line : Flood → FloodLine → Flood
 with_flood_line f (InNetwork l) = record f { network = with_line f.network l }
-with_flood_line f (Lose k u v) = record f { network = record f.network { trace = with_loss k u v f.network.trace; scripted = f.network.scripted + 1 } }
+with_flood_line f (Lose k u v) = record f { network = with_script_line f.network (with_loss 5 1 k u v f.network.trace) }
 with_flood_line f (Start i) = record f { start = Some i }
 
 -- behind a line that is spelled right, or its fault
 abbrev pub after_spelled : Flood → FloodLine → Result Flood FaultKind
-after_spelled f l = or_fault (rule_fault f l)
-  where
-    or_fault : Option FaultKind → Result Flood FaultKind
-    or_fault None = Ok (with_flood_line f l)
-    or_fault (Some k) = Err k
+after_spelled f l = unless_fault (rule_fault f l) (with_flood_line f l)
 
 -- behind a line of these words, or its fault
 abbrev pub after_words : Flood → List (List ℕ) → Option FloodLine → Result Flood FaultKind
@@ -73,15 +64,10 @@ after_line f line =
     let ws = words line in
     if is_skipped ws then Ok f else if is_utf8 line then after_words f ws (flood_line ws) else Err NotUtf8
 
--- a fault in line n
-abbrev pub in_line : {A : Type 0} → ℕ → Result A FaultKind → Result A (ℕ × FaultKind)
-in_line n (Ok x) = Ok x
-in_line n (Err k) = Err (n, k)
-
-infixl 10 ◌>>=◌
-abbrev pub ◌>>=◌ : {A B E : Type 0} → Result A E → (A → Result B E) → Result B E
-(Ok x) >>= f = f x
-(Err e) >>= f = Err e
+-- what was read of a line, seen by the draft behind it
+abbrev pub Reads : Option FaultKind → Flood → Result Flood FaultKind → Type 0
+Reads None new after = after ≡ Ok new
+Reads (Some k) new after = after ≡ Err k
 
 -- behind these lines, of which the first is line n, or the first fault
 abbrev pub after_lines : ℕ → Flood → List (List ℕ) → Result Flood (ℕ × FaultKind)
@@ -91,16 +77,13 @@ after_lines n f (line ∷ more) = do
   after_lines (n + 1) g more
 
 -- what a whole text says, which has sendings, two nodes at least, and a start
+abbrev pub parts_of : Option Parts → Option ℕ → Option FloodParts
+parts_of (Some p) (Some s) = Some (record { sends = p.sends; nodes = p.nodes; rates = p.rates; trace = p.trace; start = s })
+parts_of None start = None
+parts_of (Some p) None = None
+
 abbrev pub finished : Flood → Result FloodParts FaultKind
-finished f = parts_of f.network.sends f.start
-  where
-    parts_of : Option ℕ → Option ℕ → Result FloodParts FaultKind
-    parts_of (Some n) (Some s) =
-        if nat_le 2 (length f.network.nodes)
-        then Ok (record { sends = n; nodes = f.network.nodes; rates = rates_by_node f.network; trace = f.network.trace; start = s })
-        else Err Missing
-    parts_of None start = Err Missing
-    parts_of (Some n) None = Err Missing
+finished f = ok_or (parts_of (network_parts f.network f.network.sends) f.start) Missing
 
 -- what the bytes say, or their first fault and its line. What is missing is missing behind the last line
 abbrev pub flood_of : List ℕ → Result FloodParts (ℕ × FaultKind)

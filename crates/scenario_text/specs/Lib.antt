@@ -2,6 +2,8 @@ pub mod FloodParts
 pub mod PlainText
 pub mod Cursor
 pub mod Drafts
+pub mod Faults
 pub mod Words
 pub mod Network
 pub mod FloodGrammar
+pub mod FloodDrafts

@@ -3,8 +3,9 @@ use Rattle.std.specs.Prelude.{◌≡◌, ℕ, ◌+◌, ℤ, pos, neg_ℤ, List, 
 use Rattle.std.specs.List.{list_all, list_any, flat_map}
 use Rattle.std.specs.Str.{bytes_eq}
 use Rattle.std.specs.Option.{option_map_or}
-use Rattle.link_trace.specs.Passes.{Lines, is_link}
+use Rattle.link_trace.specs.Passes.{Lines, is_link, is_loss}
 use Rattle.scenario_text.specs.FloodParts.{knows}
+use Rattle.scenario_text.specs.Faults.{first_fault}
 use Rattle.scenario_text.specs.Words.{word, counted, is_number, is_signed, has_minus, magnitude, number, number_at}
 use Rattle.scenario_text.specs.declared.fault.FaultKind.{FaultKind}
 use Rattle.scenario_text.specs.declared.fault.FaultKind.TheVariants.{Range, UnknownNode, Order, Twice, TooMany}
@@ -51,11 +52,6 @@ is_id i = nat_le 1 i && nat_le i 200
 abbrev pub are_ends : ℕ → ℕ → Bool
 are_ends u v = is_id u && is_id v && not (u == v)
 
--- the first test that fails, by the fault that this makes
-abbrev pub first_fault : List (Bool × FaultKind) → Option FaultKind
-first_fault [] = None
-first_fault (t ∷ ts) = if t.0 then first_fault ts else Some t.1
-
 -- the numbers of the line are in their ranges: a tick is not above the last tick
 abbrev pub in_range : ℕ → NetworkLine → Bool
 in_range last (Sends n) = nat_le 1 n && nat_le n 4
@@ -86,6 +82,9 @@ in_order n (Pair u v) = true
 
 abbrev pub has_link : Lines → ℕ → ℕ → Bool
 has_link t u v = list_any (is_link u v) t.links
+
+abbrev pub has_loss : Lines → ℕ → ℕ → ℕ → ℕ → ℕ → Bool
+has_loss t f j k u v = list_any (is_loss f j k u v) t.losses
 
 -- no line above says the same
 abbrev pub is_new : Drafted → NetworkLine → Bool
@@ -120,6 +119,9 @@ with_node n ns = insert ns (count_by (λ m. nat_lt m.node n.node) ns) n
 abbrev pub with_link : ℕ → ℕ → Lines → Lines
 with_link u v t = record t { links = t.links ++ record { from = u; to = v } ∷ [] }
 
+abbrev pub with_loss : ℕ → ℕ → ℕ → ℕ → ℕ → Lines → Lines
+with_loss f j k u v t = record t { losses = t.losses ++ record { frame = f; slot = j; step = k; from = u; to = v } ∷ [] }
+
 -- by so many millionths fast, or slow
 abbrev pub ppm : Bool → ℕ → ℤ
 ppm slow p = if slow then neg_ℤ (pos p) else pos p
@@ -132,6 +134,25 @@ with_line n (Rate i t slow p) = record n { rates = n.rates ++ record { node = i;
 with_line n (Link u v) = record n { trace = with_link u v n.trace }
 with_line n (Pair u v) = record n { trace = with_link v u (with_link u v n.trace) }
 
+-- a script line more, which changes the trace
+abbrev pub with_script_line : Drafted → Lines → Drafted
+with_script_line n t = record n { trace = t; scripted = n.scripted + 1 }
+
 -- the rates of each node in turn, by tick
-abbrev pub rates_by_node : Drafted → List RateLine
-rates_by_node n = flat_map (λ m. filter (λ r. r.node == m.node) n.rates) n.nodes
+abbrev pub rates_by_node : List NodeLine → List RateLine → List RateLine
+rates_by_node ns rs = flat_map (λ n. filter (λ r. r.node == n.node) rs) ns
+
+-- what the lines say at the end
+pub record Parts : Type 0 where
+  pub sends : ℕ
+  pub nodes : List NodeLine
+  pub rates : List RateLine
+  pub trace : Lines
+
+-- with sendings and two nodes at least
+abbrev pub network_parts : Drafted → Option ℕ → Option Parts
+network_parts d None = None
+network_parts d (Some n) =
+    if nat_le 2 (length d.nodes)
+    then Some (record { sends = n; nodes = d.nodes; rates = rates_by_node d.nodes d.rates; trace = d.trace })
+    else None

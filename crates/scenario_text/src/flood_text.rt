@@ -1,6 +1,7 @@
 ghost use Rattle.std.specs.Prelude.{◌≡◌};
 ghost use Rattle.scenario_text.specs.FloodParts.{IsSound};
 
+use crate::network::Network;
 use crate::{NodeLine, RateLine};
 use link_trace::Trace;
 use lwb_base::NodeId;
@@ -39,6 +40,26 @@ impl FloodText {
         requires { IsSound (record { sends = sends; nodes = nodes.items; rates = rates.items; trace = trace; start = start }) }
         ensures { result ≡ record { sends = sends; nodes = nodes.items; rates = rates.items; trace = trace; start = start } }
     {
+        FloodText {
+            sends,
+            nodes,
+            rates,
+            trace,
+            start,
+        }
+    }
+
+    /// A text of these nodes with their links and losses, which that node starts.
+    pub fn of_network(network: Network, start: NodeId) -> FloodText
+        requires { IsSound (record { sends = network.sends; nodes = network.nodes; rates = network.rates; trace = network.trace; start = start }) }
+        ensures { result ≡ record { sends = network.sends; nodes = network.nodes; rates = network.rates; trace = network.trace; start = start } }
+    {
+        let Network {
+            sends,
+            nodes,
+            rates,
+            trace,
+        } = network;
         FloodText {
             sends,
             nodes,

@@ -1,11 +1,15 @@
-ghost use Rattle.std.specs.Prelude.{◌≡◌, ◌≤◌, ◌<◌, ◌&&◌, ◌==◌, not, nat_lt, nat_le, if◌then◌else◌, Ok, Some, None, true, false, ℕ, List, IfOk, count_by, reverse, length};
+ghost use Rattle.std.specs.Prelude.{◌≡◌, ◌≤◌, ◌<◌, ◌&&◌, ◌==◌, not, nat_lt, nat_le, if◌then◌else◌, [], ◌∷◌, Ok, Some, None, true, false, ℕ, List, IfOk, count_by, reverse, length};
 ghost use Rattle.std.specs.List.{find, list_any};
 ghost use Rattle.std.specs.Option.{option_copied, option_map_or};
 ghost use Rattle.scenario_text.specs.FloodParts.{knows as knows_of};
-ghost use Rattle.scenario_text.specs.Network.{no_network, network_fault, with_line, with_node, with_link, has_link, are_ends, last_rate as last_rate_of, ppm as ppm_of, is_id};
+ghost use Rattle.scenario_text.specs.Network.{no_network, network_parts, network_fault, with_line, with_node, with_link, has_link, has_loss, with_loss, with_script_line, has_script_room, are_ends, last_rate as last_rate_of, ppm as ppm_of, is_id};
+ghost use Rattle.scenario_text.specs.Faults.{first_fault};
+ghost use Rattle.scenario_text.specs.declared.fault.FaultKind.TheVariants.{Twice, TooMany};
 ghost use Rattle.scenario_text.specs.declared.network_line.NetworkLine.TheVariants.{Sends, Node, Rate, Link, Pair};
 
+use crate::network::Network;
 use crate::network_line::NetworkLine;
+use crate::rates::by_node;
 use crate::{FaultKind, NodeLine, RateLine};
 use link_trace::Trace;
 use lwb_base::{Memory, NodeId};
@@ -58,6 +62,77 @@ impl NetworkDraft {
             NetworkLine::Link(from, to) => self.add_link(from, to),
             NetworkLine::Pair(one_end, other_end) => self.add_pair(one_end, other_end),
         }
+    }
+
+    /// What the lines say: how often a node sends, the nodes by id, their rates by node and tick, and the trace. None
+    /// comes exactly where sendings or a second node is missing.
+    pub fn finish(self, alloc: Global) -> Result<Option<Network>, Memory>
+        ensures { IfOk result (λ p. p ≡ network_parts self self.sends) }
+    {
+        let NetworkDraft {
+            sends,
+            nodes,
+            rates,
+            trace,
+            ..
+        } = self;
+        let Some(sends) = sends else {
+            return Ok(None);
+        };
+        if nodes.len() < 2 {
+            return Ok(None);
+        }
+        let rates = by_node(alloc, &nodes, &rates)?;
+        Ok(Some(Network {
+            sends,
+            nodes,
+            rates,
+            trace,
+        }))
+    }
+
+    /// The node of that id, if it has a line.
+    pub fn node(&self, id: u64) -> Option<NodeId>
+        ensures { result ≡ (if knows_of self.now.nodes id then Some id else None) }
+    {
+        known(&self.nodes, id)
+    }
+
+    /// Two nodes, by their ids, if both have lines.
+    pub fn two_nodes(&self, from: u64, to: u64) -> Option<(NodeId, NodeId)>
+        ensures { result ≡ (if knows_of self.now.nodes from && knows_of self.now.nodes to then Some (from, to) else None) }
+    {
+        two_nodes(&self.nodes, from, to)
+    }
+
+    /// Goes on by a script line that loses a link in one step.
+    pub fn lose(
+        &mut self,
+        frame: u32,
+        slot: u8,
+        step: u8,
+        from: NodeId,
+        to: NodeId,
+    ) -> Result<Option<FaultKind>, Memory>
+        ensures fault { IfOk result (λ k. k ≡ first_fault ((not (has_loss self.old.trace frame slot step from to), Twice) ∷ (has_script_room self.old, TooMany) ∷ [])) }
+        ensures added { result ≡ Ok None → self.new ≡ with_script_line self.old (with_loss frame slot step from to self.old.trace) }
+    {
+        if !lose(&mut self.trace, frame, slot, step, from, to)? {
+            return Ok(Some(FaultKind::Twice));
+        }
+        Ok(self.count_script_line())
+    }
+
+    // One script line more, if there is room.
+    fn count_script_line(&mut self) -> Option<FaultKind>
+        ensures fault { result ≡ first_fault ((has_script_room self.old, TooMany) ∷ []) }
+        ensures added { result ≡ None → self.new ≡ with_script_line self.old self.old.trace }
+    {
+        if self.scripted >= 20_000 {
+            return Some(FaultKind::TooMany);
+        }
+        self.scripted += 1;
+        None
     }
 
     fn add_sends(&mut self, count: u64) -> Option<FaultKind>
@@ -239,4 +314,19 @@ fn link(trace: &mut Trace, from: NodeId, to: NodeId) -> Result<bool, Memory>
     ensures added { result ≡ Ok true → trace.new ≡ with_link from to trace.old }
 {
     trace.link(from, to)
+}
+
+#[tactic(auto, using(crate::proofs::Known::loss_is_there, crate::proofs::Known::loss_is_new))]
+fn lose(
+    trace: &mut Trace,
+    frame: u32,
+    slot: u8,
+    step: u8,
+    from: NodeId,
+    to: NodeId,
+) -> Result<bool, Memory>
+    ensures fresh { IfOk result (λ b. b ≡ not (has_loss trace.old frame slot step from to)) }
+    ensures added { result ≡ Ok true → trace.new ≡ with_loss frame slot step from to trace.old }
+{
+    trace.lose(frame, slot, step, from, to)
 }
