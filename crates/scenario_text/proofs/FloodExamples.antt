@@ -3,6 +3,7 @@ use Rattle.std.proofs.Common.{◌≡◌, ℕ, pos, negsuc, List, [], ◌∷◌, 
 use Rattle.std.specs.Str.Lines.{lines}
 use Rattle.std.specs.Str.{is_utf8, chars}
 use lib.Utf8.{encode}
+use Rattle.link_trace.specs.Sealed.{no_lines}
 use Rattle.scenario_text.specs.FloodParts.{FloodParts}
 use Rattle.scenario_text.specs.Words.{words, is_number, is_signed, is_skipped}
 use Rattle.scenario_text.specs.FloodGrammar.{flood_of, after_line, flood_line}
@@ -17,8 +18,8 @@ cut_into_lines = refl
 no_further_line : lines (codes "a\n") ≡ codes "a" ∷ []
 no_further_line = refl
 
-no_lines : lines [] ≡ []
-no_lines = refl
+nothing_cut : lines [] ≡ []
+nothing_cut = refl
 
 cut_into_words : words (codes " \tsends  2\t") ≡ codes "sends" ∷ codes "2" ∷ []
 cut_into_words = refl
@@ -44,6 +45,8 @@ its_parts = record {
   trace = record {
     links = record { from = 1; to = 2 } ∷ record { from = 2; to = 1 } ∷ record { from = 2; to = 3 } ∷ record { from = 3; to = 2 } ∷ [];
     losses = [];
+    cuts = [];
+    captures = [];
   };
   start = 1;
 }
@@ -76,7 +79,7 @@ with_rates : flood_of (codes "node 9 5\nnode  2 256000\r\n\n  rate 9 7 -20\nsend
       sends = 1;
       nodes = record { node = 2; offset = 256000 } ∷ record { node = 9; offset = 5 } ∷ [];
       rates = record { node = 2; from = 0; ppm = pos 20 } ∷ record { node = 9; from = 7; ppm = negsuc 19 } ∷ record { node = 9; from = 8; ppm = pos 0 } ∷ [];
-      trace = record { links = []; losses = [] };
+      trace = no_lines;
       start = 9;
     })
 unfolding after_line flood_line network_line is_utf8 chars encode

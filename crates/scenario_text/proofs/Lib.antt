@@ -9,3 +9,4 @@ pub mod FloodExamples
 pub mod LineFeeds
 pub mod NodeIds
 pub mod FloodKeeps
+pub mod LinksBack

@@ -3,7 +3,9 @@ use Rattle.std.specs.Prelude.{◌≡◌, ℕ, ◌+◌, ℤ, pos, neg_ℤ, List, 
 use Rattle.std.specs.List.{list_all, list_any, flat_map}
 use Rattle.std.specs.Str.{bytes_eq}
 use Rattle.std.specs.Option.{option_map_or}
+use Rattle.link_trace.specs.Order.{with_line as in_order_with, by_link, by_loss}
 use Rattle.link_trace.specs.Passes.{Lines, is_link, is_loss}
+use Rattle.link_trace.specs.Sealed.{no_lines}
 use Rattle.scenario_text.specs.FloodParts.{knows}
 use Rattle.scenario_text.specs.Faults.{first_fault}
 use Rattle.scenario_text.specs.Words.{word, counted, is_number, is_signed, has_minus, magnitude, number, number_at}
@@ -43,7 +45,7 @@ pub record Drafted : Type 0 where
   pub scripted : ℕ
 
 abbrev pub no_network : Drafted
-no_network = record { sends = None; nodes = []; rates = []; trace = record { links = []; losses = [] }; scripted = 0 }
+no_network = record { sends = None; nodes = []; rates = []; trace = no_lines; scripted = 0 }
 
 abbrev pub is_id : ℕ → Bool
 is_id i = nat_le 1 i && nat_le i 200
@@ -117,10 +119,10 @@ abbrev pub with_node : NodeLine → List NodeLine → List NodeLine
 with_node n ns = insert ns (count_by (λ m. nat_lt m.node n.node) ns) n
 
 abbrev pub with_link : ℕ → ℕ → Lines → Lines
-with_link u v t = record t { links = t.links ++ record { from = u; to = v } ∷ [] }
+with_link u v t = record t { links = in_order_with by_link (record { from = u; to = v }) t.links }
 
 abbrev pub with_loss : ℕ → ℕ → ℕ → ℕ → ℕ → Lines → Lines
-with_loss f j k u v t = record t { losses = t.losses ++ record { frame = f; slot = j; step = k; from = u; to = v } ∷ [] }
+with_loss f j k u v t = record t { losses = in_order_with by_loss (record { frame = f; slot = j; step = k; from = u; to = v }) t.losses }
 
 -- by so many millionths fast, or slow
 abbrev pub ppm : Bool → ℕ → ℤ

@@ -16,5 +16,5 @@ impl Model for Network {
 
     ghost Value = { Parts };
 
-    ghost view = { λ n. record { sends = n.sends; nodes = n.nodes.items; rates = n.rates.items; trace = n.trace } };
+    ghost view = { λ n. record { sends = n.sends; nodes = n.nodes.items; rates = n.rates.items; trace = n.trace.lines } };
 }

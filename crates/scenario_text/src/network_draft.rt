@@ -1,4 +1,4 @@
-ghost use Rattle.std.specs.Prelude.{◌≡◌, ◌≤◌, ◌<◌, ◌&&◌, ◌==◌, not, nat_lt, nat_le, if◌then◌else◌, [], ◌∷◌, Ok, Some, None, true, false, ℕ, List, IfOk, count_by, reverse, length};
+ghost use Rattle.std.specs.Prelude.{◌≡◌, ◌≢◌, ◌≤◌, ◌<◌, ◌&&◌, ◌==◌, not, nat_lt, nat_le, if◌then◌else◌, [], ◌∷◌, Ok, Some, None, true, false, ℕ, List, IfOk, count_by, reverse, length};
 ghost use Rattle.std.specs.List.{find, list_any};
 ghost use Rattle.std.specs.Option.{option_copied, option_map_or};
 ghost use Rattle.scenario_text.specs.FloodParts.{knows as knows_of};
@@ -31,7 +31,7 @@ impl Model for NetworkDraft {
 
     ghost Value = { Drafted };
 
-    ghost view = { λ d. record { sends = d.sends; nodes = d.nodes.items; rates = d.rates.items; trace = d.trace; scripted = d.scripted } };
+    ghost view = { λ d. record { sends = d.sends; nodes = d.nodes.items; rates = d.rates.items; trace = d.trace.lines; scripted = d.scripted } };
 }
 
 impl NetworkDraft {
@@ -233,7 +233,7 @@ impl NetworkDraft {
         let Some((one, other)) = two_nodes(&self.nodes, one_end, other_end) else {
             return Ok(Some(FaultKind::UnknownNode));
         };
-        if !link(&mut self.trace, one, other)? || !link(&mut self.trace, other, one)? {
+        if !pair(&mut self.trace, one, other)? {
             return Ok(Some(FaultKind::Twice));
         }
         Ok(None)
@@ -308,15 +308,26 @@ fn ppm(slow: bool, parts: u8) -> i8
     if slow { -parts } else { parts }
 }
 
-#[tactic(auto, using(crate::proofs::Known::link_is_there, crate::proofs::Known::link_is_new))]
 fn link(trace: &mut Trace, from: NodeId, to: NodeId) -> Result<bool, Memory>
-    ensures fresh { IfOk result (λ b. b ≡ not (has_link trace.old from to)) }
-    ensures added { result ≡ Ok true → trace.new ≡ with_link from to trace.old }
+    ensures fresh { IfOk result (λ b. b ≡ not (has_link trace.old.lines from to)) }
+    ensures added { result ≡ Ok true → trace.new.lines ≡ with_link from to trace.old.lines }
 {
     trace.link(from, to)
 }
 
-#[tactic(auto, using(crate::proofs::Known::loss_is_there, crate::proofs::Known::loss_is_new))]
+// Both links of two nodes, which differ.
+#[tactic(auto, using(crate::proofs::LinksBack::link_back))]
+fn pair(trace: &mut Trace, one: NodeId, other: NodeId) -> Result<bool, Memory>
+    requires { one ≢ other }
+    ensures fresh { IfOk result (λ b. b ≡ (not (has_link trace.old.lines one other) && not (has_link trace.old.lines other one))) }
+    ensures added { result ≡ Ok true → trace.new.lines ≡ with_link other one (with_link one other trace.old.lines) }
+{
+    if !link(trace, one, other)? {
+        return Ok(false);
+    }
+    link(trace, other, one)
+}
+
 fn lose(
     trace: &mut Trace,
     frame: u32,
@@ -325,8 +336,8 @@ fn lose(
     from: NodeId,
     to: NodeId,
 ) -> Result<bool, Memory>
-    ensures fresh { IfOk result (λ b. b ≡ not (has_loss trace.old frame slot step from to)) }
-    ensures added { result ≡ Ok true → trace.new ≡ with_loss frame slot step from to trace.old }
+    ensures fresh { IfOk result (λ b. b ≡ not (has_loss trace.old.lines frame slot step from to)) }
+    ensures added { result ≡ Ok true → trace.new.lines ≡ with_loss frame slot step from to trace.old.lines }
 {
     trace.lose(frame, slot, step, from, to)
 }
