@@ -1,7 +1,5 @@
 pub mod FloodParts
-pub mod PlainText
-pub mod Cursor
-pub mod Drafts
+pub mod FaultNames
 pub mod Faults
 pub mod Words
 pub mod Network

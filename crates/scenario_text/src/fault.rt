@@ -1,3 +1,8 @@
+ghost use Rattle.std.specs.Prelude.{Some};
+ghost use Rattle.scenario_text.specs.FaultNames.{kind_name};
+
+use std::fmt;
+
 /// Why a line of a text is refused. Where several hold of a line, the first of this list is named.
 #[derive(Clone, Copy, Debug, PartialEq, Eq)]
 pub enum FaultKind {
@@ -21,6 +26,25 @@ pub enum FaultKind {
     Missing,
     /// At the end of the text: it has too many nodes for its frames.
     TooBig,
+}
+
+impl fmt::Display for FaultKind {
+    ghost output = { λ k. Some (kind_name k) };
+
+    fn fmt<W: fmt::Write>(&self, f: &mut fmt::Formatter<W>) -> fmt::Result {
+        f.write_str(match self {
+            FaultKind::NotUtf8 => "NotUtf8",
+            FaultKind::BadWord => "BadWord",
+            FaultKind::BadNumber => "BadNumber",
+            FaultKind::Range => "Range",
+            FaultKind::UnknownNode => "UnknownNode",
+            FaultKind::Order => "Order",
+            FaultKind::Twice => "Twice",
+            FaultKind::TooMany => "TooMany",
+            FaultKind::Missing => "Missing",
+            FaultKind::TooBig => "TooBig",
+        })
+    }
 }
 
 /// Why a text is not read.

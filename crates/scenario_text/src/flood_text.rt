@@ -29,28 +29,8 @@ impl Model for FloodText {
 }
 
 impl FloodText {
-    /// A text with these parts.
-    pub fn of_parts(
-        sends: u8,
-        nodes: Vec<NodeLine>,
-        rates: Vec<RateLine>,
-        trace: Trace,
-        start: NodeId,
-    ) -> FloodText
-        requires { IsSound (record { sends = sends; nodes = nodes.items; rates = rates.items; trace = trace.lines; start = start }) }
-        ensures { result ≡ record { sends = sends; nodes = nodes.items; rates = rates.items; trace = trace.lines; start = start } }
-    {
-        FloodText {
-            sends,
-            nodes,
-            rates,
-            trace,
-            start,
-        }
-    }
-
     /// A text of these nodes with their links and losses, which that node starts.
-    pub fn of_network(network: Network, start: NodeId) -> FloodText
+    pub(crate) fn of_network(network: Network, start: NodeId) -> FloodText
         requires { IsSound (record { sends = network.sends; nodes = network.nodes; rates = network.rates; trace = network.trace; start = start }) }
         ensures { result ≡ record { sends = network.sends; nodes = network.nodes; rates = network.rates; trace = network.trace; start = start } }
     {

@@ -1,8 +1,6 @@
-//! Flood texts: what they say, and a reader of their plain form.
+//! Texts of floods and scenarios: what they say, and the first line that is refused.
 #![tactic(auto)]
 
-mod cursor;
-mod draft;
 mod fault;
 mod flood;
 mod flood_draft;
@@ -13,8 +11,6 @@ mod network;
 mod network_draft;
 mod network_line;
 mod numbers;
-mod plain;
-mod plain_line;
 mod rates;
 mod words;
 
@@ -22,7 +18,6 @@ pub use fault::{FaultKind, ParseFault};
 pub use flood::parse_flood;
 pub use flood_text::FloodText;
 pub use lines::{NodeLine, RateLine};
-pub use plain::{PlainFault, parse_plain, plain_text_is_unambiguous};
 
 #[cfg(test)]
 mod tests;
