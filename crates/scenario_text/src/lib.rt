@@ -12,12 +12,15 @@ mod network_draft;
 mod network_line;
 mod numbers;
 mod rates;
+mod scenario_line;
+mod script;
 mod words;
 
 pub use fault::{FaultKind, ParseFault};
 pub use flood::parse_flood;
 pub use flood_text::FloodText;
 pub use lines::{NodeLine, RateLine};
+pub use script::{Act, ScriptLine};
 
 #[cfg(test)]
 mod tests;
