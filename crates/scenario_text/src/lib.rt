@@ -11,6 +11,7 @@ mod network;
 mod network_draft;
 mod network_line;
 mod numbers;
+mod payloads;
 mod rates;
 mod scenario_line;
 mod script;
