@@ -1,10 +1,12 @@
 -- What the words ask for, and the text that is due.
-use Rattle.std.specs.Prelude.{◌≡◌, ◌<◌, ◌≤◌, ◌+◌, ◌⊎◌, ℕ, List, [], ◌∷◌, length, take, Option, codes}
+use Rattle.std.specs.Prelude.{◌≡◌, ◌<◌, ◌≤◌, ◌+◌, ◌⊎◌, ℕ, List, [], ◌∷◌, ◌++◌, length, take, Option, Ok, Err, codes, decimal}
 use Rattle.std.specs.Io.KnownBytes.{Appends, Consumes, IsAtEnd}
 use Rattle.lwb_base.specs.Reading.{Took}
 use Rattle.lwb_base.specs.declared.read.TheConstants.{INPUT_LIMIT}
 use Rattle.scenario_text.specs.FloodParts.{FloodParts}
-use Rattle.scenario_text.specs.PlainText.{Reads}
+use Rattle.scenario_text.specs.FaultNames.{kind_name}
+use Rattle.scenario_text.specs.FloodGrammar.{flood_of}
+use Rattle.scenario_text.specs.declared.fault.FaultKind.{FaultKind}
 use Rattle.bus_model.specs.FloodOfText.{outcome}
 use Rattle.replay_tool.specs.FloodReport.{flood_report}
 
@@ -14,8 +16,8 @@ IsFlood words = words ≡ codes "flood" ∷ []
 abbrev pub usage : List ℕ
 usage = codes "usage: flood\n"
 
-abbrev pub refusal : List ℕ
-refusal = codes "fault text\n"
+abbrev pub fault_line : ℕ → FaultKind → List ℕ
+fault_line n k = codes "fault line " ++ decimal n ++ codes ": " ++ kind_name k ++ 10 ∷ []
 
 abbrev pub too_long : List ℕ
 too_long = codes "fault too long\n"
@@ -23,12 +25,15 @@ too_long = codes "fault too long\n"
 -- the report of the flood that these bytes are a text of
 pub record IsReport (b text : List ℕ) : Type 0 where
   pub flood : FloodParts
-  pub reads : Reads b flood
+  pub said : flood_of b ≡ Ok flood
   pub is : text ≡ flood_report (outcome flood)
 
--- the bytes are no flood text
-pub record IsNoText (b : List ℕ) : Type 0 where
-  pub none : (f : FloodParts) → Reads b f → ⊥
+-- the line that names the first fault of these bytes, which are no flood text
+pub record IsFaultLine (b text : List ℕ) : Type 0 where
+  pub line : ℕ
+  pub kind : FaultKind
+  pub said : flood_of b ≡ Err (line, kind)
+  pub is : text ≡ fault_line line kind
 
 -- all bytes were read to the end, at most so many as are allowed, and this holds of them
 abbrev pub WholeRead : Option (List ℕ) → Option (List ℕ) → (List ℕ → Type 0) → Type 0
@@ -45,7 +50,7 @@ ReportDue words old new text = IsFlood words × WholeRead old new (λ b. IsRepor
 -- a fault line is due
 abbrev pub FaultDue : List (List ℕ) → Option (List ℕ) → Option (List ℕ) → List ℕ → Type 0
 FaultDue words old new text =
-    IsFlood words × ((WholeRead old new IsNoText × (text ≡ refusal)) ⊎ (TooMuchRead old new × (text ≡ too_long)))
+    IsFlood words × (WholeRead old new (λ b. IsFaultLine b text) ⊎ (TooMuchRead old new × (text ≡ too_long)))
 
 -- the usage line is due
 abbrev pub UsageDue : List (List ℕ) → List ℕ → Type 0
@@ -65,6 +70,6 @@ PartWritten old new Due = (text : List ℕ) × (gone : ℕ) × Due text × (gone
 
 -- where b was left and nothing failed, the status is the one that is due, or want of memory
 pub record IsComplete (b : List ℕ) (status : ℕ) : Type 0 where
-  pub accepted : (f : FloodParts) → Reads b f → length b ≤ INPUT_LIMIT → (status ≡ 0) ⊎ (status ≡ 5)
-  pub refused : IsNoText b → length b ≤ INPUT_LIMIT → (status ≡ 1) ⊎ (status ≡ 5)
+  pub accepted : (f : FloodParts) → flood_of b ≡ Ok f → length b ≤ INPUT_LIMIT → (status ≡ 0) ⊎ (status ≡ 5)
+  pub refused : (n : ℕ) (k : FaultKind) → flood_of b ≡ Err (n, k) → length b ≤ INPUT_LIMIT → (status ≡ 1) ⊎ (status ≡ 5)
   pub too_long : INPUT_LIMIT < length b → (status ≡ 1) ⊎ (status ≡ 5)

@@ -1,3 +1,4 @@
 pub mod WholeSteps
 pub mod FloodReport
 pub mod CommandLine
+pub mod FloodAnswers

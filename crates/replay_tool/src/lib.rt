@@ -2,6 +2,7 @@
 #![tactic(auto)]
 
 mod command;
+mod flood_answer;
 mod report;
 mod top_call;
 mod whole_steps;

@@ -1,15 +1,11 @@
 ghost use Rattle.std.specs.Prelude.{◌≡◌, ◌≢◌, ◌⊎◌, ◌≤◌, ◌<◌, ℕ, List, Option, Some, length, take, IfOk, IfSome, IfNone, map, string_bytes};
 ghost use Rattle.std.specs.Io.KnownBytes.{Appends};
 ghost use Rattle.lwb_base.specs.Causes.{Rose};
-ghost use Rattle.scenario_text.specs.FloodParts.{FloodParts};
-ghost use Rattle.scenario_text.specs.PlainText.{Reads};
-ghost use Rattle.replay_tool.specs.CommandLine.{IsFlood, IsReport, IsNoText, ReportDue, FaultDue, UsageDue, SomeDue, IsComplete, Written, PartWritten};
+ghost use Rattle.replay_tool.specs.CommandLine.{IsFlood, ReportDue, FaultDue, UsageDue, SomeDue, IsComplete, Written, PartWritten};
 
 use crate::command::is_flood;
-use crate::report::flood_report;
-use crate::whole_steps::flood_by_whole_steps;
+use crate::flood_answer::{FloodAnswer, flood_answer};
 use lwb_base::{INPUT_LIMIT, Memory, ReadStop, Sink, Source, read_all, write_all};
-use scenario_text::{PlainFault, parse_plain};
 use std::alloc::Global;
 
 /// How a call of `top` ended.
@@ -21,8 +17,6 @@ pub struct Outcome {
 }
 
 const USAGE: &[u8; 13] = b"usage: flood\n";
-
-const REFUSAL: &[u8; 11] = b"fault text\n";
 
 const TOO_LONG: &[u8; 15] = b"fault too long\n";
 
@@ -62,27 +56,10 @@ pub fn top<S: Source, K: Sink>(
         Err(ReadStop::TooLong) => return say(sink, TOO_LONG, 1),
         Err(ReadStop::Memory) => return Outcome { status: 5 },
     };
-    match flood_text(alloc, &bytes) {
-        Ok(Some(text)) => say(sink, text.as_bytes(), 0),
-        Ok(None) => say(sink, REFUSAL, 1),
+    match flood_answer(alloc, &bytes) {
+        Ok(FloodAnswer::Report(text)) => say(sink, text.as_bytes(), 0),
+        Ok(FloodAnswer::Fault(text)) => say(sink, text.as_bytes(), 1),
         Err(Memory) => Outcome { status: 5 },
-    }
-}
-
-// The report of the flood that the bytes are a text of. None exactly where they are no flood text.
-fn flood_text(alloc: Global, bytes: &[u8]) -> Result<Option<String>, Memory>
-    ensures report { IfOk result (λ o. IfSome o (λ text. IsReport bytes.now (string_bytes text))) }
-    ensures refused { IfOk result (λ o. IfNone o (IsNoText bytes.now)) }
-{
-    let text = match parse_plain(alloc, bytes) {
-        Ok(text) => text,
-        Err(PlainFault::NotPlain) => return Ok(None),
-        Err(PlainFault::Memory) => return Err(Memory),
-    };
-    let result = flood_by_whole_steps(alloc, &text)?;
-    match flood_report(alloc, &result) {
-        Ok(report) => Ok(Some(report)),
-        Err(_) => Err(Memory),
     }
 }
 

@@ -1,6 +1,7 @@
 pub mod Digits
 pub mod Known
 pub mod FloodExamples
+pub mod ScenarioExamples
 pub mod LineFeeds
 pub mod NodeIds
 pub mod FloodKeeps

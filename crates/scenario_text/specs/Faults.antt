@@ -1,5 +1,5 @@
 -- Refusals: which fault comes first, and in which line.
-use Rattle.std.specs.Prelude.{◌≡◌, ℕ, List, [], ◌∷◌, Bool, if◌then◌else◌, Some, None, Option, Ok, Err, Result}
+use Rattle.std.specs.Prelude.{◌≡◌, ℕ, ◌+◌, List, [], ◌∷◌, Bool, if◌then◌else◌, Some, None, Option, Ok, Err, Result}
 use Rattle.scenario_text.specs.declared.fault.FaultKind.{FaultKind}
 use Rattle.scenario_text.specs.declared.fault.ParseFault.{ParseFault}
 use Rattle.scenario_text.specs.declared.fault.ParseFault.TheVariants.{Line, Memory}
@@ -22,6 +22,13 @@ infixl 10 ◌>>=◌
 abbrev pub ◌>>=◌ : {A B E : Type 0} → Result A E → (A → Result B E) → Result B E
 (Ok x) >>= f = f x
 (Err e) >>= f = Err e
+
+-- behind these lines, of which the first is line n, or the first fault: `after` says what is behind one line
+abbrev pub after_lines : {D : Type 0} → (D → List ℕ → Result D FaultKind) → ℕ → D → List (List ℕ) → Result D (ℕ × FaultKind)
+after_lines after n d [] = Ok d
+after_lines after n d (line ∷ more) = do
+  e ← in_line n (after d line)
+  after_lines after (n + 1) e more
 
 -- what was answered is what the definition says, unless memory ran out
 abbrev pub Gives : {A : Type 0} → Result A ParseFault → Result A (ℕ × FaultKind) → Type 0

@@ -5,7 +5,7 @@ use Rattle.std.specs.Option.{ok_or}
 use Rattle.std.specs.Str.{bytes_eq, is_utf8}
 use Rattle.std.specs.Str.Lines.{lines}
 use Rattle.scenario_text.specs.FloodParts.{FloodParts, knows}
-use Rattle.scenario_text.specs.Faults.{first_fault, unless_fault, in_line, ◌>>=◌}
+use Rattle.scenario_text.specs.Faults.{first_fault, unless_fault, in_line, ◌>>=◌, after_lines}
 use Rattle.scenario_text.specs.Words.{words, word, is_skipped, is_number, number_at, counted}
 use Rattle.scenario_text.specs.Network.{Drafted, Parts, network_parts, network_line, network_numbers, no_network, is_id, are_ends, network_fault, has_loss, has_script_room, with_line, with_loss, with_script_line}
 use Rattle.scenario_text.specs.declared.fault.FaultKind.{FaultKind}
@@ -69,13 +69,6 @@ abbrev pub Reads : Option FaultKind → Flood → Result Flood FaultKind → Typ
 Reads None new after = after ≡ Ok new
 Reads (Some k) new after = after ≡ Err k
 
--- behind these lines, of which the first is line n, or the first fault
-abbrev pub after_lines : ℕ → Flood → List (List ℕ) → Result Flood (ℕ × FaultKind)
-after_lines n f [] = Ok f
-after_lines n f (line ∷ more) = do
-  g ← in_line n (after_line f line)
-  after_lines (n + 1) g more
-
 -- what a whole text says, which has sendings, two nodes at least, and a start
 abbrev pub parts_of : Option Parts → Option ℕ → Option FloodParts
 parts_of (Some p) (Some s) = Some (record { sends = p.sends; nodes = p.nodes; rates = p.rates; trace = p.trace; start = s })
@@ -88,5 +81,5 @@ finished f = ok_or (parts_of (network_parts f.network f.network.sends) f.start) 
 -- what the bytes say, or their first fault and its line. What is missing is missing behind the last line
 abbrev pub flood_of : List ℕ → Result FloodParts (ℕ × FaultKind)
 flood_of bytes = do
-  f ← after_lines 1 no_flood (lines bytes)
+  f ← after_lines after_line 1 no_flood (lines bytes)
   in_line (length (lines bytes) + 1) (finished f)

@@ -5,3 +5,6 @@ pub mod Words
 pub mod Network
 pub mod FloodGrammar
 pub mod FloodDrafts
+pub mod Payloads
+pub mod ScenarioParts
+pub mod ScenarioGrammar

@@ -1,7 +1,7 @@
 ghost use Rattle.std.specs.Prelude.{◌≡◌, ◌<◌, ◌≤◌, ◌^◌, ◌+◌, ℕ, IfOk, length};
 ghost use Rattle.std.specs.Str.Lines.{lines};
-ghost use Rattle.scenario_text.specs.FloodGrammar.{flood_of, after_lines, no_flood};
-ghost use Rattle.scenario_text.specs.Faults.{Gives};
+ghost use Rattle.scenario_text.specs.FloodGrammar.{flood_of, after_line, no_flood};
+ghost use Rattle.scenario_text.specs.Faults.{Gives, after_lines};
 ghost use Rattle.scenario_text.specs.FloodDrafts.{IsFlood, Drafts};
 
 use crate::flood_draft::FloodDraft;
@@ -25,7 +25,7 @@ pub fn parse_flood(alloc: Global, bytes: &[u8]) -> Result<FloodText, ParseFault>
 // What all lines say, and how many there are.
 fn read_lines(alloc: Global, bytes: &[u8]) -> Result<(FloodDraft, u32), ParseFault>
     requires { length bytes.now < 2 ^ 31 }
-    ensures draft { Drafts result (after_lines 1 no_flood (lines bytes.now)) }
+    ensures draft { Drafts result (after_lines after_line 1 no_flood (lines bytes.now)) }
     ensures sound { IfOk result (λ d. IsFlood d.0) }
     ensures count { IfOk result (λ d. (d.1 ≡ length (lines bytes.now)) × (d.1 ≤ length bytes.now)) }
 {

@@ -11,13 +11,17 @@ mod network;
 mod network_draft;
 mod network_line;
 mod numbers;
+mod payloads;
 mod rates;
+mod scenario_line;
+mod script;
 mod words;
 
 pub use fault::{FaultKind, ParseFault};
 pub use flood::parse_flood;
 pub use flood_text::FloodText;
 pub use lines::{NodeLine, RateLine};
+pub use script::{Act, ScriptLine};
 
 #[cfg(test)]
 mod tests;

@@ -1,0 +1,299 @@
+-- The text of a scenario: what its lines say, and the first line that is refused.
+use Rattle.std.specs.Prelude.{◌≡◌, ℕ, ◌+◌, ◌-◌, ◌*◌, List, [], ◌∷◌, ◌++◌, Bool, true, false, not, ◌&&◌, ◌||◌, ◌==◌, nat_lt, nat_le, if◌then◌else◌, Some, None, Option, is_none, is_some, Ok, Err, Result, length, drop, codes, option_map, replicate, slice_get, slice_set, slice_index, slice_index_or}
+use Rattle.std.specs.List.{list_all, list_any}
+use Rattle.std.specs.Option.{ok_or, option_map_or}
+use Rattle.std.specs.Str.{bytes_eq, is_utf8}
+use Rattle.std.specs.Str.Lines.{lines}
+use Rattle.lwb_base.specs.Profile.{Numbers, one, contended}
+use Rattle.link_trace.specs.Order.{with_line as in_order_with, by_cut, by_capture}
+use Rattle.link_trace.specs.Passes.{Lines, is_cut, is_capture}
+use Rattle.scenario_text.specs.FloodParts.{knows}
+use Rattle.scenario_text.specs.ScenarioParts.{ScenarioParts}
+use Rattle.scenario_text.specs.Faults.{first_fault, unless_fault, in_line, ◌>>=◌, after_lines}
+use Rattle.scenario_text.specs.Payloads.{is_payload, payload}
+use Rattle.scenario_text.specs.Words.{words, word, is_skipped, is_number, number_at, counted}
+use Rattle.scenario_text.specs.Network.{Drafted, Parts, network_parts, network_line, network_numbers, no_network, is_id, are_ends, has_loss, has_script_room, with_line, with_loss, with_script_line, in_range, knows_ids, in_order, is_new, has_room}
+use Rattle.scenario_text.specs.declared.fault.FaultKind.{FaultKind}
+use Rattle.scenario_text.specs.declared.fault.FaultKind.TheVariants.{NotUtf8, BadWord, BadNumber, Range, UnknownNode, Order, Twice, TooMany, Missing, TooBig}
+use Rattle.scenario_text.specs.declared.scenario_line.ScenarioLine.{ScenarioLine}
+use Rattle.scenario_text.specs.declared.scenario_line.ScenarioLine.TheVariants.{InNetwork, Profile, Contend, Frames, Host, On, Off, Stream, Leave, Put, Lose, Cut, Capture}
+use Rattle.scenario_text.specs.declared.script.ScriptLine.{ScriptLine}
+use Rattle.scenario_text.specs.declared.script.Act.{Act}
+use Rattle.scenario_text.specs.declared.script.Act.TheVariants as act
+
+abbrev pub begins : List (List ℕ) → List ℕ → Bool
+begins ws letters = bytes_eq (word ws 0) letters
+
+-- what the words say, if they are those of a line
+unfoldable pub scenario_line : List (List ℕ) → Option ScenarioLine
+scenario_line ws =
+    if begins ws (codes "profile") then counted 2 ws (Profile (number_at ws 1))
+    else if begins ws (codes "contend") then counted 2 ws (Contend (number_at ws 1))
+    else if begins ws (codes "frames") then counted 2 ws (Frames (number_at ws 1))
+    else if begins ws (codes "host") then counted 3 ws (Host (number_at ws 1) (number_at ws 2))
+    else if begins ws (codes "on") then counted 3 ws (On (number_at ws 1) (number_at ws 2))
+    else if begins ws (codes "off") then counted 3 ws (Off (number_at ws 1) (number_at ws 2))
+    else if begins ws (codes "stream") then counted 5 ws (Stream (number_at ws 1) (number_at ws 2) (number_at ws 3) (number_at ws 4))
+    else if begins ws (codes "leave") then counted 4 ws (Leave (number_at ws 1) (number_at ws 2) (number_at ws 3))
+    else if begins ws (codes "put")
+    then (if is_payload (word ws 4) then counted 5 ws (Put (number_at ws 1) (number_at ws 2) (number_at ws 3) (payload (word ws 4))) else None)
+    else if begins ws (codes "lose") then counted 6 ws (Lose (number_at ws 1) (number_at ws 2) (number_at ws 3) (number_at ws 4) (number_at ws 5))
+    else if begins ws (codes "cut") then counted 5 ws (Cut (number_at ws 1) (number_at ws 2) (number_at ws 3) (number_at ws 4))
+    else if begins ws (codes "capture") then counted 6 ws (Capture (number_at ws 1) (number_at ws 2) (number_at ws 3) (number_at ws 4) (number_at ws 5))
+    else option_map InNetwork (network_line ws)
+
+-- the numbers of the line are spelled right
+abbrev pub scenario_numbers : ScenarioLine → List (List ℕ) → Bool
+scenario_numbers (InNetwork l) ws = network_numbers l ws
+scenario_numbers (Put f i s p) ws = is_number (word ws 1) && is_number (word ws 2) && is_number (word ws 3)
+scenario_numbers other ws = list_all is_number (drop 1 ws)
+
+-- what the lines above say: whether there are none, whether the last of them is `profile 2`, whether the profile is the
+-- second, its contention slots, the frames, the hosts by rank, the script, and for each id whether the node is on and how
+-- often it booted
+pub record Scenario : Type 0 where
+  pub network : Drafted
+  pub first : Bool
+  pub after_two : Bool
+  pub two : Bool
+  pub contend : Option ℕ
+  pub frames : Option ℕ
+  pub hosts : List ℕ
+  pub script : List ScriptLine
+  pub on : List Bool
+  pub boots : List ℕ
+
+abbrev pub no_scenario : Scenario
+no_scenario = record {
+  network = no_network;
+  first = true;
+  after_two = false;
+  two = false;
+  contend = None;
+  frames = None;
+  hosts = [];
+  script = [];
+  on = replicate 201 false;
+  boots = replicate 201 0;
+}
+
+abbrev pub last_tick : Bool → ℕ
+last_tick two = if two then 1310720000000 else 1048576000000
+
+abbrev pub last_slot : Option ℕ → ℕ
+last_slot contend = if is_some contend then 45 else 42
+
+abbrev pub longest_payload : Bool → ℕ
+longest_payload two = if two then 96 else 32
+
+-- a frame number, which is below the number of frames once that is known
+abbrev pub is_frame : Option ℕ → ℕ → Bool
+is_frame None f = nat_le f 4095
+is_frame (Some n) f = nat_lt f n
+
+abbrev pub is_short : Bool → Option (List ℕ) → Bool
+is_short two p = option_map_or (λ bytes. nat_le (length bytes) (longest_payload two)) p false
+
+-- a step of a slot of a frame
+abbrev pub is_step : Scenario → ℕ → ℕ → ℕ → Bool
+is_step d f j k = is_frame d.frames f && nat_le j (last_slot d.contend) && nat_le k 11
+
+-- the numbers of the line are in their ranges
+abbrev pub line_in_range : Scenario → ScenarioLine → Bool
+line_in_range d (InNetwork l) = in_range (last_tick d.two) l
+line_in_range d (Profile p) = nat_le 1 p && nat_le p 2
+line_in_range d (Contend c) = nat_le 1 c && nat_le c 4
+line_in_range d (Frames f) = nat_le 1 f && nat_le f 4096
+line_in_range d (Host r i) = nat_le r 3 && is_id i
+line_in_range d (On f i) = is_frame d.frames f && is_id i
+line_in_range d (Off f i) = is_frame d.frames f && is_id i
+line_in_range d (Stream f i s n) = is_frame d.frames f && is_id i && nat_le s 3 && nat_le 1 n && nat_le n 120
+line_in_range d (Leave f i s) = is_frame d.frames f && is_id i && nat_le s 3
+line_in_range d (Put f i s p) = is_frame d.frames f && is_id i && nat_le s 3 && is_short d.two p
+line_in_range d (Lose f j k u v) = is_step d f j k && are_ends u v
+line_in_range d (Cut f j k i) = is_step d f j k && is_id i
+line_in_range d (Capture f j k a b) = is_step d f j k && are_ends a b
+
+-- the ids of the line have lines above
+abbrev pub line_knows_ids : Scenario → ScenarioLine → Bool
+line_knows_ids d (InNetwork l) = knows_ids d.network l
+line_knows_ids d (Profile p) = true
+line_knows_ids d (Contend c) = true
+line_knows_ids d (Frames f) = true
+line_knows_ids d (Host r i) = knows d.network.nodes i
+line_knows_ids d (On f i) = knows d.network.nodes i
+line_knows_ids d (Off f i) = knows d.network.nodes i
+line_knows_ids d (Stream f i s n) = knows d.network.nodes i
+line_knows_ids d (Leave f i s) = knows d.network.nodes i
+line_knows_ids d (Put f i s p) = knows d.network.nodes i
+line_knows_ids d (Lose f j k u v) = knows d.network.nodes u && knows d.network.nodes v
+line_knows_ids d (Cut f j k i) = knows d.network.nodes i
+line_knows_ids d (Capture f j k a b) = knows d.network.nodes a && knows d.network.nodes b
+
+abbrev pub last_script_line : List ScriptLine → Option ScriptLine
+last_script_line ls = slice_get ls (length ls - 1)
+
+-- frames are given, and no line of the script is of a later frame
+abbrev pub in_script_order : Scenario → ℕ → Bool
+in_script_order d f = is_some d.frames && option_map_or (λ l. nat_le l.frame f) (last_script_line d.script) true
+
+-- the line may stand here
+abbrev pub line_in_order : Scenario → ScenarioLine → Bool
+line_in_order d (InNetwork l) = in_order d.network l
+line_in_order d (Profile p) = d.first
+line_in_order d (Contend c) = d.after_two
+line_in_order d (Frames f) = true
+line_in_order d (Host r i) = nat_le r (length d.hosts)
+line_in_order d (On f i) = in_script_order d f
+line_in_order d (Off f i) = in_script_order d f
+line_in_order d (Stream f i s n) = in_script_order d f
+line_in_order d (Leave f i s) = in_script_order d f
+line_in_order d (Put f i s p) = in_script_order d f
+line_in_order d (Lose f j k u v) = is_some d.frames
+line_in_order d (Cut f j k i) = is_some d.frames
+line_in_order d (Capture f j k a b) = is_some d.frames
+
+abbrev pub has_cut : Lines → ℕ → ℕ → ℕ → ℕ → Bool
+has_cut t f j k i = list_any (is_cut f j k i) t.cuts
+
+abbrev pub has_capture : Lines → ℕ → ℕ → ℕ → ℕ → Bool
+has_capture t f j k a = list_any (is_capture f j k a) t.captures
+
+-- no line above says the same
+abbrev pub line_is_new : Scenario → ScenarioLine → Bool
+line_is_new d (InNetwork l) = is_new d.network l
+line_is_new d (Profile p) = true
+line_is_new d (Contend c) = true
+line_is_new d (Frames f) = is_none d.frames
+line_is_new d (Host r i) = (r == length d.hosts) && not (list_any (λ h. h == i) d.hosts)
+line_is_new d (On f i) = true
+line_is_new d (Off f i) = true
+line_is_new d (Stream f i s n) = true
+line_is_new d (Leave f i s) = true
+line_is_new d (Put f i s p) = true
+line_is_new d (Lose f j k u v) = not (has_loss d.network.trace f j k u v)
+line_is_new d (Cut f j k i) = not (has_cut d.network.trace f j k i)
+line_is_new d (Capture f j k a b) = not (has_capture d.network.trace f j k a)
+
+abbrev pub is_on : Scenario → ℕ → Bool
+is_on d i = slice_index_or d.on i false
+
+abbrev pub boots_of : Scenario → ℕ → ℕ
+boots_of d i = slice_index d.boots i
+
+-- there are not too many nodes, script lines or boots yet
+abbrev pub line_has_room : Scenario → ScenarioLine → Bool
+line_has_room d (InNetwork l) = has_room d.network l
+line_has_room d (Profile p) = true
+line_has_room d (Contend c) = true
+line_has_room d (Frames f) = true
+line_has_room d (Host r i) = true
+line_has_room d (On f i) = has_script_room d.network && (is_on d i || nat_lt (boots_of d i) 200)
+line_has_room d (Off f i) = has_script_room d.network
+line_has_room d (Stream f i s n) = has_script_room d.network
+line_has_room d (Leave f i s) = has_script_room d.network
+line_has_room d (Put f i s p) = has_script_room d.network
+line_has_room d (Lose f j k u v) = has_script_room d.network
+line_has_room d (Cut f j k i) = has_script_room d.network
+line_has_room d (Capture f j k a b) = has_script_room d.network
+
+-- the fault of a line that is spelled right
+abbrev pub line_fault : Scenario → ScenarioLine → Option FaultKind
+line_fault d l =
+    first_fault
+    ((line_in_range d l, Range) ∷ (line_knows_ids d l, UnknownNode) ∷ (line_in_order d l, Order) ∷ (line_is_new d l, Twice)
+    ∷ (line_has_room d l, TooMany) ∷ [])
+
+abbrev pub with_cut : ℕ → ℕ → ℕ → ℕ → Lines → Lines
+with_cut f j k i t = record t { cuts = in_order_with by_cut (record { frame = f; slot = j; step = k; node = i }) t.cuts }
+
+abbrev pub with_capture : ℕ → ℕ → ℕ → ℕ → ℕ → Lines → Lines
+with_capture f j k a b t = record t { captures = in_order_with by_capture (record { frame = f; slot = j; step = k; at = a; from = b }) t.captures }
+
+-- with a line more of the script
+abbrev pub with_act : Scenario → ℕ → ℕ → Act → Scenario
+with_act d f i a = record d { network = with_script_line d.network d.network.trace; script = d.script ++ record { frame = f; node = i; act = a } ∷ [] }
+
+-- with a line more that changes the trace
+abbrev pub with_trace : Scenario → Lines → Scenario
+with_trace d t = record d { network = with_script_line d.network t }
+
+-- the node is on: it boots, where it was off
+abbrev pub with_boot : Scenario → ℕ → Scenario
+with_boot d i = record d { on = slice_set d.on i true; boots = slice_set d.boots i (if is_on d i then boots_of d i else boots_of d i + 1) }
+
+-- what the lines say with an allowed line more
+abbrev pub line_added : Scenario → ScenarioLine → Scenario
+line_added d (InNetwork l) = record d { network = with_line d.network l }
+line_added d (Profile p) = record d { two = p == 2 }
+line_added d (Contend c) = record d { contend = Some c }
+line_added d (Frames f) = record d { frames = Some f }
+line_added d (Host r i) = record d { hosts = d.hosts ++ i ∷ [] }
+line_added d (On f i) = with_boot (with_act d f i act.On) i
+line_added d (Off f i) = record (with_act d f i act.Off) { on = slice_set d.on i false }
+line_added d (Stream f i s n) = with_act d f i (act.Declare s n)
+line_added d (Leave f i s) = with_act d f i (act.Leave s)
+line_added d (Put f i s (Some p)) = with_act d f i (act.Put s p)
+line_added d (Put f i s None) = d
+line_added d (Lose f j k u v) = with_trace d (with_loss f j k u v d.network.trace)
+line_added d (Cut f j k i) = with_trace d (with_cut f j k i d.network.trace)
+line_added d (Capture f j k a b) = with_trace d (with_capture f j k a b d.network.trace)
+
+abbrev pub is_profile_two : ScenarioLine → Bool
+is_profile_two (Profile p) = p == 2
+is_profile_two other = false
+
+-- and that it stands above
+abbrev pub with_scenario_line : Scenario → ScenarioLine → Scenario
+with_scenario_line d l = record (line_added d l) { first = false; after_two = is_profile_two l }
+
+-- behind a line of these words, or its fault
+abbrev pub after_words : Scenario → List (List ℕ) → Option ScenarioLine → Result Scenario FaultKind
+after_words d ws None = Err BadWord
+after_words d ws (Some l) = if scenario_numbers l ws then unless_fault (line_fault d l) (with_scenario_line d l) else Err BadNumber
+
+-- behind a line, or its fault
+unfoldable pub after_line : Scenario → List ℕ → Result Scenario FaultKind
+after_line d line =
+    let ws = words line in
+    if is_skipped ws then Ok d else if is_utf8 line then after_words d ws (scenario_line ws) else Err NotUtf8
+
+-- what was read of a line, seen by the draft behind it
+abbrev pub Reads : Option FaultKind → Scenario → Result Scenario FaultKind → Type 0
+Reads None new after = after ≡ Ok new
+Reads (Some k) new after = after ≡ Err k
+
+abbrev pub profile_of : Bool → Option ℕ → Numbers
+profile_of false c = one
+profile_of true None = contended 0
+profile_of true (Some c) = contended c
+
+-- there are not too many nodes for the frames
+abbrev pub if_small : ScenarioParts → Result ScenarioParts FaultKind
+if_small s = if nat_le (length s.nodes * s.frames) 16384 then Ok s else Err TooBig
+
+-- what a whole text says, which has frames, sendings, two nodes at least, and a host
+abbrev pub finished_parts : Scenario → Option Parts → Option ℕ → Result ScenarioParts FaultKind
+finished_parts d (Some p) (Some f) =
+    if length d.hosts == 0 then Err Missing
+    else if_small (record {
+      profile = profile_of d.two d.contend;
+      frames = f;
+      sends = p.sends;
+      nodes = p.nodes;
+      rates = p.rates;
+      hosts = d.hosts;
+      trace = p.trace;
+      script = d.script;
+    })
+finished_parts d None f = Err Missing
+finished_parts d (Some p) None = Err Missing
+
+abbrev pub finished : Scenario → Result ScenarioParts FaultKind
+finished d = finished_parts d (network_parts d.network d.network.sends) d.frames
+
+-- what the bytes say, or their first fault and its line. What is missing is missing behind the last line
+abbrev pub scenario_of : List ℕ → Result ScenarioParts (ℕ × FaultKind)
+scenario_of bytes = do
+  d ← after_lines after_line 1 no_scenario (lines bytes)
+  in_line (length (lines bytes) + 1) (finished d)

@@ -1,0 +1,57 @@
+ghost use Rattle.std.specs.Prelude.{◌≡◌, ◌<◌, nat_le, if◌then◌else◌, Some, None, length};
+ghost use Rattle.std.specs.Char.{is_ascii_hexdigit};
+ghost use Rattle.std.specs.List.{list_all};
+ghost use Rattle.scenario_text.specs.Payloads.{is_payload as is_payload_of, payload as payload_of, hex_value as hex_value_of, hex_bytes};
+
+use arrayvec::ArrayVec;
+use lwb_base::Payload;
+
+/// Whether the word is `-`, or an even count of hexadecimal digits.
+pub fn is_payload(word: &[u8]) -> bool
+    ensures { result ≡ is_payload_of word.now }
+{
+    word == b"-".as_slice() || (are_hex(word) && word.len() % 2 == 0)
+}
+
+fn are_hex(word: &[u8]) -> bool
+    ensures { result ≡ list_all is_ascii_hexdigit word.now }
+{
+    word.iter().all(|b| b.is_ascii_hexdigit())
+}
+
+/// The payload that the word is. None where it is longer than any may be.
+pub fn payload(word: &[u8]) -> Option<Payload>
+    ensures { result ≡ payload_of word.now }
+{
+    if word == b"-".as_slice() {
+        return Payload::new(&[]);
+    }
+    hex_payload(word)
+}
+
+fn hex_payload(digits: &[u8]) -> Option<Payload>
+    ensures { result ≡ (if nat_le (length (hex_bytes digits.now)) 96 then Some (hex_bytes digits.now) else None) }
+{
+    let mut bytes: ArrayVec<u8, 96> = ArrayVec::new();
+    let mut rest = digits;
+    while rest.len() >= 2 {
+        let byte = 16 * hex_value(rest[0]) + hex_value(rest[1]);
+        if bytes.try_push(byte).is_err() {
+            return None;
+        }
+        rest = &rest[2..];
+    }
+    Payload::new(bytes.as_slice())
+}
+
+fn hex_value(digit: u8) -> u8
+    ensures value { result ≡ hex_value_of digit }
+    ensures small { result < 16 }
+{
+    match digit {
+        b'0'..=b'9' => digit - b'0',
+        b'a'..=b'f' => digit - b'a' + 10,
+        b'A'..=b'F' => digit - b'A' + 10,
+        _ => 0,
+    }
+}
