@@ -1,8 +1,9 @@
 ghost use Rattle.std.specs.Prelude.{◌≡◌, ◌<◌, ◌≤◌, ℕ, List, ◌∷◌, true, length, IfSome, SomeIff, Some};
 ghost use Rattle.std.specs.List.{list_all};
 ghost use Rattle.lwb_packets.specs.Ranges.{between};
+ghost use Rattle.lwb_packets.specs.TwoBytes.{two_bytes as bytes_of_two};
 ghost use Rattle.schedule_codec.specs.Packing.{fit};
-ghost use Rattle.schedule_codec.specs.OwnerLists.{are_owners, differences as differences_of, codes_bytes, owners_bytes, two_bytes as bytes_of_two};
+ghost use Rattle.schedule_codec.specs.OwnerLists.{are_owners, differences as differences_of, codes_bytes, owners_bytes};
 ghost use Rattle.schedule_codec.specs.Reading.{summed as summed_from};
 
 use crate::Owners;
