@@ -1,0 +1,4 @@
+pub mod FloodRun
+pub mod FloodBySteps
+pub mod Windows
+pub mod TwoNodes
