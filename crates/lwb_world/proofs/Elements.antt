@@ -1,6 +1,7 @@
 -- Elements of lists.
-use Rattle.std.proofs.Common.{◌≡◌, suc, List, [], ◌∷◌, inl, inr, refl, subst, arith, map}
+use Rattle.std.proofs.Common.{◌≡◌, suc, Option, Some, None, filter_map, ◌∙◌, ap, List, [], ◌∷◌, inl, inr, refl, subst, arith, map}
 use Rattle.std.specs.Prelude.{Contains, ◌⊎◌, ◌≢◌, AllPairs}
+use Rattle.std.specs.List.{cons_option}
 use Rattle.std.proofs.lemmas.List.Elements.{Contains-append_cases, Contains-append_left, Contains-append_right, Contains-push, Contains-push_cases}
 
 pub not_in_none : {X : Type 0} (x : X) → Contains [] x → ⊥
@@ -40,3 +41,41 @@ Distinct (x ∷ xs) = (Contains xs x → ⊥) × Distinct xs
 pub distinct_from_pairs : {X : Type 0} (xs : List X) → AllPairs (λ x y. x ≢ y) xs → Distinct xs
 distinct_from_pairs [] all = tt
 distinct_from_pairs (x ∷ xs) all = (λ there. pairs_head (λ x y. x ≢ y) x xs all x there refl, distinct_from_pairs xs (pairs_tail (λ x y. x ≢ y) x xs all))
+
+pub map_from : {X Y : Type 0} (g : X → Y) (xs : List X) (y : Y) → Contains (map g xs) y → (x : X) × Contains xs x × (g x ≡ y)
+map_from g [] y there = absurd (not_in_none y there)
+map_from g (x ∷ xs) y there =
+    elim (contains_cases (g x) (map g xs) y there) [
+      | inl is ↦ (x, contains_head x xs, is)
+      | inr later ↦ (let w = map_from g xs y later in (w.0, contains_tail x xs w.0 w.1, w.2))
+    ]
+
+-- what a filter gives
+pub filter_from : {X Y : Type 0} (g : X → Option Y) (xs : List X) (y : Y) → Contains (filter_map g xs) y → (x : X) × Contains xs x × (g x ≡ Some y)
+filter_from g [] y there = absurd (not_in_none y there)
+filter_from {X = X} {Y = Y} g (x ∷ xs) y there = by_cases (g x) refl (λ later. filter_from g xs y later) there
+  where
+    by_cases : (c : Option Y) → g x ≡ c → (Contains (filter_map g xs) y → (z : X) × Contains xs z × (g z ≡ Some y)) → Contains (cons_option c (filter_map g xs)) y → (z : X) × Contains (x ∷ xs) z × (g z ≡ Some y)
+    by_cases None at rest there = let w = rest there in (w.0, contains_tail x xs w.0 w.1, w.2)
+    by_cases (Some z) at rest there =
+        elim (contains_cases z (filter_map g xs) y there) [
+          | inl is ↦ (x, contains_head x xs, at ∙ ap (λ (w : Y). Some w) is)
+          | inr later ↦ (let w = rest later in (w.0, contains_tail x xs w.0 w.1, w.2))
+        ]
+
+pub filter_same : {X Y : Type 0} (g h : X → Option Y) (xs : List X) → ((x : X) → Contains xs x → g x ≡ h x) → filter_map g xs ≡ filter_map h xs
+filter_same g h [] same = refl
+filter_same g h (x ∷ xs) same =
+    ap (λ c. cons_option c (filter_map g xs)) (same x (contains_head x xs)) ∙ ap (λ l. cons_option (h x) l) (filter_same g h xs (λ y there. same y (contains_tail x xs y there)))
+
+-- what a filter gives stands there once, if it tells what it comes from
+pub filter_distinct : {X Y : Type 0} (g : X → Option Y) → ((d e : X) (y : Y) → g d ≡ Some y → g e ≡ Some y → d ≡ e) → (xs : List X) → AllPairs (λ d e. d ≢ e) xs → Distinct (filter_map g xs)
+filter_distinct g tells [] all = tt
+filter_distinct {X = X} {Y = Y} g tells (x ∷ xs) all = by_cases (g x) refl (filter_distinct g tells xs (pairs_tail (λ d e. d ≢ e) x xs all))
+  where
+    twice : (y : Y) → g x ≡ Some y → (z : X) × Contains xs z × (g z ≡ Some y) → ⊥
+    twice y at z = pairs_head (λ d e. d ≢ e) x xs all z.0 z.1 (tells x z.0 y at z.2)
+
+    by_cases : (c : Option Y) → g x ≡ c → Distinct (filter_map g xs) → Distinct (cons_option c (filter_map g xs))
+    by_cases None at rest = rest
+    by_cases (Some y) at rest = (λ there. twice y at (filter_from g xs y there), rest)

@@ -12,3 +12,6 @@ pub mod Spellings
 pub mod TunedWindows
 pub mod Slots
 pub mod TwoNodeRun
+pub mod LogEntries
+pub mod FloodLogRun
+pub mod LogOutcome

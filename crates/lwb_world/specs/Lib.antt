@@ -2,3 +2,4 @@ pub mod FloodRun
 pub mod FloodBySteps
 pub mod Windows
 pub mod TwoNodes
+pub mod FloodLog

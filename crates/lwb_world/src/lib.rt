@@ -4,3 +4,4 @@
 #![tactic(auto)]
 
 pub mod flood_laws;
+pub mod flood_log_laws;
