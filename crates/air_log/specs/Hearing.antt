@@ -1,12 +1,11 @@
 -- Who hears what. An interval of time contains its start and not its end.
 use Rattle.std.specs.Prelude.{◌≡◌, ℕ, ◌+◌, ◌/◌, ◌<◌, ◌≤◌, ◌⊎◌, List, Contains, true, Some}
 use Rattle.lwb_base.specs.Profile.{Numbers}
-use Rattle.link_trace.specs.Passes.{Lines, passes}
+use Rattle.link_trace.specs.Passes.{Lines, passes, captured}
 use Rattle.glossy_relay.specs.Relaying.{slot_of, counter_of}
 use Rattle.air_log.specs.OnAir.{Sending, Tuning}
 use Rattle.air_log.specs.declared.entry.Entry.{Entry}
 use Rattle.air_log.specs.Entries.{sendings_of, tunings_of}
-use Rattle.air_log.specs.Captures.{captured}
 
 -- all sendings and tunings, with the numbers of the profile and the lines of the trace
 pub record Scene : Type 0 where

@@ -4,7 +4,7 @@ use Rattle.std.specs.Prelude.{Contains}
 use Rattle.std.proofs.lemmas.Bool.{or_cases, or_left, eqb-true, le-leb, false≢true}
 use Rattle.std.proofs.lemmas.List.{length-set}
 use Rattle.lwb_base.specs.Profile.{one, airtime}
-use Rattle.link_trace.specs.Passes.{passes}
+use Rattle.link_trace.specs.Passes.{passes, captured}
 use Rattle.tick_clock.specs.Clocks.{Near}
 use Rattle.tick_clock.proofs.DueTicks.{turn}
 use Rattle.lwb_packets.specs.DataPackets.{is_data}
@@ -15,7 +15,6 @@ use Rattle.scenario_text.specs.FloodParts.{FloodParts, knows}
 use Rattle.air_log.specs.declared.entry.Entry.{Entry}
 use Rattle.air_log.specs.OnAir.{Sending, Tuning}
 use Rattle.air_log.specs.Entries.{sendings_of}
-use Rattle.air_log.specs.Captures.{captured}
 use Rattle.air_log.specs.Hearing as rule
 use Rattle.air_log.specs.Hearing.{Scene, scene_of, frame_of, TunedThrough, Meets, Before}
 use Rattle.air_log.specs.NodeEvents.{Heard, occasions}
