@@ -42,16 +42,22 @@ sum_is rates (suc t) tame =
     let now = pace_is (rate_at rates t) (tame_from (pos 0) rates t (omega arith) tame) in
     omega (arith, ints, before, now)
 
-floor_is : (n t c : ℕ) (s : ℤ) → pos c ≡ pos (1000000 * t) +ℤ s → shifted (n + t) (int_div_euclid s (pos 1000000)) ≡ n + c / 1000000
+floor_is : (n t c : ℕ) (s : ℤ) → pos c ≡ pos (1000000 * t) +ℤ s
+    → shifted (n + t) (int_div_euclid s (pos 1000000)) ≡ n + c / 1000000
 floor_is n t c (pos s) is = omega (arith, ints, is)
 floor_is n t c (negsuc s) is = omega (arith, ints, is)
 
-pub reading_is : (offset : ℕ) (rates : List (ℕ × ℤ)) (t : ℕ) → AreTame rates → segment_reading offset rates t ≡ offset + count_before rates t / 1000000
+pub reading_is : (offset : ℕ) (rates : List (ℕ × ℤ)) (t : ℕ) → AreTame rates
+    → segment_reading offset rates t ≡ offset + count_before rates t / 1000000
 reading_is offset rates t tame = floor_is offset t (count_before rates t) (sum_before rates t) (sum_is rates t tame)
 
-pub count_range : (rates : List (ℕ × ℤ)) (t d : ℕ) → AreTame rates → (count_before rates t + 999980 * d ≤ count_before rates (t + d)) × (count_before rates (t + d) ≤ count_before rates t + 1000020 * d)
+-- over d ticks
+pub count_range : (rates : List (ℕ × ℤ)) (t d : ℕ) → AreTame rates
+    → (count_before rates t + 999980 * d ≤ count_before rates (t + d)) × (count_before rates (t + d) ≤ count_before rates t + 1000020 * d)
 unfolding count_before
-count_range rates t zero tame = let same : count_before rates (t + zero) ≡ count_before rates t = ap (count_before rates) (omega arith) in omega arith
+count_range rates t zero tame =
+    let same : count_before rates (t + zero) ≡ count_before rates t = ap (count_before rates) (omega arith) in
+    omega arith
 count_range rates t (suc d) tame =
     let before = count_range rates t d tame in
     let now = pace_range (rate_at rates (t + d)) (tame_from (pos 0) rates (t + d) (omega arith) tame) in

@@ -22,9 +22,11 @@ counted s t = s.count + pace_of s.ppm * (t - s.start)
 abbrev pub first_segment : Segment
 first_segment = record { start = 0; ppm = pos 0; count = 0 }
 
--- s follows r
+-- s follows r, and its count is what r has counted by then
 abbrev pub Follows : Segment → Segment → Type 0
-Follows r s = (r.start ≤ s.start) × (s.start < 2 ^ 47) × (unsigned_abs s.ppm ≤ 20) × (s.count ≤ counted r s.start) × (counted r s.start ≤ s.count)
+Follows r s =
+    (r.start ≤ s.start) × (s.start < 2 ^ 47) × (unsigned_abs s.ppm ≤ 20)
+    × (s.count ≤ counted r s.start) × (counted r s.start ≤ s.count)
 
 -- these segments come one after another, after r
 abbrev pub AreKept : Segment → List Segment → Type 0

@@ -4,6 +4,7 @@
 mod at_tick;
 mod drift_clock;
 mod jump_clock;
+mod rates;
 mod segment;
 mod segment_clock;
 

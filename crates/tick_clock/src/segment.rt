@@ -1,3 +1,12 @@
+ghost use Rattle.std.specs.Prelude.{◌≡◌, ℕ, ◌*◌, ◌^◌, ◌≤◌, ◌<◌, IfOk, All, length, map};
+ghost use Rattle.std.specs.Int.RustNames.{unsigned_abs};
+ghost use Rattle.tick_clock.specs.Rates.{wild_at, unordered_at};
+ghost use Rattle.tick_clock.specs.RatesLaw.{count_before};
+ghost use Rattle.tick_clock.specs.Segments.{AreKept, IsLast, counted as counted_by, counts_less, entry_of, first_segment, has_begun, last_of, pace_of};
+
+use lwb_base::Memory;
+use std::alloc::Global;
+
 /// From its start on a clock runs at this rate.
 #[derive(Clone, Copy)]
 pub struct Segment {
@@ -7,4 +16,97 @@ pub struct Segment {
     pub ppm: i8,
     /// What the clock has counted by the start, in millionths of a tick.
     pub count: u128,
+}
+
+impl Segment {
+    // The millionths of a tick that the clock counts in a tick.
+    fn pace(&self) -> u64
+        requires { unsigned_abs self.now.ppm ≤ 20 }
+        ensures { result ≡ pace_of self.now.ppm }
+    {
+        (1_000_000 + i64::from(self.ppm)) as u64
+    }
+
+    // What the clock has counted by tick t, if this segment lasts until then.
+    fn counted(&self, t: u64) -> u128
+        requires rate { unsigned_abs self.now.ppm ≤ 20 }
+        requires begun { self.now.start ≤ t }
+        requires small { self.now.count < 2 ^ 100 }
+        ensures { result ≡ counted_by self.now t }
+    {
+        self.count + u128::from(self.pace()) * u128::from(t - self.start)
+    }
+}
+
+/// The segments of a clock with these rates.
+pub fn segments_of(alloc: Global, rates: &[(u64, i8)]) -> Result<Vec<Segment>, Memory>
+    requires starts { All (λ r. r.0 < 2 ^ 47) rates.now }
+    requires rates { wild_at rates.now ≡ None }
+    requires order { unordered_at rates.now ≡ None }
+    ensures entries { IfOk result (λ v. map entry_of v.items ≡ rates.now) }
+    ensures kept { IfOk result (λ v. AreKept first_segment v.items) }
+{
+    let mut segments = Vec::new(alloc);
+    let mut last = segment_before(&[], 0);
+    for &(start, ppm) in rates {
+        let count = last.counted(start);
+        last = Segment { start, ppm, count };
+        if segments.push(last).is_err() {
+            return Err(Memory);
+        }
+    }
+    Ok(segments)
+}
+
+/// What a clock has counted by tick t, in millionths of a tick.
+pub fn count_at(segments: &[Segment], t: u64) -> u128
+    requires kept { AreKept first_segment segments.now }
+    requires range { t ≤ 2 ^ 48 }
+    ensures { result ≡ count_before (map entry_of segments.now) t }
+{
+    last_begun(segments, t).counted(t)
+}
+
+/// The first tick at which a clock has counted so much.
+pub fn tick_of_count(segments: &[Segment], wanted: u128) -> u64
+    requires kept { AreKept first_segment segments.now }
+    requires range { wanted ≤ 1000000 * 2 ^ 48 }
+    ensures reached { wanted ≤ count_before (map entry_of segments.now) result }
+    ensures before { (s : ℕ) → s < result → count_before (map entry_of segments.now) s < wanted }
+{
+    let last = last_below(segments, wanted);
+    let ticks = (wanted - last.count).div_ceil(u128::from(last.pace()));
+    last.start + ticks as u64
+}
+
+// The last segment that has begun by tick t.
+fn last_begun(segments: &[Segment], t: u64) -> Segment
+    requires { AreKept first_segment segments.now }
+    ensures { IsLast (has_begun t) segments.now result }
+{
+    segment_before(segments, segments.partition_point(|s| s.start <= t))
+}
+
+// The last segment at whose start less than this is counted.
+fn last_below(segments: &[Segment], wanted: u128) -> Segment
+    requires { AreKept first_segment segments.now }
+    ensures { IsLast (counts_less wanted) segments.now result }
+{
+    segment_before(segments, segments.partition_point(|s| s.count < wanted))
+}
+
+// The last of the first so many segments, or the stretch before the first.
+fn segment_before(segments: &[Segment], count: usize) -> Segment
+    requires { count ≤ length segments.now }
+    ensures { result ≡ last_of first_segment segments.now count }
+{
+    if count == 0 {
+        Segment {
+            start: 0,
+            ppm: 0,
+            count: 0,
+        }
+    } else {
+        segments[count - 1]
+    }
 }

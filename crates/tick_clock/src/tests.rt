@@ -1,4 +1,4 @@
-ghost use Rattle.std.specs.Prelude.{ℕ, ◌^◌, ◌<◌, IfOk, All};
+ghost use Rattle.std.specs.Prelude.{◌^◌, ◌<◌, IfOk, All};
 
 use crate::{At, ClockFault, DriftClock, JumpClock, SegmentClock, turn_bounds};
 use lwb_base::LocalClock;

@@ -2,11 +2,14 @@
 use Rattle.std.proofs.Common.{◌≡◌, ℕ, zero, suc, ◌+◌, ◌*◌, ◌-◌, ◌^◌, ◌<◌, ◌≤◌, arith}
 use Rattle.lwb_base.specs.Profile.{Numbers, IsProfile, airtime, step}
 use Rattle.tick_clock.specs.Clocks.{Near, IsClock}
-use Rattle.time_reference.specs.Budgets.{span}
+use Rattle.time_reference.specs.Budgets.{Budget, Fits, span}
 use Rattle.time_reference.specs.Drift.{drift}
 use Rattle.time_reference.specs.Floods.{Relayed}
 use Rattle.time_reference.specs.Reference.{IsHeard, heard_zero, slot_time, times_of}
 use Rattle.time_reference.proofs.Steps.{reference_error, of_61, of_74}
+use Rattle.time_reference.specs.Zeros.{Ref, started}
+use Rattle.time_reference.proofs.BudgetRoom.{packets_last}
+use Rattle.time_reference.proofs.Points.{heard_now, no_clamp}
 use Rattle.time_reference.proofs.ProfileSizes.{sizes}
 
 pub relays_near : (p : Numbers) (n origin k s : ℕ) → Relayed p n origin k s → Near s (origin + k * step p n) k
@@ -43,3 +46,13 @@ pub errs_55 : (p : Numbers) (own : ℕ → ℕ) (origin start c n j : ℕ) → I
 errs_55 p own origin start c n j made small heard short =
     let size = sizes p made in
     slot_errs p own origin start c n j 55 made small heard (omega arith) (of_74 p n size.byte size.turn short)
+
+pub gives_zero : (p : Numbers) (b : Budget) → Fits p b → (H L : ℕ → ℕ) (c j n k s start : ℕ) → IsClock H → IsClock L → 1 ≤ c → c ≤ 4095 → j ≤ b.last → k ≤ 11
+    → Near s (started p H c j + k * step p n) k → s + airtime p n ≤ 2 ^ 48 → L (s + airtime p n) ≡ start + airtime p n → drift (span p n + 11) + 12 ≤ 55
+    → (start ≡ heard_zero p start k n j + (k * step p n + p.listen + j * p.slot)) × Ref p b H L (heard_zero p start k n j) c c j
+gives_zero p b fits H L c j n k s start host clock begun within slot few near early told small =
+    let some = packets_last p b fits n in
+    let late = no_clamp p b fits H L c j host clock begun within slot in
+    let zero = zero_errs p L n k s (started p H c j) start j 55 clock (omega arith) few near early told small late in
+    let y : ℕ = heard_zero p start k n j + j * p.slot + p.listen in
+    (zero.0, heard_now p b fits H L (heard_zero p start k n j) c j y begun within slot zero.1 (omega arith))

@@ -2,7 +2,9 @@
 use Rattle.std.specs.Prelude.{ℕ, ◌+◌, ◌*◌, ◌/◌, ◌^◌, ◌<◌, ◌≤◌, if◌then◌else◌, ◌==◌}
 use Rattle.lwb_base.specs.Profile.{Numbers, airtime, step}
 
--- the greatest packet in bytes, the last slot of any round, and in ticks the greatest age of a reference, the greatest difference of two zeros, that of two contenders, and the greatest error of a clock over the run
+-- each is an upper bound: the greatest packet in bytes, the last slot of any round, and in ticks the greatest age of a
+-- reference, the greatest difference of two zeros, that of two contenders, and the greatest error of a clock over the
+-- run
 pub record Budget : Type 0 where
   pub packet : ℕ
   pub last : ℕ

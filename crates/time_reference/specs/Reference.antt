@@ -29,7 +29,8 @@ host_zero p f = f * p.frame + p.lead
 abbrev pub slot_time : RoundTimes → ℕ → ℕ
 slot_time r j = stopped (r.zero + j * r.slot)
 
--- a schedule of n bytes that is initiated in slot j at this tick, and relayed c times, is heard whole by this clock, and the clock told `start` for the start of that hearing
+-- a schedule of n bytes that is initiated in slot j at this tick, and relayed c times, is heard whole by this clock, and
+-- the clock told `start` for the start of that hearing; all within the ticks in which the clock keeps the drift law
 pub record IsHeard (p : Numbers) (own : ℕ → ℕ) (origin start c n j : ℕ) : Type 0 where
   pub clock : IsClock own
   pub few : c ≤ 11

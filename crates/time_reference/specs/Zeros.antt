@@ -39,7 +39,8 @@ apart b = 2 * drift b.age + 114
 abbrev pub round_drift : Numbers → Budget → ℕ
 round_drift p b = drift (b.last * p.slot + p.listen)
 
--- z is a zero for frame f on the clock `own`, taken from the schedule of slot j of frame c, with an error of at most 55 ticks of this clock
+-- z is a zero for frame f on the clock `own`, taken from the schedule of slot j of frame c, with an error of at most 55
+-- ticks of this clock
 pub record Ref (p : Numbers) (b : Budget) (host own : ℕ → ℕ) (z f c j : ℕ) : Type 0 where
   pub begun : 1 ≤ c
   pub past : c ≤ f
@@ -52,7 +53,8 @@ pub record Ref (p : Numbers) (b : Budget) (host own : ℕ → ℕ) (z f c j : �
 abbrev pub IsAge : Numbers → ℕ → ℕ → ℕ → ℕ → ℕ → Type 0
 IsAge p f c j q m = m + j * p.slot + p.listen + c * p.frame ≡ f * p.frame + q
 
--- the reference from slot j of frame c may be used from the offset q of frame f on: it is of an earlier frame, or its slot is closed then
+-- the reference from slot j of frame c may be used from the offset q of frame f on: it is of an earlier frame, or its
+-- slot is closed then
 abbrev pub IsUsable : Numbers → ℕ → ℕ → ℕ → ℕ → Type 0
 IsUsable p f c j q = (c < f) ⊎ (closing p j ≤ q)
 

@@ -1,7 +1,7 @@
 //! Laws of one clock: over a run, and over the age of a reference.
 
-ghost use Rattle.std.specs.Prelude.{◌≡◌, ℕ, ◌+◌, ◌*◌, ◌/◌, ◌^◌, ◌<◌, ◌≤◌, ◌↔◌, max};
-ghost use Rattle.lwb_base.specs.Profile.{Numbers, one};
+ghost use Rattle.std.specs.Prelude.{◌≡◌, ℕ, ◌+◌, ◌*◌, ◌/◌, ◌^◌, ◌<◌, ◌≤◌, ◌↔◌};
+ghost use Rattle.lwb_base.specs.Profile.{Numbers};
 ghost use Rattle.tick_clock.specs.Clocks.{Near, IsClock, due};
 ghost use Rattle.time_reference.specs.Budgets.{Budget, Fits};
 ghost use Rattle.time_reference.specs.Drift.{drift};
@@ -19,12 +19,14 @@ pub fn readings_never_fall()
     ensures tick { (own : ℕ → ℕ) (t : ℕ) → IsClock own → t + 1 ≤ 2 ^ 48 → own (t + 1) ≤ own t + 2 }
 {}
 
+/// Over less than 50,000 ticks a clock keeps pace but for one tick.
 pub fn readings_over_short_times()
     ensures { (own : ℕ → ℕ) (t d : ℕ) → IsClock own → t + d ≤ 2 ^ 48 → d < 50000
         → Near (own (t + d)) (own t + d) 1 }
 {}
 
-/// `due` is the least tick at which a clock reads a number or more; it rises with the number, and the clock then reads at most one more.
+/// `due` is the least tick at which a clock reads a number or more. It rises with the number, and the clock then reads
+/// at most one more.
 pub fn due_is_least()
     ensures reached { (own : ℕ → ℕ) (x : ℕ) → IsClock own → x ≤ 2 ^ 47
         → (x ≤ own (due own x)) × (due own x ≤ x + x / 40000 + 2) }
@@ -55,7 +57,8 @@ pub fn boot_finds_the_frame()
         → (own (f * p.frame) + p.lead) / p.frame ≡ f }
 {}
 
-/// The age bound: a time that is set m ticks after t0, with an error of e ticks of the clock, comes m true ticks after t0 but for e and the drift over the greatest age.
+/// The age bound. A time that is set m ticks after t0, with an error of e ticks of the clock, comes m true ticks after
+/// t0 but for e and the drift over the greatest age.
 pub fn age_bound()
     ensures { (own : ℕ → ℕ) (greatest t0 m x e : ℕ) → IsClock own → Near (own t0 + m) x e
         → drift greatest + e + 2 ≤ m → m + drift greatest + e + 1 ≤ greatest

@@ -1,12 +1,13 @@
 //! Laws of one flood: its steps, the error of a reference, and contenders.
 
-ghost use Rattle.std.specs.Prelude.{◌≡◌, ℕ, ◌+◌, ◌*◌, ◌/◌, ◌^◌, ◌<◌, ◌≤◌, ◌↔◌, max};
-ghost use Rattle.lwb_base.specs.Profile.{Numbers, airtime, step, one};
+ghost use Rattle.std.specs.Prelude.{◌≡◌, ℕ, ◌+◌, ◌*◌, ◌^◌, ◌<◌, ◌≤◌};
+ghost use Rattle.lwb_base.specs.Profile.{Numbers, airtime, step};
 ghost use Rattle.tick_clock.specs.Clocks.{Near, IsClock, due};
 ghost use Rattle.time_reference.specs.Budgets.{Budget, Fits, span};
 ghost use Rattle.time_reference.specs.Drift.{drift};
-ghost use Rattle.time_reference.specs.Floods.{Overlap};
-ghost use Rattle.time_reference.specs.Zeros.{opening, starting, greatest, point, round_drift, Ref};
+ghost use Rattle.time_reference.specs.Floods.{Overlap, Relayed};
+ghost use Rattle.time_reference.specs.Reference.{heard_zero};
+ghost use Rattle.time_reference.specs.Zeros.{starting, point, round_drift, started, Ref};
 
 /// A relay starts a turnaround after the end of the hearing, but for one tick.
 pub fn turnaround()
@@ -48,6 +49,31 @@ pub fn reference_error()
         → drift (span p n + 11) + 12 ≤ 55 }
 {}
 
+/// A packet that is relayed k times starts within k ticks of k steps after its initiator.
+pub fn relays_keep_their_steps()
+    ensures { (p : Numbers) (n origin k s : ℕ) → Relayed p n origin k s → Near s (origin + k * step p n) k }
+{}
+
+/// The zero that a node takes from a schedule of slot j errs by no more than the packet's length allows, and stays
+/// above 0.
+pub fn heard_zeros_err_little()
+    ensures { (p : Numbers) (own : ℕ → ℕ) (n k s origin start j bound : ℕ) → IsClock own → 1 ≤ step p n → k ≤ 11
+        → Near s (origin + k * step p n) k → s + airtime p n ≤ 2 ^ 48 → own (s + airtime p n) ≡ start + airtime p n
+        → drift (span p n + 11) + 12 ≤ bound → p.listen + j * p.slot + bound ≤ own origin
+        → (start ≡ heard_zero p start k n j + (k * step p n + p.listen + j * p.slot))
+        × Near (heard_zero p start k n j + j * p.slot + p.listen) (own origin) bound }
+{}
+
+/// A schedule that the host of the round starts, and whose length allows an error of at most 55 ticks, gives a
+/// reference to whoever hears it.
+pub fn heard_schedules_give_zeros()
+    ensures { (p : Numbers) (b : Budget) → Fits p b → (host own : ℕ → ℕ) (c j n k s start : ℕ) → IsClock host
+        → IsClock own → 1 ≤ c → c ≤ 4095 → j ≤ b.last → k ≤ 11 → Near s (started p host c j + k * step p n) k
+        → s + airtime p n ≤ 2 ^ 48 → own (s + airtime p n) ≡ start + airtime p n → drift (span p n + 11) + 12 ≤ 55
+        → (start ≡ heard_zero p start k n j + (k * step p n + p.listen + j * p.slot))
+        × Ref p b host own (heard_zero p start k n j) c c j }
+{}
+
 /// A sending of an earlier step ends before one of a later step starts, also of another initiator.
 pub fn steps_are_apart()
     ensures { (p : Numbers) (n i k q x y origin other : ℕ) → q + 23 < p.turn → i < k → k ≤ 11 → Near origin other q
@@ -65,5 +91,6 @@ pub fn one_step_overlaps()
 pub fn contenders_start_together()
     ensures { (p : Numbers) (b : Budget) → Fits p b → (host own other : ℕ → ℕ) (z y f j : ℕ) → IsClock host
         → IsClock own → IsClock other → Ref p b host own z f f 0 → Ref p b host other y f f 0 → 1 ≤ j → j < b.last
-        → Near (point own z (starting p j)) (point other y (starting p j)) (2 * round_drift p b + 112) × (2 * round_drift p b + 112 + 48 ≤ b.contenders) }
+        → Near (point own z (starting p j)) (point other y (starting p j)) (2 * round_drift p b + 112)
+        × (2 * round_drift p b + 112 + 48 ≤ b.contenders) }
 {}

@@ -48,10 +48,10 @@ impl Reference {
     ) -> Reference
         requires { local_start < 2 ^ 46 }
         ensures value { result ≡ times_of profile.now (heard_zero profile.now local_start counter length slot) }
-        ensures within_48 { (own : ℕ → ℕ) (origin : ℕ) → IsHeard profile.now own origin local_start counter length slot
-            → length ≤ 61 → Near (slot_time result slot + profile.now.listen) (own origin) 48 }
-        ensures within_55 { (own : ℕ → ℕ) (origin : ℕ) → IsHeard profile.now own origin local_start counter length slot
-            → length ≤ 74 → Near (slot_time result slot + profile.now.listen) (own origin) 55 }
+        ensures within_48 { (own : ℕ → ℕ) (origin : ℕ) → IsHeard profile.now own origin local_start counter length
+            slot → length ≤ 61 → Near (slot_time result slot + profile.now.listen) (own origin) 48 }
+        ensures within_55 { (own : ℕ → ℕ) (origin : ℕ) → IsHeard profile.now own origin local_start counter length
+            slot → length ≤ 74 → Near (slot_time result slot + profile.now.listen) (own origin) 55 }
     {
         let _contend = profile.contend();
         let steps = u64::from(counter) * profile.step(length);

@@ -1,7 +1,7 @@
 //! Laws of one round: good zeros, its slots in true time, and its place in the frame.
 
-ghost use Rattle.std.specs.Prelude.{◌≡◌, ℕ, ◌+◌, ◌*◌, ◌/◌, ◌^◌, ◌<◌, ◌≤◌, ◌↔◌, max};
-ghost use Rattle.lwb_base.specs.Profile.{Numbers, one};
+ghost use Rattle.std.specs.Prelude.{◌≡◌, ℕ, ◌+◌, ◌*◌, ◌<◌, ◌≤◌, ◌↔◌, max};
+ghost use Rattle.lwb_base.specs.Profile.{Numbers};
 ghost use Rattle.tick_clock.specs.Clocks.{Near, IsClock, due};
 ghost use Rattle.time_reference.specs.Budgets.{Budget, Fits, span};
 ghost use Rattle.time_reference.specs.Drift.{drift};
@@ -139,7 +139,8 @@ pub fn relays_end_before_later_openings()
         → point own z (starting p i) + span p n + 11 < point other y (opening p j) }
 {}
 
-/// Slot 1 opens late where its new zero z came in slot 0, which closed by the old zero y; its own start has not passed then.
+/// Slot 1 opens late where its new zero z came in slot 0, which closed by the old zero y. Its own start has not passed
+/// then.
 pub fn late_opening_before_start()
     ensures { (p : Numbers) (b : Budget) → Fits p b → (host own : ℕ → ℕ) (z y f : ℕ) → IsClock host → IsClock own
         → 1 ≤ b.last

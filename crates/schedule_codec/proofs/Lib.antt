@@ -1,0 +1,11 @@
+pub mod Numbers
+pub mod Streams
+pub mod Packs
+pub mod Lists
+pub mod Widths
+pub mod Readings
+pub mod Sums
+pub mod CodeBytes
+pub mod AckRuns
+pub mod Heads
+pub mod Examples
