@@ -10,7 +10,7 @@ use Rattle.scenario_text.specs.FloodParts.{FloodParts, knows}
 use Rattle.air_log.specs.declared.entry.Entry.{Entry}
 use Rattle.air_log.specs.OnAir.{Sending, Hearing, Tuning}
 use Rattle.air_log.specs.Entries.{sendings_of, hearings_of, tunings_of, node_of}
-use Rattle.air_log.specs.Hearing.{HearsAir}
+use Rattle.air_log.specs.HearsAir.{HearsAir}
 use Rattle.air_log.specs.NodeEvents.{Event, Heard, Ended, InOrder, occasions, own_ends}
 
 -- the ticks at which all nodes tune in, at which the packet of the starting node begins, and at which nodes go off that have not sent as often as they may

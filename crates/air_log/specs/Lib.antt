@@ -1,5 +1,6 @@
 pub mod OnAir
-pub mod Entries
 pub mod Hearing
+pub mod Entries
+pub mod HearsAir
 pub mod NodeEvents
 pub mod FloodLaw
