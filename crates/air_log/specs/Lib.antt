@@ -4,3 +4,4 @@ pub mod Entries
 pub mod HearsAir
 pub mod NodeEvents
 pub mod FloodLaw
+pub mod TwoNodeLog

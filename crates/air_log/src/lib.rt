@@ -3,6 +3,7 @@
 
 mod air;
 mod entry;
+pub mod flood_law;
 
 pub use air::Air;
 pub use entry::{Entry, HeardEntry, SentEntry, TunedEntry};

@@ -8,7 +8,7 @@ use Rattle.air_log.specs.OnAir.{Sending}
 use Rattle.air_log.specs.Hearing.{Before}
 use Rattle.air_log.specs.NodeEvents.{Event, sending_of, after, after_all, Occasion, occasions}
 use Rattle.air_log.specs.NodeEvents.{InOrder}
-use Rattle.lwb_world.proofs.Elements.{not_in_none, contains_head, contains_tail, contains_cases, pairs_head, pairs_tail}
+use Rattle.air_log.proofs.Elements.{not_in_none, contains_head, contains_tail, contains_cases, pairs_head, pairs_tail}
 
 pub after_all_append : (s : FloodState) (es fs : List Event) → after_all s (es ++ fs) ≡ after_all (after_all s es) fs
 after_all_append s [] fs = refl

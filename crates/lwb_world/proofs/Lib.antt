@@ -1,4 +1,3 @@
-pub mod Elements
 pub mod Packets
 pub mod StepTimes
 pub mod SendingTimes

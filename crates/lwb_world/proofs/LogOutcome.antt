@@ -19,7 +19,7 @@ use Rattle.air_log.specs.FloodLaw.{FloodLaw}
 use Rattle.lwb_world.specs.FloodRun.{Run, HearsIn, takes_part, counter, begins, packet}
 use Rattle.lwb_world.specs.FloodBySteps.{IsFloodBySteps}
 use Rattle.lwb_world.specs.FloodLog.{HasClocks, run_of, HasSent, HasHeard, HeardFirst, IsAcceptance, accepting}
-use Rattle.lwb_world.proofs.Elements.{filter_same}
+use Rattle.air_log.proofs.Elements.{filter_same}
 use Rattle.lwb_world.proofs.SendingTimes.{timed, over, occasion_event, counter_is}
 use Rattle.lwb_world.proofs.StepHearings.{IsAt, silent_in, few_sent}
 use Rattle.lwb_world.proofs.WholeFlood.{at_step, flood_by_steps}

@@ -13,7 +13,7 @@ use Rattle.air_log.specs.NodeEvents.{Event, Heard, Ended, sending_of, after, aft
 use Rattle.lwb_world.specs.FloodRun.{counter}
 use Rattle.air_log.specs.NodeEvents.{InOrder}
 use Rattle.lwb_world.specs.FloodRun.{Run, FloodRun, sending_at, initiates, takes_part, packet, begins, HearsIn}
-use Rattle.lwb_world.proofs.Elements.{not_in_none, contains_head, contains_tail, contains_cases}
+use Rattle.air_log.proofs.Elements.{not_in_none, contains_head, contains_tail, contains_cases}
 use Rattle.bus_model.proofs.Options.{inspect, some_injective, heard_parts, sends_parts, none_is, not_both}
 use Rattle.lwb_world.proofs.Packets.{counter_set, relayed_parts, fitting_long}
 use Rattle.lwb_world.proofs.SendingTimes.{counter_is, same_origin, over, meets, event_sent, occasion_event, same_sending}

@@ -7,7 +7,7 @@ use Rattle.bus_model.specs.Flooding.{Setting, moment, has}
 use Rattle.air_log.specs.OnAir.{Sending}
 use Rattle.lwb_world.specs.FloodRun.{counter}
 use Rattle.lwb_world.specs.FloodRun.{Run, FloodRun, packet}
-use Rattle.lwb_world.proofs.Elements.{not_in_none, contains_head, contains_tail, contains_cases, Distinct}
+use Rattle.air_log.proofs.Elements.{not_in_none, contains_head, contains_tail, contains_cases, Distinct}
 use Rattle.bus_model.proofs.Options.{inspect, not_both}
 use Rattle.lwb_world.proofs.SendingTimes.{timed, counter_is}
 use Rattle.lwb_world.proofs.StepHearings.{IsAt}

@@ -12,7 +12,7 @@ use Rattle.air_log.specs.NodeEvents.{Event, Heard, Ended, sending_of, after, Occ
 use Rattle.lwb_world.specs.FloodRun.{counter}
 use Rattle.air_log.specs.Hearing.{Meets}
 use Rattle.lwb_world.specs.FloodRun.{Run, HasTimes, initiates, takes_part, packet, begins, InTime}
-use Rattle.lwb_world.proofs.Elements.{not_in_none, contains_head, contains_tail, contains_cases}
+use Rattle.air_log.proofs.Elements.{not_in_none, contains_head, contains_tail, contains_cases}
 use Rattle.lwb_world.proofs.Packets.{counter_set, body_set, set_same, long_spelling, fitting_long, relayed_parts}
 use Rattle.lwb_world.proofs.StepTimes.{chained, in_order, meet, within}
 

@@ -11,7 +11,7 @@ use Rattle.air_log.specs.NodeEvents.{Event, Heard, Ended, sending_of, after_all,
 use Rattle.air_log.specs.NodeEvents.{InOrder}
 use Rattle.lwb_world.specs.FloodRun.{counter, sending_at, FloodRun, initiates, takes_part, begins, Rival, Silent, HearsIn, Relayed, TunedByCount}
 use Rattle.lwb_world.specs.TwoNodes.{packet_of, first_sending, second_sending, two_nodes, two_tuned}
-use Rattle.lwb_world.proofs.Elements.{not_in_none, contains_head, contains_tail, contains_cases}
+use Rattle.air_log.proofs.Elements.{not_in_none, contains_head, contains_tail, contains_cases}
 use Rattle.lwb_world.specs.Windows.{IsWindow}
 use Rattle.lwb_world.proofs.SendingTimes.{equal_sendings}
 use Rattle.lwb_world.proofs.TunedWindows.{tuned_in_window}

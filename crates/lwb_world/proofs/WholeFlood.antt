@@ -13,7 +13,7 @@ use Rattle.air_log.specs.NodeEvents.{Event, Heard, sending_of, after_all}
 use Rattle.lwb_world.specs.FloodRun.{counter}
 use Rattle.lwb_world.specs.FloodRun.{Run, FloodRun, sending_at, initiates, takes_part, packet, begins}
 use Rattle.lwb_world.specs.FloodBySteps.{SendsOnAir, HearsOnAir, ended, IsFloodBySteps}
-use Rattle.lwb_world.proofs.Elements.{not_in_none, contains_head}
+use Rattle.air_log.proofs.Elements.{not_in_none, contains_head}
 use Rattle.bus_model.proofs.Options.{some_injective}
 use Rattle.lwb_world.proofs.Packets.{counter_set}
 use Rattle.lwb_world.proofs.SendingTimes.{timed, message_is, long, counter_is, same_origin, event_sent, occasion_event, same_sending}

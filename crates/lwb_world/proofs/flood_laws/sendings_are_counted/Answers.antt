@@ -1,6 +1,6 @@
 use Rattle.std.proofs.Common.{◌≡◌, ◌∙◌, true}
 use Rattle.bus_model.proofs.SendingCounts.{all_sendings}
-use Rattle.lwb_world.proofs.Elements.{distinct_from_pairs}
+use Rattle.air_log.proofs.Elements.{distinct_from_pairs}
 use Rattle.lwb_world.proofs.SendingCounts.{count}
 use Rattle.lwb_world.proofs.flood_laws.sendings_are_counted.Goals as goal
 
