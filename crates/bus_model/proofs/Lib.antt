@@ -1,4 +1,4 @@
-mod Options
+pub mod Options
 pub mod OneInitiator
 pub mod FirstHearings
 pub mod LeastPaths

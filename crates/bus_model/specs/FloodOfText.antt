@@ -1,7 +1,7 @@
 -- The flood of a flood text: one initiator, in slot 1 of frame 5.
-use Rattle.std.specs.Prelude.{ℕ, List, [], ◌∷◌, None, map, filter_map, option_map}
+use Rattle.std.specs.Prelude.{ℕ, List, [], ◌∷◌, map, filter_map, option_map}
 use Rattle.std.specs.declared.option.Option.{Option}
-use Rattle.link_trace.specs.Passes.{passes}
+use Rattle.link_trace.specs.Passes.{passes, captured}
 use Rattle.scenario_text.specs.FloodParts.{FloodParts}
 use Rattle.scenario_text.specs.declared.lines.NodeLine.{NodeLine}
 use Rattle.bus_rules.specs.FloodOutcome.{Outcome}
@@ -15,7 +15,7 @@ abbrev pub setting : FloodParts → Setting
 setting f = record {
   limit = f.sends;
   passes = λ k u v. passes f.trace 5 1 k u v;
-  captured = λ k v. None;
+  captured = λ k v. captured f.trace 5 1 k v;
   initiators = f.start ∷ [];
   everyone = ids f.nodes;
 }

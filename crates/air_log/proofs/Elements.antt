@@ -1,0 +1,81 @@
+-- Elements of lists.
+use Rattle.std.proofs.Common.{◌≡◌, suc, Option, Some, None, filter_map, ◌∙◌, ap, List, [], ◌∷◌, inl, inr, refl, subst, arith, map}
+use Rattle.std.specs.Prelude.{Contains, ◌⊎◌, ◌≢◌, AllPairs}
+use Rattle.std.specs.List.{cons_option}
+use Rattle.std.proofs.lemmas.List.Elements.{Contains-append_cases, Contains-append_left, Contains-append_right, Contains-push, Contains-push_cases}
+
+pub not_in_none : {X : Type 0} (x : X) → Contains [] x → ⊥
+not_in_none x (k, less, is) = omega arith
+
+pub contains_head : {X : Type 0} (x : X) (xs : List X) → Contains (x ∷ xs) x
+contains_head x xs = Contains-append_left (x ∷ []) xs x (Contains-push [] x)
+
+pub contains_tail : {X : Type 0} (x : X) (xs : List X) (y : X) → Contains xs y → Contains (x ∷ xs) y
+contains_tail x xs y there = Contains-append_right (x ∷ []) xs y there
+
+pub contains_cases : {X : Type 0} (x : X) (xs : List X) (y : X) → Contains (x ∷ xs) y → (x ≡ y) ⊎ Contains xs y
+contains_cases x xs y there =
+    elim (Contains-append_cases (x ∷ []) xs y there) [ inl at ↦ elim (Contains-push_cases [] x y at) [ inl none ↦ absurd (not_in_none y none) | inr is ↦ inl is ] | inr later ↦ inr later ]
+
+pub map_contains : {X Y : Type 0} (g : X → Y) (xs : List X) (x : X) → Contains xs x → Contains (map g xs) (g x)
+map_contains g [] x there = absurd (not_in_none x there)
+map_contains g (y ∷ ys) x there =
+    elim (contains_cases y ys x there) [
+      | inl is ↦ subst (λ (w : _). Contains (map g (y ∷ ys)) (g w)) is (contains_head (g y) (map g ys))
+      | inr later ↦ contains_tail (g y) (map g ys) (g x) (map_contains g ys x later)
+    ]
+
+-- pairs of an element and a later one
+module _ {X : Type 0} (R : X → X → Type 0) where
+  pub pairs_tail : (x : X) (xs : List X) → AllPairs R (x ∷ xs) → AllPairs R xs
+  pairs_tail x xs all i j d less within = all (suc i) (suc j) d (omega arith) (omega arith)
+
+  pub pairs_head : (x : X) (xs : List X) → AllPairs R (x ∷ xs) → (y : X) → Contains xs y → R x y
+  pairs_head x xs all y (k, less, is) = subst (λ (z : X). R x z) is (all 0 (suc k) y (omega arith) (omega arith))
+
+-- no element stands twice
+abbrev pub Distinct : {X : Type 0} → List X → Type 0
+Distinct [] = Unit {0}
+Distinct (x ∷ xs) = (Contains xs x → ⊥) × Distinct xs
+
+pub distinct_from_pairs : {X : Type 0} (xs : List X) → AllPairs (λ x y. x ≢ y) xs → Distinct xs
+distinct_from_pairs [] all = tt
+distinct_from_pairs (x ∷ xs) all = (λ there. pairs_head (λ x y. x ≢ y) x xs all x there refl, distinct_from_pairs xs (pairs_tail (λ x y. x ≢ y) x xs all))
+
+pub map_from : {X Y : Type 0} (g : X → Y) (xs : List X) (y : Y) → Contains (map g xs) y → (x : X) × Contains xs x × (g x ≡ y)
+map_from g [] y there = absurd (not_in_none y there)
+map_from g (x ∷ xs) y there =
+    elim (contains_cases (g x) (map g xs) y there) [
+      | inl is ↦ (x, contains_head x xs, is)
+      | inr later ↦ (let w = map_from g xs y later in (w.0, contains_tail x xs w.0 w.1, w.2))
+    ]
+
+-- what a filter gives
+pub filter_from : {X Y : Type 0} (g : X → Option Y) (xs : List X) (y : Y) → Contains (filter_map g xs) y → (x : X) × Contains xs x × (g x ≡ Some y)
+filter_from g [] y there = absurd (not_in_none y there)
+filter_from {X = X} {Y = Y} g (x ∷ xs) y there = by_cases (g x) refl (λ later. filter_from g xs y later) there
+  where
+    by_cases : (c : Option Y) → g x ≡ c → (Contains (filter_map g xs) y → (z : X) × Contains xs z × (g z ≡ Some y)) → Contains (cons_option c (filter_map g xs)) y → (z : X) × Contains (x ∷ xs) z × (g z ≡ Some y)
+    by_cases None at rest there = let w = rest there in (w.0, contains_tail x xs w.0 w.1, w.2)
+    by_cases (Some z) at rest there =
+        elim (contains_cases z (filter_map g xs) y there) [
+          | inl is ↦ (x, contains_head x xs, at ∙ ap (λ (w : Y). Some w) is)
+          | inr later ↦ (let w = rest later in (w.0, contains_tail x xs w.0 w.1, w.2))
+        ]
+
+pub filter_same : {X Y : Type 0} (g h : X → Option Y) (xs : List X) → ((x : X) → Contains xs x → g x ≡ h x) → filter_map g xs ≡ filter_map h xs
+filter_same g h [] same = refl
+filter_same g h (x ∷ xs) same =
+    ap (λ c. cons_option c (filter_map g xs)) (same x (contains_head x xs)) ∙ ap (λ l. cons_option (h x) l) (filter_same g h xs (λ y there. same y (contains_tail x xs y there)))
+
+-- what a filter gives stands there once, if it tells what it comes from
+pub filter_distinct : {X Y : Type 0} (g : X → Option Y) → ((d e : X) (y : Y) → g d ≡ Some y → g e ≡ Some y → d ≡ e) → (xs : List X) → AllPairs (λ d e. d ≢ e) xs → Distinct (filter_map g xs)
+filter_distinct g tells [] all = tt
+filter_distinct {X = X} {Y = Y} g tells (x ∷ xs) all = by_cases (g x) refl (filter_distinct g tells xs (pairs_tail (λ d e. d ≢ e) x xs all))
+  where
+    twice : (y : Y) → g x ≡ Some y → (z : X) × Contains xs z × (g z ≡ Some y) → ⊥
+    twice y at z = pairs_head (λ d e. d ≢ e) x xs all z.0 z.1 (tells x z.0 y at z.2)
+
+    by_cases : (c : Option Y) → g x ≡ c → Distinct (filter_map g xs) → Distinct (cons_option c (filter_map g xs))
+    by_cases None at rest = rest
+    by_cases (Some y) at rest = (λ there. twice y at (filter_from g xs y there), rest)

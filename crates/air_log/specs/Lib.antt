@@ -1,0 +1,7 @@
+pub mod OnAir
+pub mod Hearing
+pub mod Entries
+pub mod HearsAir
+pub mod NodeEvents
+pub mod FloodLaw
+pub mod TwoNodeLog

@@ -1,0 +1,9 @@
+//! The law of the log of one flood, at a worked flood.
+
+ghost use Rattle.air_log.specs.FloodLaw.{FloodLaw};
+ghost use Rattle.air_log.specs.TwoNodeLog.{two_nodes, true_time, two_node_log};
+
+/// The log of a flood over two nodes, worked by hand, keeps the law.
+pub fn two_nodes_keep_the_flood_law()
+    ensures { FloodLaw two_nodes true_time two_node_log }
+{}

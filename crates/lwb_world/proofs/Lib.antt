@@ -1,0 +1,16 @@
+pub mod Packets
+pub mod StepTimes
+pub mod SendingTimes
+pub mod EventOrder
+pub mod Stations
+pub mod StepHearings
+pub mod NextSteps
+pub mod WholeFlood
+pub mod SendingCounts
+pub mod Spellings
+pub mod TunedWindows
+pub mod Slots
+pub mod TwoNodeRun
+pub mod LogEntries
+pub mod FloodLogRun
+pub mod LogOutcome

@@ -1,0 +1,6 @@
+use Rattle.std.proofs.Common.{◌≡◌, true}
+use Rattle.lwb_world.proofs.Slots.{slot_run}
+use Rattle.lwb_world.proofs.flood_laws.slots_are_runs.Goals as goal
+
+pub returns : goal.returns
+returns c = λ p b fits n clocks r tuned. slot_run p b fits n clocks r (λ v x. tuned v x ≡ true)

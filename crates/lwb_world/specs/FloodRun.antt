@@ -1,0 +1,165 @@
+-- The record of what nodes did in one flood on the air, and what makes it one.
+use Rattle.std.specs.Prelude.{◌≡◌, ◌≢◌, ℕ, ◌+◌, ◌*◌, ◌<◌, ◌≤◌, ◌↔◌, ◌⊎◌, List, ◌++◌, Contains, slice_set, true, Some, None, if◌then◌else◌}
+use Rattle.tick_clock.specs.Clocks.{Near}
+use Rattle.lwb_packets.specs.Body.{body}
+use Rattle.lwb_packets.specs.declared.kind.Kind.{Kind}
+use Rattle.glossy_relay.specs.FloodState.{FloodState}
+use Rattle.glossy_relay.specs.Relaying.{is_spelling, slot_of, counter_of, reply_to}
+use Rattle.glossy_relay.specs.declared.flood.Reply.TheVariants.{Relay}
+use Rattle.bus_model.specs.Flooding.{Setting, has}
+use Rattle.air_log.specs.OnAir.{Sending, Hearing}
+use Rattle.air_log.specs.Hearing.{Meets, Before}
+use Rattle.air_log.specs.NodeEvents.{Event, Heard, Ended, sending_of, InOrder, after_all, occasions}
+
+-- the setting of the flood by steps (its limit, links, capture lines, initiators, and all that take part); the kind, slot and channel of its packets; each initiator's packet and start;
+-- in ticks how long a packet is on the air, the turnaround, the greatest displacement and the greatest difference of two initiators' starts;
+-- the sendings, the hearings, each node's events in order of their ends, and when a node starts a relay of what it heard up to a tick
+pub record Run : Type 0 where
+  pub setting : Setting
+  pub kind : Kind
+  pub slot : ℕ
+  pub rank : ℕ
+  pub message : ℕ → List ℕ
+  pub starts : ℕ → ℕ
+  pub air : ℕ
+  pub turn : ℕ
+  pub delta : ℕ
+  pub spread : ℕ
+  pub sendings : List Sending
+  pub hearings : List Hearing
+  pub events : ℕ → List Event
+  pub relay_start : ℕ → ℕ → ℕ
+
+abbrev pub initiates : Run → ℕ → Type 0
+initiates r o = has r.setting.initiators o ≡ true
+
+abbrev pub takes_part : Run → ℕ → Type 0
+takes_part r v = has r.setting.everyone v ≡ true
+
+abbrev pub counter : Sending → ℕ
+counter x = counter_of x.packet
+
+-- an initiator's packet with another counter
+abbrev pub packet : Run → ℕ → ℕ → List ℕ
+packet r o k = slice_set (r.message o) 2 k
+
+-- a sending that lasts as long as the run's packets do
+abbrev pub sending_at : Run → ℕ → ℕ → List ℕ → Sending
+sending_at r v start p = record { rank = r.rank; node = v; start = start; end = start + r.air; packet = p }
+
+-- a node's flood at its beginning
+abbrev pub begins : Run → ℕ → FloodState
+begins r v = record {
+  kind = r.kind;
+  slot = r.slot;
+  limit = r.setting.limit;
+  sent = 0;
+  waiting = has r.setting.initiators v;
+  initiated = has r.setting.initiators v;
+  first = if has r.setting.initiators v then Some (r.message v) else None;
+}
+
+-- x lies within twelve steps from an initiator's start
+pub record InTime (r : Run) (x : Sending) : Type 0 where
+  pub origin : ℕ
+  pub initiator : initiates r origin
+  pub since : r.starts origin ≤ x.start
+  pub until : x.end ≤ r.starts origin + 12 * (r.air + r.turn)
+
+-- y is on the air together with x and reaches v; if x does, it is a rival of itself
+pub record Rival (r : Run) (v : ℕ) (x y : Sending) : Type 0 where
+  pub sent : Contains r.sendings y
+  pub meets : Meets x y
+  pub passes : r.setting.passes (counter y) y.node v ≡ true
+
+-- v sends nothing while x is sent
+abbrev pub Silent : Run → ℕ → Sending → Type 0
+Silent r v x = (y : Sending) → Contains r.sendings y → y.node ≡ v → Meets x y → ⊥
+
+-- all that reaches v is the same packet, or the capture line names a node whose packet it is
+abbrev pub Alone : Run → ℕ → Sending → Type 0
+Alone r v x = (y : Sending) → Rival r v x y → y.packet ≡ x.packet
+
+pub record Captured (r : Run) (v : ℕ) (x : Sending) : Type 0 where
+  pub winner : Sending
+  pub rival : Rival r v x winner
+  pub same : winner.packet ≡ x.packet
+  pub named : r.setting.captured (counter x) v ≡ Some winner.node
+
+-- v hears x by the rule of the air. `Tuned` says that a node is tuned while a sending lasts
+pub record HearsIn (r : Run) (Tuned : ℕ → Sending → Type 0) (v : ℕ) (x : Sending) : Type 0 where
+  pub sent : Contains r.sendings x
+  pub tuned : Tuned v x
+  pub silent : Silent r v x
+  pub passes : r.setting.passes (counter x) x.node v ≡ true
+  pub first : (y : Sending) → Rival r v x y → y.packet ≡ x.packet → Before x y
+  pub close : (y : Sending) → Rival r v x y → y.packet ≡ x.packet → y.start ≤ x.start + r.delta
+  pub chosen : Alone r v x ⊎ Captured r v x
+
+-- v's flood answered a hearing with the packet of x, which starts a turnaround later
+pub record Relayed (r : Run) (v : ℕ) (x : Sending) : Type 0 where
+  pub heard : Sending
+  pub flood : FloodState
+  pub occasion : Contains (occasions (begins r v) (r.events v)) (record { before = flood; event = Heard heard })
+  pub answer : reply_to flood heard.packet ≡ Relay x.packet
+  pub start : x.start ≡ r.relay_start v heard.end
+
+pub record HasRoom (r : Run) : Type 0 where
+  pub room_to_turn : r.spread + 23 < r.turn
+  pub room_to_overlap : r.spread + 22 < r.air
+  pub displacement : 22 ≤ r.delta
+
+-- the initiators' packets are spelled in this slot with any counter, begin with counter 0, and differ in more than the counter; they start together
+pub record HasInitiators (r : Run) : Type 0 where
+  pub there : (o : ℕ) → initiates r o → takes_part r o
+  pub counter_zero : (o : ℕ) → initiates r o → counter_of (r.message o) ≡ 0
+  pub spelled : (o k : ℕ) → initiates r o → k ≤ 11 → is_spelling r.kind (packet r o k) ≡ true
+  pub slot : (o : ℕ) → initiates r o → slot_of (r.message o) ≡ r.slot
+  pub different : (o p : ℕ) → initiates r o → initiates r p → body (r.message o) ≡ body (r.message p) → o ≡ p
+  pub together : (o p : ℕ) → initiates r o → initiates r p → Near (r.starts o) (r.starts p) r.spread
+
+-- with counter 0 the initiators send, and with another who relays
+pub record HasSendings (r : Run) : Type 0 where
+  pub lasts : (x : Sending) → Contains r.sendings x → (x.rank ≡ r.rank) × (x.end ≡ x.start + r.air)
+  pub begun : (o : ℕ) → initiates r o → Contains r.sendings (sending_at r o (r.starts o) (r.message o))
+  pub beginnings : (x : Sending) → Contains r.sendings x → counter x ≡ 0 → initiates r x.node × (x.start ≡ r.starts x.node) × (x.packet ≡ r.message x.node)
+  pub relayed : (v start : ℕ) (p : List ℕ) → takes_part r v → Relayed r v (sending_at r v start p) → Contains r.sendings (sending_at r v start p)
+  pub relays : (x : Sending) → Contains r.sendings x → counter x ≢ 0 → takes_part r x.node × Relayed r x.node x
+
+-- the events of a node are its hearings and its own sendings
+pub record HasEvents (r : Run) : Type 0 where
+  pub heard_events : (v : ℕ) (x : Sending) → takes_part r v → Contains (r.events v) (Heard x) ↔ Contains r.hearings (record { node = v; sending = x })
+  pub ended_events : (v : ℕ) (x : Sending) → takes_part r v → Contains (r.events v) (Ended x) ↔ (Contains r.sendings x × (x.node ≡ v))
+  pub in_order : (v : ℕ) → takes_part r v → InOrder (r.events v)
+
+-- a relay starts a turnaround after the end of what was heard, but for one tick
+abbrev pub TurnsAround : Run → Type 0
+TurnsAround r = (v : ℕ) (x : Sending) → takes_part r v → Contains r.hearings (record { node = v; sending = x }) → InTime r x → Near (r.relay_start v x.end) (x.end + r.turn) 1
+
+-- all from which the times of the sendings follow: hearings are only asked to be of sendings
+pub record HasTimes (r : Run) : Type 0 where
+  pub room : HasRoom r
+  pub open room use *
+  pub initiators : HasInitiators r
+  pub open initiators use *
+  pub sent : HasSendings r
+  pub open sent use *
+  pub happened : HasEvents r
+  pub open happened use *
+  pub heard_sent : (v : ℕ) (x : Sending) → takes_part r v → Contains r.hearings (record { node = v; sending = x }) → Contains r.sendings x
+  pub turned : TurnsAround r
+
+-- what is heard is what the air's rule says
+abbrev pub HearsByRule : Run → (ℕ → Sending → Type 0) → Type 0
+HearsByRule r Tuned = (v : ℕ) (x : Sending) → takes_part r v → Contains r.hearings (record { node = v; sending = x }) ↔ HearsIn r Tuned v x
+
+-- while it does not send, v is tuned exactly where fewer than its limit of own sendings have ended
+abbrev pub TunedByCount : Run → (ℕ → Sending → Type 0) → ℕ → Type 0
+TunedByCount r Tuned v = (x : Sending) (before rest : List Event) → Contains r.sendings x → InTime r x → r.events v ≡ before ++ rest
+    → ((e : Event) → Contains before e → (sending_of e).end ≤ x.start) → ((e : Event) → Contains rest e → x.start < (sending_of e).end)
+    → Silent r v x → Tuned v x ↔ ((after_all (begins r v) before).sent < r.setting.limit)
+
+pub record FloodRun (r : Run) (Tuned : ℕ → Sending → Type 0) : Type 0 where
+  pub times : HasTimes r
+  pub hears : HearsByRule r Tuned
+  pub tuned : (v : ℕ) → takes_part r v → TunedByCount r Tuned v

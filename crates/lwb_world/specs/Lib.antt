@@ -1,0 +1,5 @@
+pub mod FloodRun
+pub mod FloodBySteps
+pub mod Windows
+pub mod TwoNodes
+pub mod FloodLog

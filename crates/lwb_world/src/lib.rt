@@ -1,0 +1,7 @@
+//! The laws that tie what nodes do on the air to the bus.
+//!
+//! Each law is the contract of a function that does nothing.
+#![tactic(auto)]
+
+pub mod flood_laws;
+pub mod flood_log_laws;
