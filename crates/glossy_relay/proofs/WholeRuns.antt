@@ -1,12 +1,11 @@
 -- What holds of a flood after any list of calls.
-use Rattle.std.proofs.Common.{◌≡◌, ℕ, ◌+◌, ◌<◌, ◌≤◌, ◌↔◌, ◌==◌, List, [], ◌∷◌, Bool, true, false, cond, if◌then◌else◌, nat_lt, Option, Some, None, option_map, inl, inr, refl, sym, ◌∙◌, ap, subst, arith}
+use Rattle.std.proofs.Common.{◌≡◌, ℕ, ◌+◌, ◌≤◌, ◌↔◌, ◌==◌, List, [], ◌∷◌, Bool, true, false, if◌then◌else◌, nat_lt, Option, Some, None, option_map, inl, inr, refl, sym, ◌∙◌, ap, arith}
 use Rattle.std.proofs.lemmas.Bool.Decides.{nat_tests}
 use Rattle.std.proofs.lemmas.Bool.{cond_both, cases_eq, eq-eqb, ne_eqb}
 use Rattle.glossy_relay.specs.FloodState.{FloodState}
 use Rattle.glossy_relay.specs.Relaying.{fits, counter_of, first_of, after_heard, after_sent, after_ending, accepted_of}
-use Rattle.glossy_relay.specs.declared.flood.After.{After}
 use Rattle.glossy_relay.specs.declared.flood.After.TheVariants.{Off, More}
-use Rattle.glossy_relay.specs.Runs.{Call, Heard, Sent, after, after_all, IsAllowed, orders_one, orders, endings, first_fitting}
+use Rattle.glossy_relay.specs.Runs.{Call, Heard, Sent, after_all, IsAllowed, orders_one, orders, endings, first_fitting}
 
 -- the sendings that ended, and the one that is ordered
 abbrev used : FloodState → ℕ

@@ -1,3 +1,4 @@
+pub mod Messages
 pub mod Profile
 pub mod Causes
 pub mod Outside

@@ -1,5 +1,6 @@
 -- Data packets and their bytes.
 use Rattle.std.specs.Prelude.{◌≡◌, ℕ, ◌+◌, ◌*◌, ◌/◌, ◌%◌, ◌≤◌, List, ◌∷◌, length, Bool, nat_le, ◌&&◌, ◌==◌, slice_index}
+use Rattle.lwb_packets.specs.Ranges.{between}
 use Rattle.lwb_packets.specs.declared.data_packet.DataPacket.{DataPacket}
 
 -- each field is in its range
@@ -14,8 +15,12 @@ pub record InRange (d : DataPacket) : Type 0 where
 abbrev pub spelling : DataPacket → List ℕ
 spelling d = 2 ∷ d.slot ∷ d.counter ∷ d.node ∷ d.boot ∷ d.stream ∷ d.seq / 256 ∷ d.seq % 256 ∷ d.payload
 
-abbrev pub between : ℕ → ℕ → ℕ → Bool
-between low high x = nat_le low x && nat_le x high
+-- d is a data packet with each part in its range, and these are its bytes
+pub record SpellsData (p : List ℕ) (d : DataPacket) : Type 0 where
+  pub in_range : InRange d
+  pub node : (1 ≤ d.node) × (d.node ≤ 200)
+  pub payload : length d.payload ≤ 96
+  pub bytes : spelling d ≡ p
 
 -- whether these bytes are a spelling: the length, the kind, and the range of each byte and of the number
 abbrev pub is_data : List ℕ → Bool

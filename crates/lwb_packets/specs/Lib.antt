@@ -1,2 +1,5 @@
+pub mod Ranges
+pub mod Kinds
 pub mod Body
 pub mod DataPackets
+pub mod Requests

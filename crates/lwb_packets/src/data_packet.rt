@@ -1,5 +1,6 @@
-ghost use Rattle.std.specs.Prelude.{◌≡◌, IfSome, is_some};
-ghost use Rattle.lwb_packets.specs.DataPackets.{InRange, spelling, is_data};
+ghost use Rattle.std.specs.Prelude.{◌≡◌, IfSome, is_some, Some};
+ghost use Rattle.lwb_packets.specs.DataPackets.{InRange, SpellsData, spelling, is_data};
+ghost use Rattle.lwb_packets.specs.declared.data_packet.DataPacket.{DataPacket};
 
 use byteorder::{BigEndian, ByteOrder};
 use lwb_base::{NodeId, Packet, Payload};
@@ -42,7 +43,8 @@ pub fn encode_payload(d: &DataPacket) -> Packet
 
 /// The data packet that these bytes spell. None exactly where they spell none.
 pub fn decode_payload(p: &Packet) -> Option<DataPacket>
-    ensures some { IfSome result (λ d. InRange d × (spelling d ≡ p.now)) }
+    ensures some { IfSome result (SpellsData p.now) }
+    ensures all { (d : DataPacket) → SpellsData p.now d → result ≡ Some d }
     ensures none { is_some result ≡ is_data p.now }
 {
     let bytes = p.bytes();

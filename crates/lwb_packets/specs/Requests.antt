@@ -1,0 +1,28 @@
+-- Requests and their bytes.
+use Rattle.std.specs.Prelude.{◌≡◌, ℕ, ◌≤◌, List, [], ◌∷◌, length, Bool, nat_le, ◌&&◌, ◌==◌, slice_index}
+use Rattle.lwb_packets.specs.Ranges.{between}
+use Rattle.lwb_packets.specs.declared.request.Request.{Request}
+
+-- each field is in its range
+pub record InRange (r : Request) : Type 0 where
+  pub slot : (1 ≤ r.slot) × (r.slot ≤ 44)
+  pub counter : r.counter ≤ 11
+  pub boot : (1 ≤ r.boot) × (r.boot ≤ 200)
+  pub stream : r.stream ≤ 3
+  pub interval : r.interval ≤ 120
+
+-- kind, slot, counter, node, boot, stream, interval
+abbrev pub spelling : Request → List ℕ
+spelling r = 3 ∷ r.slot ∷ r.counter ∷ r.node ∷ r.boot ∷ r.stream ∷ r.interval ∷ []
+
+-- r is a request with each part in its range, and these are its bytes
+pub record SpellsRequest (p : List ℕ) (r : Request) : Type 0 where
+  pub in_range : InRange r
+  pub node : (1 ≤ r.node) × (r.node ≤ 200)
+  pub bytes : spelling r ≡ p
+
+-- whether these bytes are a spelling: the length, the kind, and the range of each byte
+abbrev pub is_request : List ℕ → Bool
+is_request p =
+    (length p == 7) && (slice_index p 0 == 3) && between 1 44 (slice_index p 1) && nat_le (slice_index p 2) 11
+    && between 1 200 (slice_index p 3) && between 1 200 (slice_index p 4) && nat_le (slice_index p 5) 3 && nat_le (slice_index p 6) 120

@@ -1,0 +1,5 @@
+pub mod Packing
+pub mod OwnerLists
+pub mod AckLists
+pub mod Spelling
+pub mod Reading

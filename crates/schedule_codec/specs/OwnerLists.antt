@@ -1,0 +1,57 @@
+-- Ascending lists of owners, as codes, and their bytes.
+use Rattle.std.specs.Prelude.{ℕ, zero, suc, ◌+◌, ◌-◌, ◌*◌, ◌/◌, ◌%◌, List, [], ◌∷◌, ◌++◌, Bool, true, ◌&&◌, nat_lt, nat_le, if◌then◌else◌, length, Some, None}
+use Rattle.std.specs.declared.option.Option.{Option}
+use Rattle.std.specs.List.{list_all, slice_get}
+use Rattle.lwb_packets.specs.Ranges.{between}
+use Rattle.schedule_codec.specs.Packing.{fit, bytes_for, packed}
+
+-- each is not below the one before
+abbrev pub ascend : List ℕ → Bool
+ascend [] = true
+ascend (c ∷ []) = true
+ascend (c ∷ d ∷ cs) = nat_le c d && ascend (d ∷ cs)
+
+-- at most 40 codes, ascending
+abbrev pub are_owners : List ℕ → Bool
+are_owners cs = nat_le (length cs) 40 && list_all (between 4 803) cs && ascend cs
+
+-- not below the last
+abbrev pub may_follow : Option ℕ → ℕ → Bool
+may_follow None c = true
+may_follow (Some last) c = nat_le last c
+
+-- the list has room for this code at its end
+abbrev pub takes_owner : List ℕ → ℕ → Bool
+takes_owner cs c = nat_lt (length cs) 40 && may_follow (slice_get cs (length cs - 1)) c
+
+-- of successive codes
+abbrev pub differences : List ℕ → List ℕ
+differences [] = []
+differences (c ∷ []) = []
+differences (c ∷ d ∷ cs) = (d - c) ∷ differences (d ∷ cs)
+
+-- the least number from w on that passes; w + n where the first n do not
+unfoldable pub least : ℕ → ℕ → (ℕ → Bool) → ℕ
+least zero w passes = w
+least (suc n) w passes = if passes w then w else least n (w + 1) passes
+
+-- the least width that all of them fit. A difference of two codes fits 10 bits
+abbrev pub width_of : List ℕ → ℕ
+width_of ds = least 10 0 (λ w. fit w ds)
+
+-- a number in two bytes, the high one first
+abbrev pub two_bytes : ℕ → List ℕ
+two_bytes n = n / 256 ∷ n % 256 ∷ []
+
+-- the first code with the width, and the packed differences
+abbrev pub codes_bytes : ℕ → List ℕ → List ℕ
+codes_bytes c ds = two_bytes (c * 16 + width_of ds) ++ packed (width_of ds) ds
+
+-- the count, and what follows where it is not 0
+abbrev pub owners_bytes : List ℕ → List ℕ
+owners_bytes [] = 0 ∷ []
+owners_bytes (c ∷ cs) = length (c ∷ cs) ∷ codes_bytes c (differences (c ∷ cs))
+
+abbrev pub owners_length : List ℕ → ℕ
+owners_length [] = 1
+owners_length (c ∷ cs) = 3 + bytes_for (length cs * width_of (differences (c ∷ cs)))

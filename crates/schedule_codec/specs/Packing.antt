@@ -1,0 +1,39 @@
+-- Numbers of w bits each, packed into bytes.
+use Rattle.std.specs.Prelude.{◌≡◌, true, ℕ, zero, suc, ◌+◌, ◌-◌, ◌*◌, ◌/◌, ◌%◌, ◌^◌, List, [], ◌∷◌, Bool, nat_lt, fold, length}
+use Rattle.std.specs.List.{list_all}
+
+-- each is a number of w bits
+abbrev pub fit : ℕ → List ℕ → Bool
+fit w ds = list_all (λ d. nat_lt d (2 ^ w)) ds
+
+-- numbers of w bits each, the first one highest, as one number
+unfoldable pub number : ℕ → List ℕ → ℕ
+number w ds = fold (λ n d. n * 2 ^ w + d) 0 ds
+
+-- the k lowest numbers of w bits each in n, the highest of them first
+unfoldable pub digits : ℕ → ℕ → ℕ → List ℕ
+digits w zero n = []
+digits w (suc k) n = (n / 2 ^ (k * w) % 2 ^ w) ∷ digits w k n
+
+-- the bytes that so many bits take
+abbrev pub bytes_for : ℕ → ℕ
+bytes_for bits = (bits + 7) / 8
+
+-- the zero bits that fill up so many bits to a whole byte
+abbrev pub fill : ℕ → ℕ
+fill bits = 8 * bytes_for bits - bits
+
+-- numbers of w bits each in bytes: the highest bit first, without gaps, filled up with zero bits to a whole byte
+abbrev pub packed : ℕ → List ℕ → List ℕ
+packed w ds = let bits = length ds * w in digits 8 (bytes_for bits) (number w ds * 2 ^ fill bits)
+
+-- so many bits as one number, the first bit highest
+pub record Bits : Type 0 where
+  pub count : ℕ
+  pub value : ℕ
+
+-- ds are so many numbers of w bits each, and these are their bytes
+pub record Packs (w count : ℕ) (bs ds : List ℕ) : Type 0 where
+  pub many : length ds ≡ count
+  pub fits : fit w ds ≡ true
+  pub bytes : packed w ds ≡ bs

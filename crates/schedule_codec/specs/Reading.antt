@@ -1,0 +1,47 @@
+-- The schedule whose bytes a packet is. What its bytes would say is read off them, and then spelled again: no other
+-- bytes are a spelling.
+use Rattle.std.specs.Prelude.{ℕ, zero, suc, ◌+◌, ◌-◌, ◌*◌, ◌/◌, ◌%◌, ◌^◌, List, [], ◌∷◌, Bool, ◌==◌, if◌then◌else◌, length, drop, slice_index, is_some, Some, None}
+use Rattle.std.specs.declared.option.Option.{Option}
+use Rattle.lwb_base.specs.Messages.{Ask, Schedule}
+use Rattle.schedule_codec.specs.Packing.{number, digits}
+use Rattle.schedule_codec.specs.Spelling.{spells}
+
+-- a first code, and each next one by its difference
+abbrev pub summed : ℕ → List ℕ → List ℕ
+summed c [] = c ∷ []
+summed c (d ∷ ds) = c ∷ summed (c + d) ds
+
+-- what stands from the count of owners on
+abbrev pub owners_in : List ℕ → List ℕ
+owners_in bs =
+    let count = slice_index bs 0 in
+    let first = 256 * slice_index bs 1 + slice_index bs 2 in
+    let width = first % 16 in
+    let rest = drop 3 bs in
+    if count == 0 then [] else summed (first / 16) (digits width (count - 1) (number 8 rest / 2 ^ (8 * length rest - (count - 1) * width)))
+
+abbrev pub ask_in : List ℕ → Ask
+ask_in bs = record { node = slice_index bs 0; boot = slice_index bs 1; stream = slice_index bs 2; interval = slice_index bs 3 }
+
+unfoldable pub asks_in : ℕ → List ℕ → List Ask
+asks_in zero bs = []
+asks_in (suc k) bs = ask_in bs ∷ asks_in k (drop 4 bs)
+
+abbrev pub schedule_in : ℕ → List Ask → List ℕ → List ℕ → Schedule
+schedule_in contend acks owners bs = record {
+  gap = slice_index bs 3 % 16;
+  plan = record { rank = slice_index bs 3 / 16; boot = slice_index bs 4; contend = contend; acks = acks; owners = owners_in owners };
+}
+
+-- what these bytes would say, if they are a spelling
+abbrev pub said : List ℕ → Schedule
+said bs =
+    if slice_index bs 0 == 1
+    then schedule_in 0 (if slice_index bs 5 == 0 then [] else ask_in (drop 5 bs) ∷ []) (drop 9 bs) bs
+    else (let count = slice_index bs 5 % 16 in schedule_in (slice_index bs 5 / 16 + 1) (asks_in count (drop 6 bs)) (drop (6 + 4 * count) bs) bs)
+
+unfoldable pub schedule_of : List ℕ → Option Schedule
+schedule_of p = if spells p (said p) then Some (said p) else None
+
+abbrev pub is_schedule : List ℕ → Bool
+is_schedule p = is_some (schedule_of p)

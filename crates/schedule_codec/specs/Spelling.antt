@@ -1,0 +1,54 @@
+-- The bytes of a schedule, by slot and counter.
+use Rattle.std.specs.Prelude.{◌≡◌, ◌≤◌, true, ℕ, ◌+◌, ◌-◌, ◌*◌, List, [], ◌∷◌, ◌++◌, Bool, ◌&&◌, ◌==◌, nat_le, if◌then◌else◌, length, flat_map, slice_index, bytes_eq}
+use Rattle.std.specs.List.{list_all}
+use Rattle.lwb_base.specs.Messages.{Ask, Schedule}
+use Rattle.lwb_packets.specs.Ranges.{between}
+use Rattle.schedule_codec.specs.AckLists.{are_acks, ask_in_range, ask_bytes}
+use Rattle.schedule_codec.specs.OwnerLists.{are_owners, owners_bytes, owners_length}
+
+-- one acknowledgement, or zeros for none
+abbrev pub single_ack : List Ask → List ℕ
+single_ack [] = 0 ∷ 0 ∷ 0 ∷ 0 ∷ []
+single_ack (a ∷ more) = ask_bytes a
+
+-- version 1, where no contention slots are named, has one at most; version 2 has their number, the count, and so many
+abbrev pub acks_bytes : ℕ → List Ask → List ℕ
+acks_bytes contend acks = if contend == 0 then single_ack acks else ((contend - 1) * 16 + length acks) ∷ flat_map ask_bytes acks
+
+abbrev pub kind_byte : ℕ → ℕ
+kind_byte contend = if contend == 0 then 1 else 4
+
+abbrev pub spelling : Schedule → ℕ → ℕ → List ℕ
+spelling s slot counter = kind_byte s.plan.contend ∷ slot ∷ counter ∷ (s.plan.rank * 16 + s.gap) ∷ s.plan.boot ∷ acks_bytes s.plan.contend s.plan.acks ++ owners_bytes s.plan.owners
+
+abbrev pub most_acks : ℕ → ℕ
+most_acks contend = if contend == 0 then 1 else 4
+
+-- an opening stands in slot 0, and a closing in the last slot of its round
+abbrev pub slot_in_range : Schedule → ℕ → Bool
+slot_in_range s slot = if s.gap == 0 then slot == 0 else between 2 (if s.plan.contend == 0 then 42 else 45) slot
+
+-- the ranges of the fields, the slot and the counter
+abbrev pub in_range : Schedule → ℕ → ℕ → Bool
+in_range s slot counter =
+    nat_le counter 11 && slot_in_range s slot && nat_le s.gap 4
+    && nat_le s.plan.rank 3 && between 1 200 s.plan.boot && nat_le s.plan.contend 4
+    && nat_le (length s.plan.acks) (most_acks s.plan.contend) && list_all ask_in_range s.plan.acks && are_acks s.plan.acks
+    && are_owners s.plan.owners
+
+-- what a schedule needs beside what its types say, to be written in this slot
+pub record IsWritable (s : Schedule) (slot : ℕ) : Type 0 where
+  pub boot : (1 ≤ s.plan.boot) × (s.plan.boot ≤ 200)
+  pub gap : s.gap ≤ 4
+  pub contend : s.plan.contend ≤ 4
+  pub few : length s.plan.acks ≤ most_acks s.plan.contend
+  pub acks : list_all ask_in_range s.plan.acks ≡ true
+  pub place : slot_in_range s slot ≡ true
+
+-- these bytes are the schedule's, in some slot and with some counter
+abbrev pub spells : List ℕ → Schedule → Bool
+spells p s = in_range s (slice_index p 1) (slice_index p 2) && bytes_eq (spelling s (slice_index p 1) (slice_index p 2)) p
+
+-- the bytes of a schedule
+abbrev pub length_of : Schedule → ℕ
+length_of s = (if s.plan.contend == 0 then 9 else 6 + 4 * length s.plan.acks) + owners_length s.plan.owners
