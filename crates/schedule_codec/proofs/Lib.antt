@@ -3,4 +3,9 @@ pub mod Streams
 pub mod Packs
 pub mod Lists
 pub mod Widths
+pub mod Readings
+pub mod Sums
+pub mod CodeBytes
+pub mod AckRuns
+pub mod Heads
 pub mod Examples

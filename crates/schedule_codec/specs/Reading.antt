@@ -6,10 +6,14 @@ use Rattle.lwb_base.specs.Messages.{Ask, Schedule}
 use Rattle.schedule_codec.specs.Packing.{number, digits}
 use Rattle.schedule_codec.specs.Spelling.{spells}
 
--- a first code, and each next one by its difference
+-- the codes that follow, each by its difference from the one before
+abbrev pub following : ℕ → List ℕ → List ℕ
+following c [] = []
+following c (d ∷ ds) = (c + d) ∷ following (c + d) ds
+
+-- a first code, and those that follow
 abbrev pub summed : ℕ → List ℕ → List ℕ
-summed c [] = c ∷ []
-summed c (d ∷ ds) = c ∷ summed (c + d) ds
+summed c ds = c ∷ following c ds
 
 -- what stands from the count of owners on
 abbrev pub owners_in : List ℕ → List ℕ

@@ -24,14 +24,29 @@ spelling s slot counter = kind_byte s.plan.contend ∷ slot ∷ counter ∷ (s.p
 abbrev pub most_acks : ℕ → ℕ
 most_acks contend = if contend == 0 then 1 else 4
 
+-- the acknowledgements of a schedule of this kind, and their bytes
+pub record SpellsAcks (kind : ℕ) (bs : List ℕ) (contend : ℕ) (acks : List Ask) : Type 0 where
+  pub kind_is : kind_byte contend ≡ kind
+  pub named : contend ≤ 4
+  pub few : length acks ≤ most_acks contend
+  pub in_range : list_all ask_in_range acks ≡ true
+  pub ordered : are_acks acks ≡ true
+  pub bytes : acks_bytes contend acks ≡ bs
+
+-- what stands behind the host's boot in a schedule of this kind
+pub record SpellsBody (kind : ℕ) (bs : List ℕ) (contend : ℕ) (acks : List Ask) (owners : List ℕ) : Type 0 where
+  pub acknowledged : SpellsAcks kind (acks_bytes contend acks) contend acks
+  pub owned : are_owners owners ≡ true
+  pub whole : acks_bytes contend acks ++ owners_bytes owners ≡ bs
+
 -- an opening stands in slot 0, and a closing in the last slot of its round
-abbrev pub slot_in_range : Schedule → ℕ → Bool
-slot_in_range s slot = if s.gap == 0 then slot == 0 else between 2 (if s.plan.contend == 0 then 42 else 45) slot
+abbrev pub slot_fits : ℕ → ℕ → ℕ → Bool
+slot_fits gap contend slot = if gap == 0 then slot == 0 else between 2 (if contend == 0 then 42 else 45) slot
 
 -- the ranges of the fields, the slot and the counter
 abbrev pub in_range : Schedule → ℕ → ℕ → Bool
 in_range s slot counter =
-    nat_le counter 11 && slot_in_range s slot && nat_le s.gap 4
+    nat_le counter 11 && slot_fits s.gap s.plan.contend slot && nat_le s.gap 4
     && nat_le s.plan.rank 3 && between 1 200 s.plan.boot && nat_le s.plan.contend 4
     && nat_le (length s.plan.acks) (most_acks s.plan.contend) && list_all ask_in_range s.plan.acks && are_acks s.plan.acks
     && are_owners s.plan.owners
@@ -43,7 +58,7 @@ pub record IsWritable (s : Schedule) (slot : ℕ) : Type 0 where
   pub contend : s.plan.contend ≤ 4
   pub few : length s.plan.acks ≤ most_acks s.plan.contend
   pub acks : list_all ask_in_range s.plan.acks ≡ true
-  pub place : slot_in_range s slot ≡ true
+  pub place : slot_fits s.gap s.plan.contend slot ≡ true
 
 -- these bytes are the schedule's, in some slot and with some counter
 abbrev pub spells : List ℕ → Schedule → Bool

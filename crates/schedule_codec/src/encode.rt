@@ -1,5 +1,5 @@
-ghost use Rattle.std.specs.Prelude.{◌≡◌, length, Some};
-ghost use Rattle.schedule_codec.specs.Spelling.{IsWritable, spelling, length_of};
+ghost use Rattle.std.specs.Prelude.{◌≡◌, length, Some, true};
+ghost use Rattle.schedule_codec.specs.Spelling.{IsWritable, spelling, in_range, length_of};
 ghost use Rattle.schedule_codec.specs.Reading.{schedule_of};
 
 use crate::Schedule;
@@ -12,6 +12,16 @@ use lwb_base::Packet;
 pub fn write(s: &Schedule, slot: u8) -> Packet
     requires { IsWritable s.now slot }
     ensures value { result ≡ spelling s.now slot 0 }
+    ensures many { length result ≡ length_of s.now }
+    ensures reads_back { schedule_of result ≡ Some s.now }
+{
+    spell(s, slot)
+}
+
+fn spell(s: &Schedule, slot: u8) -> Packet
+    requires { IsWritable s.now slot }
+    ensures value { result ≡ spelling s.now slot 0 }
+    ensures in_range { in_range s.now slot 0 ≡ true }
 {
     let kind = if s.contend == 0 { 1 } else { 4 };
     let head = [kind, slot, 0, s.host.number() * 16 + s.gap, s.host_boot];

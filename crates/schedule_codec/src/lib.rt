@@ -4,6 +4,7 @@
 mod ack_bytes;
 mod acks;
 mod bits;
+mod decode;
 mod differences;
 mod encode;
 mod owner_bytes;
@@ -11,8 +12,11 @@ mod owners;
 mod packing;
 mod schedule;
 
-
 pub use acks::{Ack, Acks};
+pub use decode::read;
+pub use encode::write;
 pub use owners::Owners;
 pub use schedule::Schedule;
-pub use encode::write;
+
+#[cfg(test)]
+mod tests;
