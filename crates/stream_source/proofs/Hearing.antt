@@ -1,5 +1,5 @@
 -- The parts of an accepted schedule, one after another.
-use Rattle.std.proofs.Common.{◌≡◌, ◌≢◌, ℕ, ◌<◌, ◌==◌, Bool, true, false, fold, refl, sym, ◌∙◌, ap, subst, arith, eq-eqb}
+use Rattle.std.proofs.Common.{◌≡◌, ◌≢◌, ℕ, fold, ◌∙◌, ap, eq-eqb}
 use Rattle.std.proofs.lemmas.Bool.{ne_eqb}
 use Rattle.lwb_base.specs.Messages.{Schedule}
 use Rattle.bus_rules.specs.Streams.{Streams, heard_host, acknowledged, owns, forgets, schedule_heard}

@@ -1,11 +1,10 @@
 -- One element after another of a list, and the least of four.
-use Rattle.std.proofs.Common.{◌≡◌, ℕ, zero, suc, ◌+◌, ◌<◌, ◌≤◌, List, [], ◌∷◌, ◌++◌, Bool, true, false, length, get_or, take, drop, set, map, replicate, fold, Option, Some, None, IsSome, refl, sym, ◌∙◌, ap, subst, arith}
+use Rattle.std.proofs.Common.{◌≡◌, ℕ, zero, suc, ◌+◌, ◌<◌, List, [], ◌∷◌, ◌++◌, Bool, true, false, length, get_or, take, drop, set, map, replicate, fold, Some, IsSome, refl, sym, ◌∙◌, ap, subst, arith}
 use Rattle.std.specs.List.{find, list_all, slice_get}
-use Rattle.std.proofs.lemmas.List.{get_or_default, set_at, drop_more, replicate_more, append_assoc, length-replicate}
+use Rattle.std.proofs.lemmas.List.{set_at, drop_more, replicate_more, append_assoc, length-replicate}
 use Rattle.std.proofs.lemmas.List.Edits.{map_over_more}
 use Rattle.std.proofs.lemmas.List.Sums.{fold_more, AllPass-from_list_all}
-use Rattle.std.proofs.lemmas.Option.{get_or_from_slice_get, slice_get_within, slice_get-get_or}
-use Rattle.std.proofs.lemmas.Bool.{and_parts, leb-true}
+use Rattle.std.proofs.lemmas.Option.{get_or_from_slice_get, slice_get_within}
 
 pub least_found : (p : ℕ → Bool) (i : ℕ) → i < 4 → ((k : ℕ) → k < i → p k ≡ false) → p i ≡ true → find p (0 ∷ 1 ∷ 2 ∷ 3 ∷ []) ≡ Some i
 least_found p zero below before here = rw here refl

@@ -1,5 +1,4 @@
-use Rattle.std.proofs.Common.{◌≡◌, ◌++◌, ◌∷◌, ◌+◌, ◌<◌, set, drop, replicate, length, arith, sym, ◌∙◌, ap}
-use Rattle.bus_rules.specs.Streams.{Stream, no_stream}
+use Rattle.bus_rules.specs.Streams.{no_stream}
 use Rattle.stream_source.proofs.InTurn.{fill_step}
 use Rattle.stream_source.proofs.streams.clear_each.Goals as goal
 

@@ -1,6 +1,5 @@
-use Rattle.std.proofs.Common.{◌≡◌, ℕ, Bool, true, false, Option, Some, None, if◌then◌else◌, option_map, refl, sym, ◌∙◌, ap, subst, arith}
-use Rattle.std.specs.List.{find}
-use Rattle.bus_rules.specs.Streams.{is_due, with_wish, stream_at}
+use Rattle.std.proofs.Common.{◌≡◌, ℕ, Bool, true, false, Some, None, if◌then◌else◌, refl, arith}
+use Rattle.bus_rules.specs.Streams.{is_due, stream_at}
 use Rattle.stream_source.proofs.InTurn.{least_found}
 use Rattle.stream_source.proofs.streams.Streams.due.Goals as goal
 

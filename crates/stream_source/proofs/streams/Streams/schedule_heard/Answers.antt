@@ -1,6 +1,4 @@
-use Rattle.std.proofs.Common.{◌≡◌, ◌≢◌, arith, sym, subst}
-use Rattle.lwb_base.specs.Messages.{Schedule}
-use Rattle.bus_rules.specs.Streams.{schedule_heard}
+use Rattle.std.proofs.Common.{◌≡◌, ◌≢◌, arith}
 use Rattle.stream_source.proofs.Hearing.{opening_heard, closing_heard}
 use Rattle.stream_source.proofs.streams.Streams.schedule_heard.Goals as goal
 
