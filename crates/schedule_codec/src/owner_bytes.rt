@@ -28,6 +28,7 @@ pub fn write_owners(owners: &Owners) -> ArrayVec<u8, 52>
     bytes
 }
 
+// The first code with the width of the differences, and these packed.
 fn write_codes(first: u16, rest: &[u16]) -> ArrayVec<u8, 51>
     requires { are_owners (first ∷ rest.now) ≡ true }
     ensures { result.items ≡ codes_bytes first (differences_of (first ∷ rest.now)) }
@@ -60,6 +61,7 @@ pub fn read_owners(bytes: &[u8]) -> Option<Owners>
     }
 }
 
+// The owners that are spelled by this count and these bytes behind it.
 fn read_codes(count: u8, bytes: &[u8]) -> Option<Owners>
     requires { 0 < count }
     ensures some { IfSome result (λ cs. (are_owners cs ≡ true) × (owners_bytes cs ≡ count ∷ bytes.now)) }
