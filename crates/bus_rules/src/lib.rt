@@ -1,6 +1,15 @@
 //! What the bus and its nodes have in common: rules and results, over numbers and lists.
 #![tactic(auto)]
 
+mod delivery;
 mod flood_result;
+mod slots_owed;
+mod tune;
 
+pub use delivery::{Delivery, DropLine};
 pub use flood_result::FloodResult;
+pub use slots_owed::owed;
+pub use tune::{Tune, next_tune};
+
+#[cfg(test)]
+mod tests;

@@ -1,11 +1,11 @@
 -- Acknowledgements that are read one after another.
-use Rattle.std.proofs.Common.{◌≡◌, ℕ, zero, suc, ◌+◌, ◌-◌, ◌*◌, ◌<◌, ◌≤◌, List, [], ◌∷◌, ◌++◌, Bool, true, false, length, take, drop, get_or, slice_get, flat_map, Option, Some, None, refl, sym, ◌∙◌, ap, subst, arith, append_assoc, length-append, take-append-drop}
+use Rattle.std.proofs.Common.{◌≡◌, ℕ, ◌+◌, ◌-◌, ◌*◌, ◌<◌, ◌≤◌, List, [], ◌∷◌, ◌++◌, true, length, take, drop, get_or, slice_get, flat_map, Option, Some, None, refl, sym, ◌∙◌, ap, subst, arith, append_assoc, length-append, take-append-drop}
 use Rattle.std.proofs.lemmas.Bool.{and_parts, and_from, leb-true, lt-ltb}
-use Rattle.std.proofs.lemmas.List.{append-nil, nil_from_length, length-drop, length-take-le}
+use Rattle.std.proofs.lemmas.List.{append-nil, nil_from_length, length-drop}
 use Rattle.std.proofs.lemmas.List.Concat.{flat_map-append}
 use Rattle.std.proofs.lemmas.List.Folds.{list_all-append}
 use Rattle.std.specs.List.{list_all}
-use Rattle.lwb_base.specs.Messages.{Ask, code_of}
+use Rattle.lwb_base.specs.Messages.{Ask}
 use Rattle.schedule_codec.specs.AckLists.{are_acks, strictly_ascend, takes_ack, may_follow, ask_in_range, ask_bytes}
 use Rattle.schedule_codec.proofs.Lists.{are_acks_push, last_of_rest}
 use Rattle.schedule_codec.proofs.Readings.{length-asks}

@@ -1,6 +1,6 @@
 -- The bytes of owners, taken apart and put together.
-use Rattle.std.proofs.Common.{◌≡◌, ℕ, zero, suc, ◌+◌, ◌-◌, ◌*◌, ◌/◌, ◌%◌, ◌^◌, ◌<◌, ◌≤◌, List, [], ◌∷◌, ◌++◌, Bool, true, false, length, take, drop, get_or, Option, Some, None, refl, sym, ◌∙◌, ap, subst, arith}
-use Rattle.std.proofs.lemmas.Bool.{and_parts, and_from, leb-true, le-leb, ltb-true, lt-ltb}
+use Rattle.std.proofs.Common.{◌≡◌, ℕ, suc, ◌+◌, ◌-◌, ◌*◌, ◌/◌, ◌%◌, ◌^◌, ◌<◌, ◌≤◌, List, [], ◌∷◌, true, length, take, drop, get_or, Option, Some, None, refl, sym, ◌∙◌, ap, subst, arith}
+use Rattle.std.proofs.lemmas.Bool.{and_parts, and_from, le-leb, ltb-true, lt-ltb}
 use Rattle.std.proofs.Math.Nat.{pow-le-pow_right}
 use Rattle.std.specs.Option.{SomeIff, IfSome}
 use Rattle.arrayvec.specs.ArrayVec.{ArrayVec}
@@ -8,10 +8,10 @@ use Rattle.std.proofs.lemmas.List.{take_all, length-drop}
 use Rattle.std.specs.List.{list_all}
 use Rattle.lwb_packets.specs.Ranges.{between}
 use Rattle.schedule_codec.specs.Packing.{fit, packed, Packs}
-use Rattle.schedule_codec.specs.OwnerLists.{are_owners, differences, width_of, two_bytes, codes_bytes, owners_bytes}
+use Rattle.schedule_codec.specs.OwnerLists.{are_owners, differences, width_of, codes_bytes, owners_bytes}
 use Rattle.schedule_codec.specs.Reading.{following, summed}
 use Rattle.schedule_codec.proofs.Widths.{codes_of, length-differences, differences_fit, width_fits}
-use Rattle.schedule_codec.proofs.Readings.{owners_back, summed-differences, differences-summed, length-following, summed_ascends}
+use Rattle.schedule_codec.proofs.Readings.{summed-differences, differences-summed, length-following, summed_ascends}
 
 -- what bytes behind the count say, if they are those of these owners
 pub record CodesIn (count : ℕ) (bs cs : List ℕ) (c : ℕ) (ds : List ℕ) : Type 0 where

@@ -1,5 +1,5 @@
 -- The bytes of a schedule, taken apart and put together.
-use Rattle.std.proofs.Common.{◌≡◌, ℕ, ◌+◌, ◌-◌, ◌*◌, ◌/◌, ◌%◌, ◌<◌, ◌≤◌, List, [], ◌∷◌, ◌++◌, Bool, true, false, length, take, drop, get_or, Option, Some, None, refl, sym, ◌∙◌, ap, subst, arith}
+use Rattle.std.proofs.Common.{◌≡◌, ℕ, ◌+◌, ◌-◌, ◌*◌, ◌/◌, ◌%◌, ◌≤◌, List, [], ◌∷◌, ◌++◌, true, length, take, drop, get_or, set, Option, Some, None, refl, sym, ◌∙◌, ap, subst, arith}
 use Rattle.std.proofs.lemmas.Bool.{and_parts, and_from}
 use Rattle.std.proofs.lemmas.List.{take_rest}
 use Rattle.std.specs.Option.{IfSome}
@@ -7,7 +7,7 @@ use Rattle.std.specs.Str.{bytes_eq}
 use Rattle.lwb_base.specs.Messages.{Ask, Schedule}
 use Rattle.schedule_codec.specs.declared.ack_bytes.Acknowledged.{Acknowledged}
 use Rattle.schedule_codec.specs.OwnerLists.{owners_bytes}
-use Rattle.schedule_codec.specs.Spelling.{spelling, spells, kind_byte, acks_bytes, slot_fits, SpellsAcks, SpellsBody}
+use Rattle.schedule_codec.specs.Spelling.{spelling, spells, acks_bytes, slot_fits, SpellsBody, IsWritable}
 use Rattle.schedule_codec.specs.Reading.{schedule_of}
 use Rattle.schedule_codec.proofs.Readings.{Parts, parts_of, range_from, same_bytes, bytes_same, read_as, spelled_by}
 
@@ -109,3 +109,15 @@ contend_of (Some b) = b.0.contend
 pub same_contend : (b : Acknowledged) (owners owners' : List ℕ) (contend : ℕ) (acks : List Ask) → ◌≡◌ {A = Option (Acknowledged × List ℕ)} (Some (b, owners)) (Some (record { contend = contend; acks = acks }, owners')) → b.contend ≡ contend
 unfolding contend_of
 same_contend b owners owners' contend acks is = ap contend_of is
+
+pub if_some_then : {X : Type 0} (o : Option X) (P Q : X → Type 0) → IfSome o P → ((x : X) → P x → Q x) → IfSome o Q
+if_some_then None P Q is then = tt
+if_some_then (Some x) P Q is then = then x is
+
+pub written_again : (p : List ℕ) (s : Schedule) → spells p s ≡ true → set (spelling s (get_or p 1 0) 0) 2 (get_or p 2 0) ≡ p
+written_again p s is = bytes_same (spelling s (get_or p 1 0) (get_or p 2 0)) p (and_parts _ _ is).1
+
+pub writable_again : (p : List ℕ) (s : Schedule) → spells p s ≡ true → IsWritable s (get_or p 1 0)
+writable_again p s is =
+    let parts = (heads_of p s is).parts in
+    record { boot = parts.boot; gap = parts.gap; contend = parts.contend; few = parts.few; acks = parts.acks; place = parts.place }

@@ -1,5 +1,5 @@
 -- What is read off the bytes of a schedule is the schedule.
-use Rattle.std.proofs.Common.{◌≡◌, ℕ, zero, suc, ◌+◌, ◌-◌, ◌*◌, ◌/◌, ◌%◌, ◌^◌, ◌<◌, ◌≤◌, List, [], ◌∷◌, ◌++◌, Bool, true, false, ◌==◌, if◌then◌else◌, cond, length, length-append, drop, slice_index, flat_map, bytes_eq, Option, Some, None, inl, inr, refl, sym, ◌∙◌, ap, subst, arith}
+use Rattle.std.proofs.Common.{◌≡◌, ℕ, suc, ◌+◌, ◌-◌, ◌*◌, ◌/◌, ◌%◌, ◌^◌, ◌<◌, ◌≤◌, List, [], ◌∷◌, ◌++◌, Bool, true, false, ◌==◌, if◌then◌else◌, length, length-append, drop, slice_index, flat_map, bytes_eq, Some, None, inl, inr, refl, sym, ◌∙◌, ap, subst, arith}
 use Rattle.std.proofs.lemmas.Bool.{and_parts, and_from, leb-true, le-leb, eqb-true, eq-eqb, cond-true, cond-false, cases_eq, ne_eqb, false≢true}
 use Rattle.std.proofs.lemmas.List.{drop_at, drop-drop}
 use Rattle.std.specs.List.{list_all}
@@ -7,7 +7,7 @@ use Rattle.lwb_base.specs.Messages.{Ask, Plan, Schedule}
 use Rattle.schedule_codec.specs.Packing.{fit, number, digits, packed, bytes_for}
 use Rattle.schedule_codec.specs.AckLists.{are_acks, ask_bytes, ask_in_range}
 use Rattle.schedule_codec.specs.OwnerLists.{are_owners, ascend, differences, width_of, owners_bytes, owners_length}
-use Rattle.schedule_codec.specs.Spelling.{spelling, in_range, spells, acks_bytes, single_ack, most_acks, kind_byte, length_of, slot_fits, IsWritable}
+use Rattle.schedule_codec.specs.Spelling.{spelling, in_range, spells, acks_bytes, single_ack, most_acks, length_of, slot_fits, IsWritable}
 use Rattle.schedule_codec.specs.Reading.{following, summed, owners_in, ask_in, asks_in, said, schedule_of}
 use Rattle.schedule_codec.proofs.Numbers.{unpacked, length-packed}
 use Rattle.schedule_codec.proofs.Widths.{codes_of, differences_fit, width_fits, length-differences}

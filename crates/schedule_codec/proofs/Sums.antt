@@ -1,5 +1,5 @@
 -- Owners that are added one after another, each by its difference from the one before.
-use Rattle.std.proofs.Common.{◌≡◌, ℕ, zero, suc, ◌+◌, ◌-◌, ◌<◌, ◌≤◌, List, [], ◌∷◌, ◌++◌, Bool, true, false, if◌then◌else◌, length, drop, get_or, slice_get, Option, Some, None, refl, sym, ◌∙◌, ap, subst, arith, append_assoc, length-append}
+use Rattle.std.proofs.Common.{◌≡◌, ℕ, ◌+◌, ◌-◌, ◌<◌, ◌≤◌, List, [], ◌∷◌, ◌++◌, Bool, true, if◌then◌else◌, length, drop, get_or, slice_get, Some, refl, sym, ◌∙◌, ap, arith, append_assoc, length-append}
 use Rattle.std.proofs.lemmas.Bool.{and_parts, and_from, leb-true, le-leb, lt-ltb, cond-true}
 use Rattle.std.proofs.lemmas.List.{drop_more, drop_all, append-nil}
 use Rattle.std.proofs.lemmas.List.Folds.{list_all-append}

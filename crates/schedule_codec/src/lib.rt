@@ -17,3 +17,6 @@ pub use decode::read;
 pub use encode::write;
 pub use owners::Owners;
 pub use schedule::Schedule;
+
+#[cfg(test)]
+mod tests;

@@ -1,7 +1,6 @@
-use Rattle.std.proofs.Common.{◌≡◌, ◌+◌, ℕ, List, ◌∷◌, [], ◌++◌, true, false, take, drop, Some, None, ap, sym, subst, ◌∙◌, arith}
+use Rattle.std.proofs.Common.{◌+◌, ℕ, List, ◌∷◌, [], ◌++◌, Some, ap, sym, subst, ◌∙◌}
 use Rattle.std.proofs.lemmas.Bool.{both_ways, cond-true}
-use Rattle.lwb_base.specs.Messages.{Ask}
-use Rattle.schedule_codec.specs.AckLists.{takes_ack, ask_bytes}
+use Rattle.schedule_codec.specs.AckLists.{takes_ack}
 use Rattle.schedule_codec.proofs.AckRuns.{Read, reads_none, reads_more, reads_all, flat_same, next_in, same_some}
 use Rattle.schedule_codec.proofs.ack_bytes.read_each.Goals as goal
 

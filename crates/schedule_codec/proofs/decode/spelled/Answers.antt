@@ -1,8 +1,7 @@
-use Rattle.std.proofs.Common.{◌≡◌, ◌≤◌, ◌/◌, ◌%◌, ℕ, List, get_or, true, false, Some, None, ap, sym, ◌∙◌, arith}
+use Rattle.std.proofs.Common.{◌≡◌, ◌%◌, get_or, ap, sym, ◌∙◌, arith}
 use Rattle.std.proofs.lemmas.Bool.{both_ways}
-use Rattle.lwb_base.specs.Messages.{Ask, Schedule}
 use Rattle.schedule_codec.specs.Spelling.{spells, slot_fits}
-use Rattle.schedule_codec.proofs.Heads.{Heads, heads_of, read_spells, body_behind, same_contend, same_schedule}
+use Rattle.schedule_codec.proofs.Heads.{heads_of, read_spells, body_behind, same_contend, same_schedule}
 use Rattle.schedule_codec.proofs.decode.spelled.Goals as goal
 use Rattle.schedule_codec.proofs.decode.spelled.Goals.{then-counter-gt11-via-then-counter-gt11, then-counter-gt11-via-else-counter-gt11+then-host_boot-lt1, then-counter-gt11-via-else-counter-gt11+else-host_boot-lt1+then-host_boot-gt200, then-counter-gt11-via-else-counter-gt11+else-host_boot-lt1+else-host_boot-gt200+then-gap-gt4}
 

@@ -1,4 +1,4 @@
-use Rattle.std.proofs.Common.{◌≡◌, refl, sym, ◌∙◌, arith, true, false}
+use Rattle.std.proofs.Common.{refl, sym, ◌∙◌, arith}
 use Rattle.schedule_codec.specs.Packing.{fit}
 use Rattle.schedule_codec.proofs.Widths.{least_here, least_further, least_at_end}
 use Rattle.schedule_codec.proofs.differences.least_width.Goals as goal

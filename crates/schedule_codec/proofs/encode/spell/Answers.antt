@@ -1,4 +1,4 @@
-use Rattle.std.proofs.Common.{◌≡◌, ◌≤◌, ap, sym, ◌∙◌, subst, arith, true}
+use Rattle.std.proofs.Common.{ap, sym, ◌∙◌, arith}
 use Rattle.lwb_base.specs.Messages.{Schedule}
 use Rattle.schedule_codec.specs.AckLists.{are_acks}
 use Rattle.schedule_codec.specs.OwnerLists.{are_owners}

@@ -1,4 +1,4 @@
-use Rattle.std.proofs.Common.{◌≡◌, ap, length, ◌∙◌}
+use Rattle.std.proofs.Common.{ap, length, ◌∙◌}
 use Rattle.schedule_codec.specs.Reading.{schedule_of}
 use Rattle.schedule_codec.proofs.Readings.{length-spelling, schedule_spelled}
 use Rattle.schedule_codec.proofs.encode.write.Goals as goal

@@ -1,4 +1,4 @@
-use Rattle.std.proofs.Common.{◌≡◌, ◌<◌, ◌≤◌, ℕ, List, ◌∷◌, ◌*◌, ◌/◌, ◌%◌, true, length, take, drop, get_or, Some, None, inl, inr, ◌+◌, ◌-◌, ap, sym, subst, ◌∙◌, arith}
+use Rattle.std.proofs.Common.{◌≡◌, ℕ, List, ◌∷◌, ◌/◌, ◌%◌, true, drop, Some, inl, inr, ap, sym, subst, ◌∙◌, arith}
 use Rattle.std.specs.List.{list_all}
 use Rattle.lwb_packets.specs.Ranges.{between}
 use Rattle.schedule_codec.specs.Packing.{fit, packed}

@@ -1,4 +1,4 @@
-use Rattle.std.proofs.Common.{◌≡◌, ◌<◌, ◌≤◌, ℕ, ◌+◌, ◌^◌, get_or, arith, subst, sym, Option, true}
+use Rattle.std.proofs.Common.{◌≡◌, ◌<◌, ℕ, get_or, arith, subst, sym, Option, true}
 use Rattle.std.proofs.Common.{List}
 use Rattle.std.specs.List.{list_all}
 use Rattle.std.specs.Option.{SomeIff}

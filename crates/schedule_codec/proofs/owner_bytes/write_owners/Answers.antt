@@ -1,4 +1,4 @@
-use Rattle.std.proofs.Common.{◌≡◌, true, ap, sym, ◌∙◌, arith}
+use Rattle.std.proofs.Common.{ap, ◌∙◌}
 use Rattle.schedule_codec.specs.OwnerLists.{are_owners}
 use Rattle.schedule_codec.proofs.Widths.{first_and_rest}
 use Rattle.schedule_codec.proofs.owner_bytes.write_owners.Goals as goal

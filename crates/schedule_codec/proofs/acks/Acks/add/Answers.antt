@@ -1,7 +1,7 @@
 use Rattle.std.proofs.Common.{◌≡◌, ◌-◌, ◌<◌, List, true, length, slice_get, ap, sym, ◌∙◌, arith}
 use Rattle.std.proofs.lemmas.Bool.{and_parts, and_from, lt-ltb, leb-true, eqb-false}
 use Rattle.lwb_base.specs.Messages.{Ask}
-use Rattle.schedule_codec.specs.AckLists.{are_acks, takes_ack, may_follow}
+use Rattle.schedule_codec.specs.AckLists.{are_acks, may_follow}
 use Rattle.schedule_codec.proofs.Lists.{are_acks_push}
 use Rattle.schedule_codec.proofs.acks.Acks.add.Goals as goal
 

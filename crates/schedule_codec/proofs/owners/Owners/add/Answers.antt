@@ -1,6 +1,6 @@
 use Rattle.std.proofs.Common.{◌≡◌, ℕ, ◌-◌, ◌<◌, List, true, length, slice_get, ap, sym, ◌∙◌, arith}
 use Rattle.std.proofs.lemmas.Bool.{and_parts, and_from, lt-ltb, leb-true, eqb-false}
-use Rattle.schedule_codec.specs.OwnerLists.{are_owners, takes_owner, may_follow}
+use Rattle.schedule_codec.specs.OwnerLists.{are_owners, may_follow}
 use Rattle.schedule_codec.proofs.Lists.{are_owners_push}
 use Rattle.schedule_codec.proofs.owners.Owners.add.Goals as goal
 

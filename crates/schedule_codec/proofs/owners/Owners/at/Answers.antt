@@ -1,4 +1,4 @@
-use Rattle.std.proofs.Common.{◌≡◌, ap, sym, ◌∙◌, true, length, arith, List, subst, slice_get, ℕ}
+use Rattle.std.proofs.Common.{ap, ◌∙◌, arith, slice_get}
 use Rattle.schedule_codec.specs.OwnerLists.{are_owners}
 use Rattle.schedule_codec.proofs.Lists.{owner_at}
 use Rattle.schedule_codec.proofs.owners.Owners.at.Goals as goal

@@ -1,0 +1,9 @@
+//! Which rank a node scans, holds or hosts, from frame to frame.
+#![tactic(auto)]
+
+mod tuner;
+
+pub use tuner::Tuner;
+
+#[cfg(test)]
+mod tests;

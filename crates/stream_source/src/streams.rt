@@ -1,0 +1,257 @@
+ghost use Rattle.std.specs.Prelude.{◌≡◌, ◌≤◌, ◌==◌, true, IfOk, if◌then◌else◌, fold, map, length, replicate, option_map};
+ghost use Rattle.std.specs.List.{list_all};
+ghost use Rattle.bus_rules.specs.Streams as rule;
+ghost use Rattle.schedule_codec.specs.AckLists.{ask_in_range};
+ghost use Rattle.stream_source.specs.declared.stream.Put.TheVariants.{Queued, Dropped};
+
+use crate::stream::{Put, Stream, Waiting};
+use lwb_base::{Memory, NodeId, Owner, Payload, Rank};
+use schedule_codec::{Ack, Acks, Owners, Schedule};
+use std::alloc::Global;
+use std::marker::Model;
+
+// The most tries that are counted.
+const TRIES: u8 = 4;
+
+/// The four streams of a node, 0 to 3, with what it keeps for contention and of the host that it last heard.
+#[derive(Drop)]
+pub struct Streams {
+    streams: [Stream; 4],
+    tries: u8,
+    skips: u8,
+    host: Option<(Rank, u8)>,
+}
+
+impl Model for Streams {
+    ghost use Rattle.std.specs.Prelude.{◌≤◌};
+    ghost use Rattle.bus_rules.specs.Streams.{Streams as StreamsOf};
+
+    ghost Value = { StreamsOf };
+
+    ghost view = { λ s. record { all = s.streams; tries = s.tries; skips = s.skips; host = s.host } };
+
+    ghost invariant = { λ s. s.tries ≤ 4 };
+}
+
+impl Streams {
+    /// The streams of a booted node.
+    pub fn new(alloc: Global) -> Result<Streams, Memory>
+        ensures { IfOk result (λ s. s ≡ rule.cleared) }
+    {
+        Ok(Streams {
+            streams: [
+                Stream::new(alloc)?,
+                Stream::new(alloc)?,
+                Stream::new(alloc)?,
+                Stream::new(alloc)?,
+            ],
+            tries: 0,
+            skips: 0,
+            host: None,
+        })
+    }
+
+    /// The node boots again.
+    pub fn clear(&mut self)
+        ensures { self.new ≡ rule.cleared }
+    {
+        clear_each(&mut self.streams);
+        self.tries = 0;
+        self.skips = 0;
+        self.host = None;
+    }
+
+    /// Sets the interval that the stream wishes, in seconds.
+    pub fn declare(&mut self, stream: u8, interval: u8)
+        requires stream { stream ≤ 3 }
+        requires interval { (1 ≤ interval) × (interval ≤ 120) }
+        ensures { self.new ≡ rule.declared stream interval self.old }
+    {
+        self.streams[usize::from(stream)].set_wish(interval);
+    }
+
+    /// The stream wishes nothing more, and what waits in it is gone.
+    pub fn leave(&mut self, stream: u8)
+        requires { stream ≤ 3 }
+        ensures { self.new ≡ rule.left stream self.old }
+    {
+        self.streams[usize::from(stream)].leave();
+    }
+
+    /// Puts a packet at the end of the stream's queue. `Dropped`, and nothing changes, exactly where the stream wishes
+    /// nothing, 16 packets wait in it, or its 65,535 numbers are used.
+    pub fn put(&mut self, stream: u8, payload: &Payload) -> Put
+        requires { stream ≤ 3 }
+        ensures answer { result ≡ (if rule.drops self.old stream then Dropped else Queued (rule.stream_at self.old stream).next) }
+        ensures after { self.new ≡ rule.put stream payload.now self.old }
+    {
+        self.streams[usize::from(stream)].put(payload)
+    }
+
+    /// Takes the packet that waits longest. None exactly where none waits.
+    pub fn take(&mut self, stream: u8) -> Option<Waiting>
+        requires { stream ≤ 3 }
+        ensures answer { result ≡ rule.first_waiting self.old stream }
+        ensures after { self.new ≡ rule.taken stream self.old }
+    {
+        self.streams[usize::from(stream)].take()
+    }
+
+    /// What the stream wishes, where a request of it is due. None exactly where none is.
+    pub fn due_of(&self, stream: u8) -> Option<u8>
+        requires { stream ≤ 3 }
+        ensures { result ≡ rule.due_of self.now stream }
+    {
+        let stream = &self.streams[usize::from(stream)];
+        if stream.is_due() {
+            Some(stream.wish())
+        } else {
+            None
+        }
+    }
+
+    /// The least stream of which a request is due, with its wish. None exactly where none is due.
+    pub fn due(&self) -> Option<(u8, u8)>
+        ensures { result ≡ option_map (rule.with_wish self.now) (rule.due self.now) }
+    {
+        for i in 0..4_u8 {
+            if let Some(wish) = self.due_of(i) {
+                return Some((i, wish));
+            }
+        }
+        None
+    }
+
+    /// How often the node has contended since its host last answered, at most 4.
+    pub fn tries(&self) -> u8
+        ensures value { result ≡ self.now.tries }
+        ensures range { result ≤ 4 }
+    {
+        self.tries
+    }
+
+    /// The node's own contention slot begins. The request that it sends, as a stream with its wish. None exactly where
+    /// none is due or slots are still to be skipped; then one skip less is left.
+    pub fn request_now(&mut self, node: NodeId) -> Option<(u8, u8)>
+        ensures answer { result ≡ option_map (rule.with_wish self.old) (rule.requested self.old) }
+        ensures after { self.new ≡ rule.after_contention node self.old }
+    {
+        let request = self.due()?;
+        if self.skips > 0 {
+            self.skips -= 1;
+            return None;
+        }
+        self.tries = TRIES.min(self.tries + 1);
+        self.skips = node.number() % (1 << self.tries);
+        Some(request)
+    }
+
+    /// The node accepted a schedule in this frame, and does not host. `boot` is the node's own.
+    pub fn schedule_heard(&mut self, node: NodeId, boot: u8, frame: u32, s: &Schedule)
+        requires { list_all ask_in_range s.now.plan.acks ≡ true }
+        ensures { self.new ≡ rule.schedule_heard node boot frame s.now self.old }
+    {
+        self.hear_host(s.host, s.host_boot);
+        self.hear_acks(node, boot, frame, &s.acks);
+        self.hear_owners(node, frame, &s.owners);
+        if s.gap > 0 {
+            self.forget(frame);
+        }
+    }
+
+    /// The node begins to host: nothing is agreed, and contention begins anew.
+    pub fn hosting(&mut self)
+        ensures { self.new ≡ rule.unbound self.old }
+    {
+        disagree(&mut self.streams);
+        self.tries = 0;
+        self.skips = 0;
+    }
+
+    /// Sets what is agreed with the host, 0 for nothing.
+    pub fn set_agreed(&mut self, stream: u8, interval: u8)
+        requires stream { stream ≤ 3 }
+        requires interval { interval ≤ 120 }
+        ensures { self.new ≡ rule.with_agreed stream interval self.old }
+    {
+        self.streams[usize::from(stream)].set_agreed(interval);
+    }
+
+    // A schedule of this host was heard.
+    fn hear_host(&mut self, rank: Rank, boot: u8)
+        ensures { self.new ≡ rule.heard_host rank boot self.old }
+    {
+        if self.host != Some((rank, boot)) {
+            self.hosting();
+            self.host = Some((rank, boot));
+        }
+    }
+
+    fn hear_ack(&mut self, node: NodeId, boot: u8, frame: u32, ack: Ack)
+        requires { ack.stream ≤ 3 }
+        ensures { self.new ≡ rule.acknowledged node boot frame self.old ack }
+    {
+        if ack.node == node && ack.boot == boot {
+            self.streams[usize::from(ack.stream)].grant(ack.interval, frame);
+            self.tries = 0;
+            self.skips = 0;
+        }
+    }
+
+    fn hear_acks(&mut self, node: NodeId, boot: u8, frame: u32, acks: &Acks)
+        requires { list_all ask_in_range acks.now ≡ true }
+        ensures { self.new ≡ fold (rule.acknowledged node boot frame) self.old acks.now }
+    {
+        for i in 0..usize::from(acks.count()) {
+            let ack = acks.at(i).unwrap();
+            self.hear_ack(node, boot, frame, ack);
+        }
+    }
+
+    fn hear_owner(&mut self, node: NodeId, frame: u32, owner: Owner)
+        ensures { self.new ≡ rule.owns node frame self.old owner }
+    {
+        if owner.node() == node {
+            self.streams[usize::from(owner.stream())].name(frame);
+        }
+    }
+
+    fn hear_owners(&mut self, node: NodeId, frame: u32, owners: &Owners)
+        ensures { self.new ≡ fold (rule.owns node frame) self.old owners.now }
+    {
+        for i in 0..usize::from(owners.count()) {
+            let owner = owners.at(i).unwrap();
+            self.hear_owner(node, frame, owner);
+        }
+    }
+
+    fn forget(&mut self, frame: u32)
+        ensures { self.new ≡ rule.forgets frame self.old }
+    {
+        forget_each(&mut self.streams, frame);
+    }
+}
+
+fn clear_each(streams: &mut [Stream])
+    ensures { streams.new ≡ replicate (length streams.old) rule.no_stream }
+{
+    for stream in streams.iter_mut() {
+        stream.clear();
+    }
+}
+
+fn disagree(streams: &mut [Stream])
+    ensures { streams.new ≡ map (rule.agrees 0) streams.old }
+{
+    for stream in streams.iter_mut() {
+        stream.set_agreed(0);
+    }
+}
+
+fn forget_each(streams: &mut [Stream], frame: u32)
+    ensures { streams.new ≡ map (rule.forgotten frame) streams.old }
+{
+    for stream in streams.iter_mut() {
+        stream.forget(frame);
+    }
+}
