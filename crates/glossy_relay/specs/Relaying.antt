@@ -1,10 +1,12 @@
 -- What a flood at one node answers, and what it keeps.
-use Rattle.std.specs.Prelude.{ℕ, ◌+◌, List, Bool, true, false, not, ◌&&◌, ◌==◌, nat_lt, if◌then◌else◌, slice_index, slice_set, Some, None}
+use Rattle.std.specs.Prelude.{ℕ, ◌+◌, List, Bool, true, false, not, ◌&&◌, ◌||◌, ◌==◌, nat_lt, if◌then◌else◌, slice_index, slice_set, Some, None}
 use Rattle.std.specs.declared.option.Option.{Option}
 use Rattle.std.specs.Option.{option_map}
 use Rattle.std.specs.Str.{bytes_eq}
 use Rattle.lwb_packets.specs.Body.{body}
 use Rattle.lwb_packets.specs.DataPackets.{is_data}
+use Rattle.lwb_packets.specs.Requests.{is_request}
+use Rattle.schedule_codec.specs.Reading.{is_schedule}
 use Rattle.lwb_packets.specs.declared.kind.Kind.{Kind}
 use Rattle.lwb_packets.specs.declared.kind.Kind.TheVariants.{Schedule, Payload, Request}
 use Rattle.glossy_relay.specs.FloodState.{FloodState}
@@ -13,11 +15,15 @@ use Rattle.glossy_relay.specs.declared.flood.Reply.TheVariants.{Relay, Keep, Ign
 use Rattle.glossy_relay.specs.declared.flood.After.{After}
 use Rattle.glossy_relay.specs.declared.flood.After.TheVariants.{More, Off}
 
--- the bytes are a spelling of this kind. Only data packets are known so far
+-- the bytes are a spelling of this kind
 abbrev pub is_spelling : Kind → List ℕ → Bool
-is_spelling Schedule p = false
+is_spelling Schedule p = is_schedule p
 is_spelling Payload p = is_data p
-is_spelling Request p = false
+is_spelling Request p = is_request p
+
+-- the bytes are a spelling of some kind
+abbrev pub is_packet : List ℕ → Bool
+is_packet p = is_data p || is_request p || is_schedule p
 
 abbrev pub slot_of : List ℕ → ℕ
 slot_of p = slice_index p 1

@@ -1,9 +1,9 @@
 ghost use Rattle.std.specs.Prelude.{◌≡◌, ◌≤◌, slice_index, true};
-ghost use Rattle.lwb_packets.specs.DataPackets.{is_data};
-ghost use Rattle.glossy_relay.specs.Relaying.{carries as carries_body, is_spelling as spells};
+ghost use Rattle.glossy_relay.specs.Relaying.{carries as carries_body, is_packet, is_spelling as spells};
 
 use lwb_base::Packet;
-use lwb_packets::{Kind, decode_payload, same_body, with_counter};
+use lwb_packets::{Kind, decode_payload, decode_request, kind_of, same_body, with_counter};
+use schedule_codec::read;
 use std::marker::Model;
 
 /// The greatest relay counter. A packet that comes with it is kept and not relayed.
@@ -57,15 +57,15 @@ impl Flood {
     ghost use Rattle.glossy_relay.specs.FloodState.{listening, initiating};
     ghost use Rattle.glossy_relay.specs.Relaying.{reply_to, after_heard, after_sent, after_ending, accepted_of};
 
-    /// A flood that begins here with this data packet, whose sending is ordered. It sends at most n times.
+    /// A flood that begins here with this packet, whose sending is ordered. It sends at most n times.
     pub fn initiate(packet: &Packet, n: u8) -> Flood
-        requires spelled { is_data packet.now ≡ true }
+        requires spelled { is_packet packet.now ≡ true }
         requires counter { slice_index packet.now 2 ≡ 0 }
         requires sends { (1 ≤ n) × (n ≤ 4) }
         ensures { result ≡ initiating packet.now n }
     {
         Flood {
-            kind: Kind::Payload,
+            kind: kind_of(packet).unwrap(),
             slot: packet.slot(),
             limit: n,
             sent: 0,
@@ -155,8 +155,9 @@ fn is_spelling(kind: Kind, p: &Packet) -> bool
     ensures { result ≡ spells kind p.now }
 {
     match kind {
+        Kind::Schedule => read(p).is_some(),
         Kind::Payload => decode_payload(p).is_some(),
-        Kind::Schedule | Kind::Request => false,
+        Kind::Request => decode_request(p).is_some(),
     }
 }
 

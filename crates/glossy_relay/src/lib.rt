@@ -1,4 +1,4 @@
-//! The relaying of one flood at one node. Only data packets are known so far.
+//! The relaying of one flood at one node.
 #![tactic(auto)]
 
 mod flood;

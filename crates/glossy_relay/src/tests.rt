@@ -1,6 +1,6 @@
 use super::*;
 use lwb_base::Packet;
-use lwb_packets::{Kind, decode_payload};
+use lwb_packets::{Kind, decode_payload, same_body};
 use std::test::Fail;
 
 // A data packet of node 1 in slot 1 with this counter.
@@ -61,5 +61,26 @@ fn what_does_not_fit_is_ignored(rt: HostRuntime) -> Result<(), Fail> {
     let other = Packet::new(&[2, 1, 3, 1, 1, 0, 0, 1]).ok_or("length")?;
     assert!(rt; matches!(flood.heard(&other), Reply::Ignore));
     assert_eq!(rt; flood.accepted().ok_or("accepted")?.1, 11);
+    Ok(())
+}
+
+#[test]
+fn each_kind_is_relayed_by_its_flood(rt: HostRuntime) -> Result<(), Fail> {
+    let opening = [1, 0, 0, 0, 1, 0, 0, 0, 0, 0];
+    let contended = [4, 0, 0, 0, 1, 0x30, 0];
+    let request = [3, 0x2c, 0, 2, 1, 0, 4];
+    for (kind, slot, bytes) in [
+        (Kind::Schedule, 0, opening.as_slice()),
+        (Kind::Schedule, 0, contended.as_slice()),
+        (Kind::Request, 44, request.as_slice()),
+    ] {
+        let packet = Packet::new(bytes).ok_or("length")?;
+        let mut flood = Flood::listen(kind, slot, 1);
+        let (relayed, after) = relay(&mut flood, &packet).ok_or("relay")?;
+        assert!(rt; same_body(&relayed, &packet) && relayed.counter() == 1);
+        assert!(rt; after == After::Off);
+        let mut other = Flood::listen(Kind::Payload, slot, 1);
+        assert!(rt; relay(&mut other, &packet).is_none());
+    }
     Ok(())
 }

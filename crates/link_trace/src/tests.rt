@@ -2,10 +2,14 @@ use super::*;
 use lwb_base::NodeId;
 use std::test::Fail;
 
+fn node(id: u8) -> Result<NodeId, Fail> {
+    Ok(NodeId::new(id).ok_or("id")?)
+}
+
 #[test]
 fn a_link_passes_in_its_direction_but_where_it_is_lost(rt: HostRuntime) -> Result<(), Fail> {
-    let one = NodeId::new(1).ok_or("id")?;
-    let two = NodeId::new(2).ok_or("id")?;
+    let one = node(1)?;
+    let two = node(2)?;
     let mut trace = Trace::new(rt.alloc());
     assert_eq!(rt; trace.link(one, two)?, true);
     assert_eq!(rt; trace.link(one, two)?, false);

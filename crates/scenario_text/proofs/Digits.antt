@@ -1,10 +1,12 @@
 -- Decimal digits and their value.
-use Rattle.std.proofs.Common.{◌≡◌, ℕ, ◌+◌, ◌-◌, ◌*◌, ◌^◌, ◌<◌, ◌≤◌, List, [], ◌∷◌, Bool, true, false, length, get_or, take, refl, ap, arith, add-one, one-add, zero, suc, take_while}
+use Rattle.std.proofs.Common.{◌&&◌, nat_lt, nat_le, All, ◌≡◌, ℕ, ◌+◌, ◌-◌, ◌*◌, ◌^◌, ◌<◌, ◌≤◌, List, [], ◌∷◌, Bool, true, false, length, get_or, take, refl, ap, arith, add-one, one-add, zero, suc, take_while}
 use Rattle.std.proofs.Math.Nat.{pow-suc, pow-le-pow_right}
 use Rattle.std.proofs.lemmas.Bool.{and_parts, leb-true}
 use Rattle.std.proofs.lemmas.Bool.Decides.{nat_tests}
 use Rattle.std.proofs.lemmas.Int.Digits.{digits_value_more}
-use Rattle.std.specs.List.{prefix_len}
+use Rattle.std.proofs.lemmas.List.Sums.{AllPass-from_list_all}
+use Rattle.std.specs.List.{prefix_len, list_all}
+use Rattle.scenario_text.specs.Words.{is_number}
 use Rattle.std.specs.Char.{is_ascii_digit, digit_value}
 use Rattle.std.specs.Str.Parse.{digits_value}
 
@@ -21,23 +23,10 @@ digit_is c low high = grind (arith, nat_tests)
 pub value_more : (ds : List ℕ) (i v c : ℕ) → i < length ds → c ≡ get_or ds i 0 → 48 ≤ c → c ≤ 57 → v ≡ digits_value 10 (take i ds) → 10 * v + (c - 48) ≡ digits_value 10 (take (i + 1) ds)
 value_more ds i v c below is low high so_far = omega (arith, digits_value_more 10 ds i below, digit_is c low high, ap digit_value is, so_far)
 
-abbrev IsDigit : ℕ → Type 0
-IsDigit c = (48 ≤ c) × (c ≤ 57)
-
-abbrev front : List ℕ → ℕ
-front bs = prefix_len is_ascii_digit bs
-
-later : (b : ℕ) (bs : List ℕ) (d : ℕ) → ((k : ℕ) → k < length (take (front bs) bs) → IsDigit (get_or (take (front bs) bs) k d))
-    → is_ascii_digit b ≡ true → (k : ℕ) → k < length (take (suc (front bs)) (b ∷ bs)) → IsDigit (get_or (take (suc (front bs)) (b ∷ bs)) k d)
-later b bs d rest is zero below = let p = and_parts _ _ is in (leb-true _ _ p.0, leb-true _ _ p.1)
-later b bs d rest is (suc k) below = rest k (omega arith)
-
-by_test : (e : Bool) (b : ℕ) (bs : List ℕ) (d : ℕ) → ((k : ℕ) → k < length (take (front bs) bs) → IsDigit (get_or (take (front bs) bs) k d))
-    → is_ascii_digit b ≡ e → (k : ℕ) → k < length (take (front (b ∷ bs)) (b ∷ bs)) → IsDigit (get_or (take (front (b ∷ bs)) (b ∷ bs)) k d)
-by_test true b bs d rest is k = rw (is, one-add) (λ below. later b bs d rest is k below)
-by_test false b bs d rest is k = rw is (λ below. absurd (omega arith))
-
--- the longest front of digits has digits alone
-pub digits_only : (bs : List ℕ) (k d : ℕ) → k < length (take_while is_ascii_digit bs) → (48 ≤ get_or (take_while is_ascii_digit bs) k d) × (get_or (take_while is_ascii_digit bs) k d ≤ 57)
-digits_only [] k d below = absurd (omega arith)
-digits_only (b ∷ bs) k d below = by_test (is_ascii_digit b) b bs d (λ k below. digits_only bs k d below) refl k below
+-- the digits of a number
+pub digits_of_number : (w : List ℕ) → is_number w ≡ true → All (λ b. (48 ≤ b) × (b ≤ 57)) w × (length w ≤ 13)
+digits_of_number w is =
+    let p = and_parts (list_all is_ascii_digit w && nat_lt 0 (length w) && nat_le (length w) 13) _ is in
+    let q = and_parts (list_all is_ascii_digit w && nat_lt 0 (length w)) (nat_le (length w) 13) p.0 in
+    let all = AllPass-from_list_all is_ascii_digit w (and_parts (list_all is_ascii_digit w) (nat_lt 0 (length w)) q.0).0 in
+    ((λ k d below. let both = and_parts _ _ (all k d below) in (leb-true _ _ both.0, leb-true _ _ both.1)), leb-true _ _ q.1)

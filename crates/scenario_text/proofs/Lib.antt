@@ -1,7 +1,7 @@
 pub mod Digits
 pub mod Known
-pub mod Decimals
-pub mod Spelling
-pub mod Drafts
-pub mod Readings
-pub mod PlainExamples
+pub mod FloodExamples
+pub mod LineFeeds
+pub mod NodeIds
+pub mod FloodKeeps
+pub mod LinksBack

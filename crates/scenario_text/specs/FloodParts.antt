@@ -1,5 +1,5 @@
 -- What a flood text says, and what is true of each.
-use Rattle.std.specs.Prelude.{◌≡◌, ◌<◌, ◌≤◌, ℕ, List, [], Bool, true, length, ◌==◌, All}
+use Rattle.std.specs.Prelude.{◌≡◌, ◌<◌, ◌≤◌, ℕ, List, Bool, true, length, ◌==◌, All}
 use Rattle.std.specs.List.{list_any, AllPairs}
 use Rattle.link_trace.specs.Passes.{Lines}
 use Rattle.scenario_text.specs.declared.lines.NodeLine.{NodeLine}
@@ -25,4 +25,3 @@ pub record IsSound (f : FloodParts) : Type 0 where
   pub ascending : AllPairs (λ a b. a.node < b.node) f.nodes
   pub offsets : All (λ n. n.offset ≤ 256000) f.nodes
   pub start_known : knows f.nodes f.start ≡ true
-  pub no_rates : f.rates ≡ []

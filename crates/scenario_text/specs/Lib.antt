@@ -1,4 +1,7 @@
 pub mod FloodParts
-pub mod PlainText
-pub mod Cursor
-pub mod Drafts
+pub mod FaultNames
+pub mod Faults
+pub mod Words
+pub mod Network
+pub mod FloodGrammar
+pub mod FloodDrafts

@@ -1,6 +1,7 @@
 ghost use Rattle.std.specs.Prelude.{◌≡◌};
 ghost use Rattle.scenario_text.specs.FloodParts.{IsSound};
 
+use crate::network::Network;
 use crate::{NodeLine, RateLine};
 use link_trace::Trace;
 use lwb_base::NodeId;
@@ -22,23 +23,23 @@ impl Model for FloodText {
 
     ghost Value = { FloodParts };
 
-    ghost view = { λ t. record { sends = t.sends; nodes = t.nodes.items; rates = t.rates.items; trace = t.trace; start = t.start } };
+    ghost view = { λ t. record { sends = t.sends; nodes = t.nodes.items; rates = t.rates.items; trace = t.trace.lines; start = t.start } };
 
-    ghost invariant = { λ t. IsSound (record { sends = t.sends; nodes = t.nodes.items; rates = t.rates.items; trace = t.trace; start = t.start }) };
+    ghost invariant = { λ t. IsSound (record { sends = t.sends; nodes = t.nodes.items; rates = t.rates.items; trace = t.trace.lines; start = t.start }) };
 }
 
 impl FloodText {
-    /// A text with these parts.
-    pub fn of_parts(
-        sends: u8,
-        nodes: Vec<NodeLine>,
-        rates: Vec<RateLine>,
-        trace: Trace,
-        start: NodeId,
-    ) -> FloodText
-        requires { IsSound (record { sends = sends; nodes = nodes.items; rates = rates.items; trace = trace; start = start }) }
-        ensures { result ≡ record { sends = sends; nodes = nodes.items; rates = rates.items; trace = trace; start = start } }
+    /// A text of these nodes with their links and losses, which that node starts.
+    pub(crate) fn of_network(network: Network, start: NodeId) -> FloodText
+        requires { IsSound (record { sends = network.sends; nodes = network.nodes; rates = network.rates; trace = network.trace; start = start }) }
+        ensures { result ≡ record { sends = network.sends; nodes = network.nodes; rates = network.rates; trace = network.trace; start = start } }
     {
+        let Network {
+            sends,
+            nodes,
+            rates,
+            trace,
+        } = network;
         FloodText {
             sends,
             nodes,
@@ -73,7 +74,7 @@ impl FloodText {
 
     /// The links of the nodes, and where they are lost in the slot of the flood.
     pub fn trace(&self) -> &Trace
-        ensures { result.now ≡ self.now.trace }
+        ensures { result.now.lines ≡ self.now.trace }
     {
         &self.trace
     }

@@ -1,16 +1,23 @@
-//! Flood texts: what they say, and a reader of their plain form.
+//! Texts of floods and scenarios: what they say, and the first line that is refused.
 #![tactic(auto)]
 
-mod cursor;
-mod draft;
+mod fault;
+mod flood;
+mod flood_draft;
+mod flood_line;
 mod flood_text;
 mod lines;
-mod plain;
-mod plain_line;
+mod network;
+mod network_draft;
+mod network_line;
+mod numbers;
+mod rates;
+mod words;
 
+pub use fault::{FaultKind, ParseFault};
+pub use flood::parse_flood;
 pub use flood_text::FloodText;
 pub use lines::{NodeLine, RateLine};
-pub use plain::{PlainFault, parse_plain, plain_text_is_unambiguous};
 
 #[cfg(test)]
 mod tests;

@@ -1,68 +1,145 @@
-use crate::{PlainFault, parse_plain};
+use crate::FaultKind::{
+    BadNumber, BadWord, Missing, NotUtf8, Order, Range, TooMany, Twice, UnknownNode,
+};
+use crate::{FaultKind, ParseFault, parse_flood};
 use std::test::Fail;
 
-// Behind `sends 2` and the nodes 1, 2 and 3: the lines that follow, and whether the text is read.
-const TAILS: [(&str, bool); 19] = [
-    ("pair 1 2\npair 2 3\nstart 1\n", true),
-    ("pair 1 2\npair 2 3\nlose 0 1 2\nstart 1\n", true),
-    ("start 3\nlose 11 3 1\nlink 3 1\nlink 1 3\n", true),
-    ("pair 1 2\npair 2 3\n", false),
-    ("start 1\nstart 1\n", false),
-    ("start 1", false),
-    ("start  1\n", false),
-    ("start 1\r\n", false),
-    ("start 01\n", false),
-    ("start 4\n", false),
-    ("start 1\nlink 1 4\n", false),
-    ("start 1\nlink 2 2\n", false),
-    ("start 1\nlink 1 2\nlink 1 2\n", false),
-    ("start 1\npair 1 2\nlink 2 1\n", false),
-    ("start 1\nlink 2 1\npair 1 2\n", false),
-    ("start 1\nlose 0 1 2\nlose 0 1 2\n", false),
-    ("start 1\nlose 12 1 2\n", false),
-    ("link 1 2\nnode 4 0\nstart 1\n", false),
-    ("start 1\n\n", false),
+// Behind `sends 2` and the nodes 1, 2 and 3 with pairs of neighbours: the lines that follow, and the fault.
+const TAILS: [(&str, Option<(u32, FaultKind)>); 34] = [
+    ("start 1\n", None),
+    ("lose 0 1 2\nstart 1\n", None),
+    ("start 3\nlose 11 3 1\nlink 3 1\nlink 1 3\n", None),
+    ("\tstart \t1 \r\n", None),
+    ("start 1", None),
+    ("# start 1\r\n \n\nstart 1\n", None),
+    (
+        "node 9 7\nnode 4 0\nrate 4 5 -20\nrate 9 5 20\nrate 4 6 0\nstart 9\n",
+        None,
+    ),
+    ("", Some((7, Missing))),
+    ("# \n\n", Some((9, Missing))),
+    ("start 1\r", Some((7, BadNumber))),
+    ("\r", Some((7, BadWord))),
+    ("start 1\r\r\n", Some((7, BadNumber))),
+    ("begin 1\n", Some((7, BadWord))),
+    ("start\n", Some((7, BadWord))),
+    ("start 1 2\n", Some((7, BadWord))),
+    ("start1\n", Some((7, BadWord))),
+    ("Start 1\n", Some((7, BadWord))),
+    ("lose 5 1 0 1 2\n", Some((7, BadWord))),
+    ("frames 12\n", Some((7, BadWord))),
+    ("start 01\n", Some((7, BadNumber))),
+    ("start 10000000000000\n", Some((7, BadNumber))),
+    ("rate 1 0 -0\n", Some((7, BadNumber))),
+    ("start 9999999999999\n", Some((7, Range))),
+    ("link 2 2\n", Some((7, Range))),
+    ("lose 12 1 2\n", Some((7, Range))),
+    ("rate 1 1048576000001 0\n", Some((7, Range))),
+    ("rate 1 0 -21\n", Some((7, Range))),
+    ("start 4\n", Some((7, UnknownNode))),
+    ("link 1 4\nnode 4 0\n", Some((7, UnknownNode))),
+    ("rate 1 5 0\nrate 2 5 0\nrate 1 5 0\n", Some((9, Order))),
+    ("start 1\nstart 1\n", Some((8, Twice))),
+    ("link 1 3\npair 3 1\n", Some((8, Twice))),
+    ("lose 0 1 2\n\nlose 0 1 2\n", Some((9, Twice))),
+    ("sends 1\n", Some((7, Twice))),
 ];
 
-// Whole texts, and whether they are read.
-const TEXTS: [(&str, bool); 13] = [
-    ("", false),
-    ("sends 4\nnode 1 256000\nnode 200 0\nstart 200\n", true),
-    ("sends 0\nnode 1 0\nnode 2 0\nstart 1\n", false),
-    ("sends 5\nnode 1 0\nnode 2 0\nstart 1\n", false),
-    ("node 1 0\nnode 2 0\nsends 1\nstart 1\n", false),
-    ("sends 1\nsends 1\nnode 1 0\nnode 2 0\nstart 1\n", false),
-    ("sends 1\nnode 1 0\nstart 1\n", false),
-    ("sends 1\nnode 2 0\nnode 1 0\nstart 1\n", false),
-    ("sends 1\nnode 1 0\nnode 1 0\nstart 1\n", false),
-    ("sends 1\nnode 0 0\nnode 1 0\nstart 1\n", false),
-    ("sends 1\nnode 1 0\nnode 201 0\nstart 1\n", false),
-    ("sends 1\nnode 1 256001\nnode 2 0\nstart 1\n", false),
-    ("sends 1\nnode 1 10000000000000\nnode 2 0\nstart 1\n", false),
+// Whole texts.
+const TEXTS: [(&str, Option<(u32, FaultKind)>); 9] = [
+    ("", Some((1, Missing))),
+    (
+        "start 200\nsends 4\nnode 200 0\nnode 1 256000\n",
+        Some((1, UnknownNode)),
+    ),
+    ("sends 4\nnode 200 0\nnode 1 256000\nstart 200\n", None),
+    ("node 1 0\nnode 2 0\nstart 1\nsends 1\n", None),
+    ("node 1 0\nnode 2 0\nstart 1\n", Some((4, Missing))),
+    ("node 1 0\nsends 1\nstart 1\n", Some((4, Missing))),
+    ("node 1 0\nnode 1 0\n", Some((2, Twice))),
+    ("node 201 0\n", Some((1, Range))),
+    ("node 1 256001\n", Some((1, Range))),
 ];
 
-fn fault_of(is_plain: bool) -> Option<PlainFault> {
-    (!is_plain).then_some(PlainFault::NotPlain)
+fn fault_of(fault: Option<(u32, FaultKind)>) -> Option<ParseFault> {
+    match fault {
+        Some((line, kind)) => Some(ParseFault::Line(line, kind)),
+        None => None,
+    }
 }
 
 #[test]
-fn plain_texts_alone_are_read(rt: HostRuntime) -> Result<(), Fail> {
-    for (tail, is_plain) in TAILS {
-        let text = format!(in rt.alloc(); "sends 2\nnode 1 0\nnode 2 0\nnode 3 0\n{tail}")?;
-        let fault = parse_plain(rt.alloc(), text.as_bytes()).err();
-        assert_eq!(rt; fault, fault_of(is_plain), "{text}");
+fn flood_texts_and_their_first_faults(rt: HostRuntime) -> Result<(), Fail> {
+    let alloc = rt.alloc();
+    for (tail, fault) in TAILS {
+        let text = format!(in alloc;
+            "sends 2\nnode 1 0\nnode 2 0\nnode 3 0\npair 1 2\npair 2 3\n{tail}"
+        )?;
+        assert_eq!(rt;
+            parse_flood(alloc, text.as_bytes()).err(),
+            fault_of(fault),
+            "{text}"
+        );
     }
-    for (text, is_plain) in TEXTS {
-        let fault = parse_plain(rt.alloc(), text.as_bytes()).err();
-        assert_eq!(rt; fault, fault_of(is_plain), "{text}");
+    for (text, fault) in TEXTS {
+        assert_eq!(rt;
+            parse_flood(alloc, text.as_bytes()).err(),
+            fault_of(fault),
+            "{text}"
+        );
     }
     Ok(())
 }
 
 #[test]
-fn three_in_a_line_is_read(rt: HostRuntime) {
+fn bytes_that_are_no_text(rt: HostRuntime) {
+    let alloc = rt.alloc();
+    let in_a_line = parse_flood(alloc, b"sends 2\nsend\xff 2\n");
+    assert_eq!(rt; in_a_line.err(), fault_of(Some((2, NotUtf8))));
+    let in_a_skipped_line = parse_flood(alloc, b"#\xff\nsends 2\n");
+    assert_eq!(rt; in_a_skipped_line.err(), fault_of(Some((3, Missing))));
+    let byte_order_mark = parse_flood(alloc, b"\xef\xbb\xbfsends 2\n");
+    assert_eq!(rt; byte_order_mark.err(), fault_of(Some((1, BadWord))));
+}
+
+#[test]
+fn the_65th_node_is_one_too_many(rt: HostRuntime) -> Result<(), Fail> {
+    let alloc = rt.alloc();
+    let mut text = String::new(alloc);
+    for id in 1..66 {
+        text.push_str(format!(in alloc; "node {id} 0\n")?.as_str())?;
+    }
+    assert_eq!(rt;
+        parse_flood(alloc, text.as_bytes()).err(),
+        fault_of(Some((65, TooMany)))
+    );
+    Ok(())
+}
+
+#[test]
+fn rates_stand_by_node_and_tick(rt: HostRuntime) -> Result<(), Fail> {
+    let text = b"sends 1\nnode 9 7\nnode 4 0\nrate 9 5 20\nrate 4 5 -20\nrate 9 6 0\nstart 9\n";
+    let Ok(flood) = parse_flood(rt.alloc(), text) else {
+        panic!(rt; "the text is not read");
+    };
+    let [four, nine] = flood.nodes() else {
+        panic!(rt; "there are not two nodes");
+    };
+    assert_eq!(rt; (four.node.number(), four.offset), (4, 0));
+    assert_eq!(rt; (nine.node.number(), nine.offset), (9, 7));
+    let [slow, fast, even] = flood.rates() else {
+        panic!(rt; "there are not three rates");
+    };
+    assert_eq!(rt; (slow.node.number(), slow.from, slow.ppm), (4, 5, -20));
+    assert_eq!(rt; (fast.node.number(), fast.from, fast.ppm), (9, 5, 20));
+    assert_eq!(rt; (even.node.number(), even.from, even.ppm), (9, 6, 0));
+    Ok(())
+}
+
+#[test]
+fn three_in_a_line_with_its_first_hop_lost(rt: HostRuntime) {
     let text = b"sends 2\nnode 1 0\nnode 2 0\nnode 3 0\npair 1 2\npair 2 3\nlose 0 1 2\nstart 1\n";
-    let Ok(flood) = parse_plain(rt.alloc(), text) else {
+    let Ok(flood) = parse_flood(rt.alloc(), text) else {
         panic!(rt; "the text is not read");
     };
     assert_eq!(rt; flood.sends(), 2);

@@ -1,0 +1,4 @@
+pub mod Inserted
+pub mod Orders
+pub mod Together
+pub mod CaptureKeys

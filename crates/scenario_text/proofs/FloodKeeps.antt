@@ -1,0 +1,122 @@
+-- What each line keeps true of a draft.
+use Rattle.std.proofs.Common.{◌≡◌, ℕ, ◌+◌, ◌<◌, ◌≤◌, List, [], ◌∷◌, Bool, true, false, not, ◌&&◌, ◌==◌, nat_lt, nat_le, cond, Option, Some, None, is_none, Result, Ok, Err, IfOk, IfSome, length, refl, sym, ◌∙◌, ap, subst, arith}
+use Rattle.std.proofs.lemmas.Bool.{and_parts, leb-true, ltb-true, not-true, cond_both}
+use Rattle.std.proofs.lemmas.List.Elements.{All-from_recursion}
+use Rattle.std.proofs.lemmas.Option.{IfSome_then, cond_some}
+use Rattle.std.specs.List.{AllByRecursion}
+use Rattle.std.specs.Str.{is_utf8}
+use Rattle.scenario_text.specs.FloodParts.{FloodParts, IsSound, knows}
+use Rattle.scenario_text.specs.Words.{words, is_skipped}
+use Rattle.scenario_text.specs.Network.{Drafted, Parts, network_fault, with_line, network_parts, rates_by_node, is_id}
+use Rattle.scenario_text.specs.FloodGrammar.{Flood, rule_fault, with_flood_line, after_spelled, after_words, after_line, flood_line, flood_numbers, after_lines, no_flood}
+use Rattle.scenario_text.specs.Faults.{unless_fault, in_line}
+use Rattle.scenario_text.specs.FloodDrafts.{Rises, IsNetwork, IsFlood}
+use Rattle.scenario_text.specs.declared.fault.FaultKind.{FaultKind}
+use Rattle.scenario_text.specs.declared.fault.FaultKind.TheVariants.{NotUtf8, BadWord, BadNumber, Range, UnknownNode, Order, Twice, TooMany, Missing}
+use Rattle.scenario_text.specs.declared.flood_line.FloodLine.{FloodLine}
+use Rattle.scenario_text.specs.declared.flood_line.FloodLine.TheVariants.{InNetwork, Lose, Start}
+use Rattle.scenario_text.specs.declared.lines.NodeLine.{NodeLine}
+use Rattle.scenario_text.specs.declared.network_line.NetworkLine.{NetworkLine}
+use Rattle.scenario_text.specs.declared.network_line.NetworkLine.TheVariants.{Sends, Node, Rate, Link, Pair}
+use Rattle.scenario_text.proofs.NodeIds.{with_node-all, with_node-rises, with_node-length, with_node-knows, pairs_rise}
+
+-- a test that makes no fault, and those behind it
+pub passed : (b : Bool) (k : FaultKind) (others : Option FaultKind) → cond b others (Some k) ≡ None → (b ≡ true) × (others ≡ None)
+passed true k others is = (refl, is)
+passed false k others is = cc
+
+network_keeps : (last : ℕ) (d : Drafted) (l : NetworkLine) → IsNetwork d → network_fault last d l ≡ None → IsNetwork (with_line d l)
+network_keeps last d (Sends x) sound none =
+    let range = passed (nat_le 1 x && nat_le x 4) Range _ none in
+    let ends = and_parts (nat_le 1 x) (nat_le x 4) range.0 in
+    record { sends = (leb-true _ _ ends.0, leb-true _ _ ends.1); few_nodes = sound.few_nodes; rises = sound.rises; offsets = sound.offsets }
+network_keeps last d (Node i o) sound none =
+    let n : NodeLine = record { node = i; offset = o } in
+    let range = passed (is_id i && nat_le o 256000) Range _ none in
+    let fresh = passed (not (knows d.nodes i)) Twice _ range.1 in
+    let room = passed (nat_lt (length d.nodes) 64) TooMany _ fresh.1 in
+    let few = ltb-true _ _ room.0 in
+    record {
+      sends = sound.sends;
+      few_nodes = omega (arith, few, with_node-length n d.nodes sound.rises);
+      rises = with_node-rises n d.nodes (not-true _ fresh.0) sound.rises;
+      offsets = with_node-all (λ m. m.offset ≤ 256000) n d.nodes sound.rises (leb-true _ _ (and_parts (is_id i) (nat_le o 256000) range.0).1) sound.offsets;
+    }
+network_keeps last d (Rate i t slow p) sound none = record { sends = sound.sends; few_nodes = sound.few_nodes; rises = sound.rises; offsets = sound.offsets }
+network_keeps last d (Link u v) sound none = record { sends = sound.sends; few_nodes = sound.few_nodes; rises = sound.rises; offsets = sound.offsets }
+network_keeps last d (Pair u v) sound none = record { sends = sound.sends; few_nodes = sound.few_nodes; rises = sound.rises; offsets = sound.offsets }
+
+-- a node that is known stays so
+nodes_stay : (d : Drafted) (l : NetworkLine) (v : ℕ) → Rises d.nodes → knows d.nodes v ≡ true → knows (with_line d l).nodes v ≡ true
+nodes_stay d (Sends x) v rises known = known
+nodes_stay d (Node i o) v rises known = with_node-knows (record { node = i; offset = o }) v d.nodes rises known
+nodes_stay d (Rate i t slow p) v rises known = known
+nodes_stay d (Link a b) v rises known = known
+nodes_stay d (Pair a b) v rises known = known
+
+flood_keeps : (f : Flood) (l : FloodLine) → IsFlood f → rule_fault f l ≡ None → IsFlood (with_flood_line f l)
+flood_keeps f (InNetwork l) sound none = record {
+  network = network_keeps 1048576000000 f.network l sound.network none;
+  start_known = IfSome_then f.start sound.start_known (λ i known. nodes_stay f.network l i sound.network.rises known);
+}
+flood_keeps f (Lose k u v) sound none =
+    let n = sound.network in
+    record { network = record { sends = n.sends; few_nodes = n.few_nodes; rises = n.rises; offsets = n.offsets }; start_known = sound.start_known }
+flood_keeps f (Start i) sound none =
+    let range = passed (is_id i) Range _ none in
+    let known = passed (knows f.network.nodes i) UnknownNode _ range.1 in
+    record { network = sound.network; start_known = known.0 }
+
+unless_keeps : (o : Option FaultKind) (f : Flood) → (o ≡ None → IsFlood f) → IfOk (unless_fault o f) IsFlood
+unless_keeps None f sound = sound refl
+unless_keeps (Some k) f sound = tt
+
+words_keep : (f : Flood) (ws : List (List ℕ)) (o : Option FloodLine) → IsFlood f → IfOk (after_words f ws o) IsFlood
+words_keep f ws None sound = tt
+words_keep f ws (Some l) sound = cond_both (flood_numbers l ws) (after_spelled f l) (Err BadNumber) (λ r. IfOk r IsFlood) (λ is. unless_keeps (rule_fault f l) (with_flood_line f l) (λ none. flood_keeps f l sound none)) (λ not. tt)
+
+pub line_keeps : (f : Flood) (line : List ℕ) → IsFlood f → IfOk (after_line f line) IsFlood
+unfolding after_line
+line_keeps f line sound =
+    cond_both (is_skipped (words line)) (Ok f) _ (λ r. IfOk r IsFlood) (λ is. sound)
+    (λ not. cond_both (is_utf8 line) (after_words f (words line) (flood_line (words line))) (Err NotUtf8) (λ r. IfOk r IsFlood) (λ is. words_keep f (words line) _ sound) (λ not. tt))
+
+at_ok : {A E : Type 0} (P : A → Type 0) (r : Result A E) (x : A) → r ≡ Ok x → IfOk r P → P x
+at_ok P r x is holds = subst (λ (q : Result _ _). IfOk q P) is holds
+
+-- behind an allowed line
+pub read_keeps : (f g : Flood) (line : List ℕ) → IsFlood f → after_line f line ≡ Ok g → IsFlood g
+read_keeps f g line sound is = at_ok IsFlood (after_line f line) g is (line_keeps f line sound)
+
+pub nothing_sound : IsFlood no_flood
+nothing_sound = record { network = record { sends = tt; few_nodes = omega arith; rises = tt; offsets = tt }; start_known = tt }
+
+-- one line more, and a line that is refused
+pub one_line_more : (n : ℕ) (f g : Flood) (line : List ℕ) (others : List (List ℕ)) → after_line f line ≡ Ok g → after_lines n f (line ∷ others) ≡ after_lines (n + 1) g others
+one_line_more n f g line others is = rw is refl
+
+pub one_line_refused : (n : ℕ) (f : Flood) (k : FaultKind) (line : List ℕ) (others : List (List ℕ)) → after_line f line ≡ Err k → after_lines n f (line ∷ others) ≡ Err (n, k)
+one_line_refused n f k line others is = rw is refl
+
+abbrev parts_at : Drafted → ℕ → Parts
+parts_at d n = record { sends = n; nodes = d.nodes; rates = rates_by_node d.nodes d.rates; trace = d.trace }
+
+-- the parts of a draft that misses nothing
+pub parts_sound : (d : Drafted) (o : Option ℕ) (p : Parts) (s : ℕ) → IsNetwork d → IfSome o (λ n. (1 ≤ n) × (n ≤ 4)) → knows d.nodes s ≡ true → Some p ≡ network_parts d o
+    → IsSound (record { sends = p.sends; nodes = p.nodes; rates = p.rates; trace = p.trace; start = s })
+parts_sound d None p s sound few known is = cc
+parts_sound d (Some n) p s sound few known is =
+    let here = cond_some (nat_le 2 (length d.nodes)) (parts_at d n) p (sym is) in
+    subst (λ (q : Parts). IsSound (record { sends = q.sends; nodes = q.nodes; rates = q.rates; trace = q.trace; start = s })) here.1
+    (record {
+      some_sends = few.0;
+      few_sends = few.1;
+      two_nodes = leb-true _ _ here.0;
+      few_nodes = sound.few_nodes;
+      ascending = pairs_rise d.nodes sound.rises;
+      offsets = All-from_recursion (λ (m : NodeLine). m.offset ≤ 256000) d.nodes sound.offsets;
+      start_known = known;
+    })
+
+pub at_start : (P : ℕ → Type 0) (o : Option ℕ) (i : ℕ) → o ≡ Some i → IfSome o P → P i
+at_start P o i is holds = subst (λ (q : Option ℕ). IfSome q P) is holds

@@ -1,0 +1,92 @@
+-- Flood text: what its lines say, and the first line that is refused.
+use Rattle.std.specs.Prelude.{◌≡◌, ℕ, ◌+◌, List, [], ◌∷◌, ◌++◌, Bool, true, false, not, ◌&&◌, ◌==◌, nat_lt, nat_le, if◌then◌else◌, Some, None, Option, is_none, is_some, Ok, Err, Result, length, drop, codes, option_map}
+use Rattle.std.specs.List.{list_all}
+use Rattle.std.specs.Option.{ok_or}
+use Rattle.std.specs.Str.{bytes_eq, is_utf8}
+use Rattle.std.specs.Str.Lines.{lines}
+use Rattle.scenario_text.specs.FloodParts.{FloodParts, knows}
+use Rattle.scenario_text.specs.Faults.{first_fault, unless_fault, in_line, ◌>>=◌}
+use Rattle.scenario_text.specs.Words.{words, word, is_skipped, is_number, number_at, counted}
+use Rattle.scenario_text.specs.Network.{Drafted, Parts, network_parts, network_line, network_numbers, no_network, is_id, are_ends, network_fault, has_loss, has_script_room, with_line, with_loss, with_script_line}
+use Rattle.scenario_text.specs.declared.fault.FaultKind.{FaultKind}
+use Rattle.scenario_text.specs.declared.fault.FaultKind.TheVariants.{NotUtf8, BadWord, BadNumber, Range, UnknownNode, Order, Twice, TooMany, Missing}
+use Rattle.scenario_text.specs.declared.flood_line.FloodLine.{FloodLine}
+use Rattle.scenario_text.specs.declared.flood_line.FloodLine.TheVariants.{InNetwork, Lose, Start}
+
+-- what the words say, if they are those of a line
+unfoldable pub flood_line : List (List ℕ) → Option FloodLine
+flood_line ws =
+    if bytes_eq (word ws 0) (codes "lose") then counted 4 ws (Lose (number_at ws 1) (number_at ws 2) (number_at ws 3))
+    else if bytes_eq (word ws 0) (codes "start") then counted 2 ws (Start (number_at ws 1))
+    else option_map InNetwork (network_line ws)
+
+-- the numbers of the line are spelled right
+abbrev pub flood_numbers : FloodLine → List (List ℕ) → Bool
+flood_numbers (InNetwork l) ws = network_numbers l ws
+flood_numbers (Lose k u v) ws = list_all is_number (drop 1 ws)
+flood_numbers (Start i) ws = list_all is_number (drop 1 ws)
+
+-- what the lines above say
+pub record Flood : Type 0 where
+  pub network : Drafted
+  pub start : Option ℕ
+
+abbrev pub no_flood : Flood
+no_flood = record { network = no_network; start = None }
+
+-- the fault of a line that is spelled right
+abbrev pub rule_fault : Flood → FloodLine → Option FaultKind
+rule_fault f (InNetwork l) = network_fault 1048576000000 f.network l
+rule_fault f (Lose k u v) =
+    first_fault
+    ((nat_le k 11 && are_ends u v, Range) ∷ (knows f.network.nodes u && knows f.network.nodes v, UnknownNode)
+    ∷ (not (has_loss f.network.trace 5 1 k u v), Twice) ∷ (has_script_room f.network, TooMany) ∷ [])
+rule_fault f (Start i) = first_fault ((is_id i, Range) ∷ (knows f.network.nodes i, UnknownNode) ∷ (is_none f.start, Twice) ∷ [])
+
+-- what the lines say with an allowed line more
+abbrev pub with_flood_line : Flood → FloodLine → Flood
+with_flood_line f (InNetwork l) = record f { network = with_line f.network l }
+with_flood_line f (Lose k u v) = record f { network = with_script_line f.network (with_loss 5 1 k u v f.network.trace) }
+with_flood_line f (Start i) = record f { start = Some i }
+
+-- behind a line that is spelled right, or its fault
+abbrev pub after_spelled : Flood → FloodLine → Result Flood FaultKind
+after_spelled f l = unless_fault (rule_fault f l) (with_flood_line f l)
+
+-- behind a line of these words, or its fault
+abbrev pub after_words : Flood → List (List ℕ) → Option FloodLine → Result Flood FaultKind
+after_words f ws None = Err BadWord
+after_words f ws (Some l) = if flood_numbers l ws then after_spelled f l else Err BadNumber
+
+-- behind a line, or its fault
+unfoldable pub after_line : Flood → List ℕ → Result Flood FaultKind
+after_line f line =
+    let ws = words line in
+    if is_skipped ws then Ok f else if is_utf8 line then after_words f ws (flood_line ws) else Err NotUtf8
+
+-- what was read of a line, seen by the draft behind it
+abbrev pub Reads : Option FaultKind → Flood → Result Flood FaultKind → Type 0
+Reads None new after = after ≡ Ok new
+Reads (Some k) new after = after ≡ Err k
+
+-- behind these lines, of which the first is line n, or the first fault
+abbrev pub after_lines : ℕ → Flood → List (List ℕ) → Result Flood (ℕ × FaultKind)
+after_lines n f [] = Ok f
+after_lines n f (line ∷ more) = do
+  g ← in_line n (after_line f line)
+  after_lines (n + 1) g more
+
+-- what a whole text says, which has sendings, two nodes at least, and a start
+abbrev pub parts_of : Option Parts → Option ℕ → Option FloodParts
+parts_of (Some p) (Some s) = Some (record { sends = p.sends; nodes = p.nodes; rates = p.rates; trace = p.trace; start = s })
+parts_of None start = None
+parts_of (Some p) None = None
+
+abbrev pub finished : Flood → Result FloodParts FaultKind
+finished f = ok_or (parts_of (network_parts f.network f.network.sends) f.start) Missing
+
+-- what the bytes say, or their first fault and its line. What is missing is missing behind the last line
+abbrev pub flood_of : List ℕ → Result FloodParts (ℕ × FaultKind)
+flood_of bytes = do
+  f ← after_lines 1 no_flood (lines bytes)
+  in_line (length (lines bytes) + 1) (finished f)

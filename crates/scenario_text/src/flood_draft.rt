@@ -1,0 +1,117 @@
+ghost use Rattle.std.specs.Prelude.{◌≡◌, Ok, None, IfOk};
+ghost use Rattle.scenario_text.specs.FloodGrammar.{no_flood, rule_fault, with_flood_line, after_line, Reads, parts_of};
+ghost use Rattle.scenario_text.specs.FloodDrafts.{IsFlood};
+ghost use Rattle.scenario_text.specs.Network.{network_parts};
+ghost use Rattle.scenario_text.specs.declared.flood_line.FloodLine.TheVariants.{Lose, Start};
+
+use crate::flood_line::FloodLine;
+use crate::network_draft::{NetworkDraft, are_two_ids, node_id};
+use crate::words::{is_skipped, is_text, words};
+use crate::{FaultKind, FloodText};
+use lwb_base::{Memory, NodeId};
+use std::alloc::Global;
+use std::marker::Model;
+
+/// What the lines of a flood text say so far.
+#[derive(Drop)]
+pub struct FloodDraft {
+    network: NetworkDraft,
+    start: Option<NodeId>,
+}
+
+impl Model for FloodDraft {
+    ghost use Rattle.scenario_text.specs.FloodGrammar.{Flood};
+
+    ghost Value = { Flood };
+
+    ghost view = { λ d. record { network = d.network; start = d.start } };
+}
+
+impl FloodDraft {
+    /// A draft of no lines. It takes no memory.
+    pub fn new(alloc: Global) -> FloodDraft
+        ensures { result ≡ no_flood }
+    {
+        FloodDraft {
+            network: NetworkDraft::new(alloc),
+            start: None,
+        }
+    }
+
+    /// Goes on by one line, unless it is refused.
+    #[tactic(auto, unfolding(crate::specs::FloodGrammar::after_line))]
+    pub fn read(&mut self, alloc: Global, line: &[u8]) -> Result<Option<FaultKind>, Memory>
+        ensures { IfOk result (λ k. Reads k self.new (after_line self.old line.now)) }
+    {
+        let words = words(alloc, line)?;
+        if is_skipped(&words) {
+            return Ok(None);
+        }
+        if !is_text(line) {
+            return Ok(Some(FaultKind::NotUtf8));
+        }
+        let Some(said) = FloodLine::new(&words) else {
+            return Ok(Some(FaultKind::BadWord));
+        };
+        if !said.spells_numbers(&words) {
+            return Ok(Some(FaultKind::BadNumber));
+        }
+        self.add(said)
+    }
+
+    fn add(&mut self, line: FloodLine) -> Result<Option<FaultKind>, Memory>
+        ensures fault { IfOk result (λ k. k ≡ rule_fault self.old line) }
+        ensures added { result ≡ Ok None → self.new ≡ with_flood_line self.old line }
+    {
+        match line {
+            FloodLine::InNetwork(line) => self.network.add(1_048_576_000_000, line),
+            FloodLine::Lose(step, from, to) => self.add_loss(step, from, to),
+            FloodLine::Start(id) => Ok(self.add_start(id)),
+        }
+    }
+
+    fn add_loss(&mut self, step: u64, from: u64, to: u64) -> Result<Option<FaultKind>, Memory>
+        ensures fault { IfOk result (λ k. k ≡ rule_fault self.old (Lose step from to)) }
+        ensures added { result ≡ Ok None → self.new ≡ with_flood_line self.old (Lose step from to) }
+    {
+        if step > 11 || !are_two_ids(from, to) {
+            return Ok(Some(FaultKind::Range));
+        }
+        let Some((from, to)) = self.network.two_nodes(from, to) else {
+            return Ok(Some(FaultKind::UnknownNode));
+        };
+        self.network.lose(5, 1, step as u8, from, to)
+    }
+
+    fn add_start(&mut self, id: u64) -> Option<FaultKind>
+        ensures fault { result ≡ rule_fault self.old (Start id) }
+        ensures added { result ≡ None → self.new ≡ with_flood_line self.old (Start id) }
+    {
+        if node_id(id).is_none() {
+            return Some(FaultKind::Range);
+        }
+        let Some(node) = self.network.node(id) else {
+            return Some(FaultKind::UnknownNode);
+        };
+        if self.start.is_some() {
+            return Some(FaultKind::Twice);
+        }
+        self.start = Some(node);
+        None
+    }
+
+    /// What the text says. None comes exactly where sendings, a second node or the start is missing.
+    pub fn finish(self, alloc: Global) -> Result<Option<FloodText>, Memory>
+        requires { IsFlood self }
+        ensures { IfOk result (λ f. f ≡ parts_of (network_parts self.network self.network.sends) self.start) }
+    {
+        let FloodDraft { network, start } = self;
+        let Some(network) = network.finish(alloc)? else {
+            return Ok(None);
+        };
+        let Some(start) = start else {
+            return Ok(None);
+        };
+        Ok(Some(FloodText::of_network(network, start)))
+    }
+}

@@ -1,0 +1,343 @@
+ghost use Rattle.std.specs.Prelude.{◌≡◌, ◌≢◌, ◌≤◌, ◌<◌, ◌&&◌, ◌==◌, not, nat_lt, nat_le, if◌then◌else◌, [], ◌∷◌, Ok, Some, None, true, false, ℕ, List, IfOk, count_by, reverse, length};
+ghost use Rattle.std.specs.List.{find, list_any};
+ghost use Rattle.std.specs.Option.{option_copied, option_map_or};
+ghost use Rattle.scenario_text.specs.FloodParts.{knows as knows_of};
+ghost use Rattle.scenario_text.specs.Network.{no_network, network_parts, network_fault, with_line, with_node, with_link, has_link, has_loss, with_loss, with_script_line, has_script_room, are_ends, last_rate as last_rate_of, ppm as ppm_of, is_id};
+ghost use Rattle.scenario_text.specs.Faults.{first_fault};
+ghost use Rattle.scenario_text.specs.declared.fault.FaultKind.TheVariants.{Twice, TooMany};
+ghost use Rattle.scenario_text.specs.declared.network_line.NetworkLine.TheVariants.{Sends, Node, Rate, Link, Pair};
+
+use crate::network::Network;
+use crate::network_line::NetworkLine;
+use crate::rates::by_node;
+use crate::{FaultKind, NodeLine, RateLine};
+use link_trace::Trace;
+use lwb_base::{Memory, NodeId};
+use std::alloc::Global;
+use std::marker::Model;
+
+/// What the lines that both texts have say so far. The rates stand in the order of the text.
+#[derive(Drop)]
+pub struct NetworkDraft {
+    sends: Option<u8>,
+    nodes: Vec<NodeLine>,
+    rates: Vec<RateLine>,
+    trace: Trace,
+    scripted: u32,
+}
+
+impl Model for NetworkDraft {
+    ghost use Rattle.scenario_text.specs.Network.{Drafted};
+
+    ghost Value = { Drafted };
+
+    ghost view = { λ d. record { sends = d.sends; nodes = d.nodes.items; rates = d.rates.items; trace = d.trace.lines; scripted = d.scripted } };
+}
+
+impl NetworkDraft {
+    /// A draft of no lines. It takes no memory.
+    pub fn new(alloc: Global) -> NetworkDraft
+        ensures { result ≡ no_network }
+    {
+        NetworkDraft {
+            sends: None,
+            nodes: Vec::new(alloc),
+            rates: Vec::new(alloc),
+            trace: Trace::new(alloc),
+            scripted: 0,
+        }
+    }
+
+    /// Goes on by one line, unless it is refused. No tick may be above the last tick.
+    pub fn add(&mut self, last_tick: u64, line: NetworkLine) -> Result<Option<FaultKind>, Memory>
+        ensures fault { IfOk result (λ k. k ≡ network_fault last_tick self.old line) }
+        ensures added { result ≡ Ok None → self.new ≡ with_line self.old line }
+    {
+        match line {
+            NetworkLine::Sends(count) => Ok(self.add_sends(count)),
+            NetworkLine::Node(id, offset) => self.add_node(id, offset),
+            NetworkLine::Rate(id, tick, slow, parts) => self.add_rate(
+                last_tick, id, tick, slow, parts,
+            ),
+            NetworkLine::Link(from, to) => self.add_link(from, to),
+            NetworkLine::Pair(one_end, other_end) => self.add_pair(one_end, other_end),
+        }
+    }
+
+    /// What the lines say: how often a node sends, the nodes by id, their rates by node and tick, and the trace. None
+    /// comes exactly where sendings or a second node is missing.
+    pub fn finish(self, alloc: Global) -> Result<Option<Network>, Memory>
+        ensures { IfOk result (λ p. p ≡ network_parts self self.sends) }
+    {
+        let NetworkDraft {
+            sends,
+            nodes,
+            rates,
+            trace,
+            ..
+        } = self;
+        let Some(sends) = sends else {
+            return Ok(None);
+        };
+        if nodes.len() < 2 {
+            return Ok(None);
+        }
+        let rates = by_node(alloc, &nodes, &rates)?;
+        Ok(Some(Network {
+            sends,
+            nodes,
+            rates,
+            trace,
+        }))
+    }
+
+    /// The node of that id, if it has a line.
+    pub fn node(&self, id: u64) -> Option<NodeId>
+        ensures { result ≡ (if knows_of self.now.nodes id then Some id else None) }
+    {
+        known(&self.nodes, id)
+    }
+
+    /// Two nodes, by their ids, if both have lines.
+    pub fn two_nodes(&self, from: u64, to: u64) -> Option<(NodeId, NodeId)>
+        ensures { result ≡ (if knows_of self.now.nodes from && knows_of self.now.nodes to then Some (from, to) else None) }
+    {
+        two_nodes(&self.nodes, from, to)
+    }
+
+    /// Goes on by a script line that loses a link in one step.
+    pub fn lose(
+        &mut self,
+        frame: u32,
+        slot: u8,
+        step: u8,
+        from: NodeId,
+        to: NodeId,
+    ) -> Result<Option<FaultKind>, Memory>
+        ensures fault { IfOk result (λ k. k ≡ first_fault ((not (has_loss self.old.trace frame slot step from to), Twice) ∷ (has_script_room self.old, TooMany) ∷ [])) }
+        ensures added { result ≡ Ok None → self.new ≡ with_script_line self.old (with_loss frame slot step from to self.old.trace) }
+    {
+        if !lose(&mut self.trace, frame, slot, step, from, to)? {
+            return Ok(Some(FaultKind::Twice));
+        }
+        Ok(self.count_script_line())
+    }
+
+    // One script line more, if there is room.
+    fn count_script_line(&mut self) -> Option<FaultKind>
+        ensures fault { result ≡ first_fault ((has_script_room self.old, TooMany) ∷ []) }
+        ensures added { result ≡ None → self.new ≡ with_script_line self.old self.old.trace }
+    {
+        if self.scripted >= 20_000 {
+            return Some(FaultKind::TooMany);
+        }
+        self.scripted += 1;
+        None
+    }
+
+    fn add_sends(&mut self, count: u64) -> Option<FaultKind>
+        ensures fault { result ≡ network_fault 0 self.old (Sends count) }
+        ensures added { result ≡ None → self.new ≡ with_line self.old (Sends count) }
+    {
+        if count < 1 || count > 4 {
+            return Some(FaultKind::Range);
+        }
+        if self.sends.is_some() {
+            return Some(FaultKind::Twice);
+        }
+        self.sends = Some(count as u8);
+        None
+    }
+
+    fn add_node(&mut self, id: u64, offset: u64) -> Result<Option<FaultKind>, Memory>
+        ensures fault { IfOk result (λ k. k ≡ network_fault 0 self.old (Node id offset)) }
+        ensures added { result ≡ Ok None → self.new ≡ with_line self.old (Node id offset) }
+    {
+        let Some(node) = node_id(id) else {
+            return Ok(Some(FaultKind::Range));
+        };
+        if offset > 256_000 {
+            return Ok(Some(FaultKind::Range));
+        }
+        if known(&self.nodes, id).is_some() {
+            return Ok(Some(FaultKind::Twice));
+        }
+        if self.nodes.len() >= 64 {
+            return Ok(Some(FaultKind::TooMany));
+        }
+        let place = count_below(&self.nodes, node);
+        match self.nodes.insert(place, NodeLine { node, offset }) {
+            Ok(()) => Ok(None),
+            Err(_) => Err(Memory),
+        }
+    }
+
+    fn add_rate(
+        &mut self,
+        last_tick: u64,
+        id: u64,
+        tick: u64,
+        slow: bool,
+        parts: u64,
+    ) -> Result<Option<FaultKind>, Memory>
+        ensures fault { IfOk result (λ k. k ≡ network_fault last_tick self.old (Rate id tick slow parts)) }
+        ensures added { result ≡ Ok None → self.new ≡ with_line self.old (Rate id tick slow parts) }
+    {
+        if node_id(id).is_none() || tick > last_tick || parts > 20 {
+            return Ok(Some(FaultKind::Range));
+        }
+        let Some(node) = known(&self.nodes, id) else {
+            return Ok(Some(FaultKind::UnknownNode));
+        };
+        if !is_later(&self.rates, node, tick) {
+            return Ok(Some(FaultKind::Order));
+        }
+        if self.scripted >= 20_000 {
+            return Ok(Some(FaultKind::TooMany));
+        }
+        self.scripted += 1;
+        let ppm = ppm(slow, parts as u8);
+        match self.rates.push(RateLine {
+            node,
+            from: tick,
+            ppm,
+        }) {
+            Ok(()) => Ok(None),
+            Err(_) => Err(Memory),
+        }
+    }
+
+    fn add_link(&mut self, from: u64, to: u64) -> Result<Option<FaultKind>, Memory>
+        ensures fault { IfOk result (λ k. k ≡ network_fault 0 self.old (Link from to)) }
+        ensures added { result ≡ Ok None → self.new ≡ with_line self.old (Link from to) }
+    {
+        if !are_two_ids(from, to) {
+            return Ok(Some(FaultKind::Range));
+        }
+        let Some((from, to)) = two_nodes(&self.nodes, from, to) else {
+            return Ok(Some(FaultKind::UnknownNode));
+        };
+        if !link(&mut self.trace, from, to)? {
+            return Ok(Some(FaultKind::Twice));
+        }
+        Ok(None)
+    }
+
+    fn add_pair(&mut self, one_end: u64, other_end: u64) -> Result<Option<FaultKind>, Memory>
+        ensures fault { IfOk result (λ k. k ≡ network_fault 0 self.old (Pair one_end other_end)) }
+        ensures added { result ≡ Ok None → self.new ≡ with_line self.old (Pair one_end other_end) }
+    {
+        if !are_two_ids(one_end, other_end) {
+            return Ok(Some(FaultKind::Range));
+        }
+        let Some((one, other)) = two_nodes(&self.nodes, one_end, other_end) else {
+            return Ok(Some(FaultKind::UnknownNode));
+        };
+        if !pair(&mut self.trace, one, other)? {
+            return Ok(Some(FaultKind::Twice));
+        }
+        Ok(None)
+    }
+}
+
+/// The node with that id.
+pub fn node_id(id: u64) -> Option<NodeId>
+    ensures { result ≡ (if is_id id then Some id else None) }
+{
+    NodeId::new(u8::try_from(id).ok()?)
+}
+
+/// Whether both are ids, and they differ.
+pub fn are_two_ids(from: u64, to: u64) -> bool
+    ensures { result ≡ are_ends from to }
+{
+    node_id(from).is_some() && node_id(to).is_some() && from != to
+}
+
+fn count_below(nodes: &[NodeLine], id: NodeId) -> usize
+    ensures count { result ≡ count_by (λ n. nat_lt n.node id) nodes.now }
+    ensures within { result ≤ length nodes.now }
+{
+    nodes.iter().filter(|n| n.node < id).count()
+}
+
+fn find_line(nodes: &[NodeLine], id: u64) -> Option<&NodeLine>
+    ensures { option_copied result ≡ find (λ n. n.node == id) nodes.now }
+{
+    nodes.iter().find(|n| u64::from(n.node.number()) == id)
+}
+
+/// The node of that id, if it is one of these.
+pub fn known(nodes: &[NodeLine], id: u64) -> Option<NodeId>
+    ensures { result ≡ (if knows_of nodes.now id then Some id else None) }
+{
+    let line = find_line(nodes, id)?;
+    Some(line.node)
+}
+
+/// Two of these nodes, by their ids.
+pub fn two_nodes(nodes: &[NodeLine], from: u64, to: u64) -> Option<(NodeId, NodeId)>
+    ensures { result ≡ (if knows_of nodes.now from && knows_of nodes.now to then Some (from, to) else None) }
+{
+    let from = known(nodes, from)?;
+    let to = known(nodes, to)?;
+    Some((from, to))
+}
+
+fn last_rate(rates: &[RateLine], node: NodeId) -> Option<&RateLine>
+    ensures { option_copied result ≡ last_rate_of rates.now node }
+{
+    rates.iter().rev().find(|r| r.node == node)
+}
+
+// Whether the tick is above that of the node's last rate.
+fn is_later(rates: &[RateLine], node: NodeId, tick: u64) -> bool
+    ensures { result ≡ option_map_or (λ r. nat_lt r.from tick) (last_rate_of rates.now node) true }
+{
+    match last_rate(rates, node) {
+        Some(rate) => rate.from < tick,
+        None => true,
+    }
+}
+
+fn ppm(slow: bool, parts: u8) -> i8
+    requires { parts ≤ 20 }
+    ensures { result ≡ ppm_of slow parts }
+{
+    let parts = parts as i8;
+    if slow { -parts } else { parts }
+}
+
+fn link(trace: &mut Trace, from: NodeId, to: NodeId) -> Result<bool, Memory>
+    ensures fresh { IfOk result (λ b. b ≡ not (has_link trace.old.lines from to)) }
+    ensures added { result ≡ Ok true → trace.new.lines ≡ with_link from to trace.old.lines }
+{
+    trace.link(from, to)
+}
+
+// Both links of two nodes, which differ.
+#[tactic(auto, using(crate::proofs::LinksBack::link_back))]
+fn pair(trace: &mut Trace, one: NodeId, other: NodeId) -> Result<bool, Memory>
+    requires { one ≢ other }
+    ensures fresh { IfOk result (λ b. b ≡ (not (has_link trace.old.lines one other) && not (has_link trace.old.lines other one))) }
+    ensures added { result ≡ Ok true → trace.new.lines ≡ with_link other one (with_link one other trace.old.lines) }
+{
+    if !link(trace, one, other)? {
+        return Ok(false);
+    }
+    link(trace, other, one)
+}
+
+fn lose(
+    trace: &mut Trace,
+    frame: u32,
+    slot: u8,
+    step: u8,
+    from: NodeId,
+    to: NodeId,
+) -> Result<bool, Memory>
+    ensures fresh { IfOk result (λ b. b ≡ not (has_loss trace.old.lines frame slot step from to)) }
+    ensures added { result ≡ Ok true → trace.new.lines ≡ with_loss frame slot step from to trace.old.lines }
+{
+    trace.lose(frame, slot, step, from, to)
+}
