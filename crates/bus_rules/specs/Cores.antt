@@ -1,5 +1,5 @@
 -- The state of a node that the bus and the node table share, and what script lines and frame ends do to it.
-use Rattle.std.specs.Prelude.{ℕ, ◌+◌, ◌%◌, List, [], Bool, ◌&&◌, ◌||◌, ◌==◌, if◌then◌else◌, is_some, Some, None, position, length}
+use Rattle.std.specs.Prelude.{ℕ, ◌+◌, ◌%◌, List, [], Bool, ◌&&◌, ◌||◌, ◌==◌, if◌then◌else◌, is_some, Some, None, position}
 use Rattle.std.specs.declared.option.Option.{Option}
 use Rattle.lwb_base.specs.Profile.{Numbers}
 use Rattle.lwb_base.specs.Messages.{Ask, Plan, Schedule}
@@ -27,15 +27,18 @@ no_plan = record { rank = 0; boot = 0; contend = 0; acks = []; owners = [] }
 abbrev pub booted : ℕ → Core
 booted boot = record { boot = boot; tune = Scan 0 0; plan = no_plan; streams = cleared; table = no_table; own_slot = None; kept = [] }
 
--- what is fixed for a node: the profile, its id, the hosts by rank, and how often it sends in a flood
+-- what is fixed for a node: the profile, its id, the rank that it hosts, if it does, how many ranks there are, and how
+-- often it sends in a flood
 pub record Setup : Type 0 where
   pub profile : Numbers
   pub id : ℕ
-  pub hosts : List ℕ
+  pub own : Option ℕ
+  pub ranks : ℕ
   pub sends : ℕ
 
-abbrev pub own_rank : Setup → Option ℕ
-own_rank s = position (λ h. h == s.id) s.hosts
+-- the rank of a node among the hosts by rank
+abbrev pub own_rank : ℕ → List ℕ → Option ℕ
+own_rank node hosts = position (λ h. h == node) hosts
 
 abbrev pub is_fresh : Core → Bool
 is_fresh c = is_some c.own_slot
@@ -66,7 +69,7 @@ as_host p (Some rank) c = new_host p rank c
 -- the end of frame f
 abbrev pub frame_ended : Setup → ℕ → Core → Core
 frame_ended s f c =
-    let tune = next_tune c.tune f (is_fresh c) (own_rank s) (length s.hosts) in
+    let tune = next_tune c.tune f (is_fresh c) s.own s.ranks in
     as_host s.profile (begins_host c.tune tune) (record c { tune = tune; own_slot = None })
 
 -- an accepted opening: the plan is taken, and the node is fresh with its own contention slot

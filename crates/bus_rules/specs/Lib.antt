@@ -6,3 +6,4 @@ pub mod HostPlans
 pub mod Plans
 pub mod Tuning
 pub mod Cores
+pub mod Slots

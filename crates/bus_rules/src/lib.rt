@@ -3,11 +3,13 @@
 
 mod delivery;
 mod flood_result;
+mod part;
 mod slots_owed;
 mod tune;
 
 pub use delivery::{Delivery, DropLine};
 pub use flood_result::FloodResult;
+pub use part::Part;
 pub use slots_owed::owed;
 pub use tune::{Tune, next_tune};
 

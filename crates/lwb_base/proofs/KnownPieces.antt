@@ -1,5 +1,5 @@
 -- What one piece more does to known bytes.
-use Rattle.std.proofs.Common.{◌≡◌, ℕ, ◌+◌, ◌-◌, ◌<◌, ◌≤◌, min, List, [], ◌∷◌, ◌++◌, length, take, drop, Result, Bool, Err, Ok, Option, refl, sym, ◌∙◌, ap, subst, arith, length-drop, length-take-le, length-append, take-append-drop}
+use Rattle.std.proofs.Common.{◌≡◌, ℕ, ◌+◌, ◌-◌, ◌<◌, ◌≤◌, min, List, [], ◌++◌, length, take, drop, Err, Option, sym, ◌∙◌, ap, subst, arith, length-drop, length-take-le, length-append, take-append-drop}
 use Rattle.std.proofs.lemmas.List.{take_at, take_all, nil_from_length}
 use Rattle.std.proofs.Math.Seq.{take-add, drop-drop}
 use Rattle.std.proofs.KnownBytes.{Appends-trans, Consumes-trans}

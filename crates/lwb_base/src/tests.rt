@@ -79,3 +79,28 @@ fn readers_and_writers_of_the_standard_library_are_ends(rt: HostRuntime) -> Resu
     assert_eq!(rt; write_all(&mut short, text), Err(WriteFault { gone: 3 }));
     Ok(())
 }
+
+// What an order says: which one it is, its rank or local time, and how many bytes it sends.
+fn said(order: Order) -> (u8, u64, u8) {
+    match order {
+        Order::Listen(rank) => (1, u64::from(rank.number()), 0),
+        Order::Off => (2, 0, 0),
+        Order::SendAt(local, packet) => (3, local, packet.length()),
+        Order::Alarm(local) => (4, local, 0),
+    }
+}
+
+#[test]
+fn a_recording_radio_gives_its_orders_back_in_their_order(rt: HostRuntime) -> Result<(), Fail> {
+    let packet = Packet::new(&[3, 1, 0, 2, 1, 0, 4]).ok_or("length")?;
+    let mut radio = RecordingRadio::new();
+    radio.listen(Rank::new(2).ok_or("rank")?);
+    radio.send_at(64_000, &packet);
+    radio.alarm(2_096_000);
+    radio.off();
+    for expected in [(1, 2, 0), (3, 64_000, 7), (4, 2_096_000, 0), (2, 0, 0)] {
+        assert_eq!(rt; said(radio.take().ok_or("none is kept")?), expected);
+    }
+    assert!(rt; radio.take().is_none());
+    Ok(())
+}

@@ -1,4 +1,4 @@
-use Rattle.std.proofs.Common.{◌≡◌, ◌≤◌, ◌<◌, ℕ, List, ◌+◌, ◌-◌, ◌++◌, length, drop, take, min, arith, rules, length-drop, length-append, length-take-le, sym, ◌∙◌, ap}
+use Rattle.std.proofs.Common.{◌≡◌, ℕ, List, ◌-◌, length, drop, take, arith, length-drop, length-append, length-take-le, sym, ◌∙◌, ap}
 use Rattle.std.proofs.lemmas.Grind.{common_steps}
 use Rattle.lwb_base.specs.Outside.{SourceState}
 use Rattle.lwb_base.proofs.KnownPieces.{moved_front, none_left}

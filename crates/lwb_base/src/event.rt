@@ -1,0 +1,14 @@
+use crate::Packet;
+
+/// What happens at a node.
+#[derive(Drop)]
+pub enum Event {
+    /// Its power came on.
+    Boot,
+    /// Its alarm is due.
+    Alarm,
+    /// The hearing of this packet ended.
+    Heard(Packet),
+    /// Its own sending ended.
+    Sent,
+}

@@ -1,0 +1,4 @@
+pub mod Said
+pub mod Nodes
+pub mod Rows
+pub mod Runs

@@ -1,0 +1,61 @@
+-- The state of a node, and its times.
+use Rattle.std.specs.Prelude.{ℕ, ◌+◌, ◌-◌, ◌*◌, min, List, length}
+use Rattle.std.specs.declared.option.Option.{Option}
+use Rattle.lwb_base.specs.Profile.{Numbers, airtime}
+use Rattle.time_reference.specs.Reference.{stopped, heard_zero}
+use Rattle.glossy_relay.specs.FloodState.{FloodState}
+use Rattle.glossy_relay.specs.Relaying.{slot_of, counter_of}
+use Rattle.bus_rules.specs.declared.part.Part.{Part}
+use Rattle.bus_rules.specs.Cores.{Core, booted}
+
+-- what only a window has: what its slot is for, the last slot of the round, its flood, and the zero by the first schedule
+-- that was accepted in it
+pub record Window : Type 0 where
+  pub part : Part
+  pub last : ℕ
+  pub flood : FloodState
+  pub reference : Option ℕ
+
+pub data Stage : Type 0 where
+  Idle : Stage
+  Scanning : Stage
+  AwaitFrame : Stage
+  AwaitSlot : ℕ → Stage
+  InWindow : ℕ → Window → Stage
+
+-- zero: when slot 0 of the round that runs or comes next begins, by the node's clock
+pub record Node : Type 0 where
+  pub core : Core
+  pub frame : ℕ
+  pub zero : ℕ
+  pub stage : Stage
+
+-- a node with this boot, before its power comes on
+abbrev pub rebooted : ℕ → Node
+rebooted boot = record { core = booted boot; frame = 0; zero = 0; stage = Idle }
+
+-- frame numbers stop here
+abbrev pub stopped_frame : ℕ → ℕ
+stopped_frame f = min f 16777215
+
+-- the alarm of frame f
+abbrev pub frame_alarm : Numbers → ℕ → ℕ
+frame_alarm p f = stopped (f * p.frame + p.end)
+
+-- a host's zero for its round in frame f
+abbrev pub zero_of_host : Numbers → ℕ → ℕ
+zero_of_host p f = stopped (f * p.frame + p.lead)
+
+-- when the window of slot j opens, its initiator starts, and it closes
+abbrev pub opens_at : Numbers → ℕ → ℕ → ℕ
+opens_at p z j = stopped (z + j * p.slot)
+
+abbrev pub starts_at : Numbers → ℕ → ℕ → ℕ
+starts_at p z j = stopped (z + j * p.slot + p.listen)
+
+abbrev pub closes_at : Numbers → ℕ → ℕ → ℕ
+closes_at p z j = stopped (z + j * p.slot + p.close)
+
+-- the zero by a schedule whose hearing ended at this reading
+abbrev pub zero_from : Numbers → ℕ → List ℕ → ℕ
+zero_from p now q = heard_zero p (now - airtime p (length q)) (counter_of q) (length q) (slot_of q)

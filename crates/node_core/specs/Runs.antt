@@ -1,0 +1,52 @@
+-- Whole runs of a node: events at readings, and calls of the script.
+use Rattle.std.specs.Prelude.{ℕ, List, [], ◌∷◌, Some, None}
+use Rattle.std.specs.declared.option.Option.{Option}
+use Rattle.lwb_base.specs.declared.event.Event.{Event}
+use Rattle.lwb_base.specs.declared.order.Order.{Order}
+use Rattle.bus_rules.specs.Streams.{Streams, declared, left, put}
+use Rattle.bus_rules.specs.Cores.{Setup}
+use Rattle.node_core.specs.Nodes.{Node, rebooted}
+use Rattle.node_core.specs.Rows.{Stepped, row}
+
+pub data Call : Type 0 where
+  Step : (reading : ℕ) → (event : Event) → Call
+  Declare : (stream : ℕ) → (interval : ℕ) → Call
+  Leave : (stream : ℕ) → Call
+  Put : (stream : ℕ) → (payload : List ℕ) → Call
+  Reboot : (boot : ℕ) → Call
+
+-- the node after the row that fits, if one does
+abbrev pub node_after : Node → Option Stepped → Node
+node_after n None = n
+node_after n (Some r) = r.node
+
+abbrev pub orders_by : Option Stepped → List Order
+orders_by None = []
+orders_by (Some r) = r.orders
+
+abbrev pub with_streams : Node → Streams → Node
+with_streams n streams = record n { core = record (n.core) { streams = streams } }
+
+abbrev pub after_call : Setup → Node → Call → Node
+after_call s n (Step now e) = node_after n (row s n now e)
+after_call s n (Declare i interval) = with_streams n (declared i interval n.core.streams)
+after_call s n (Leave i) = with_streams n (left i n.core.streams)
+after_call s n (Put i payload) = with_streams n (put i payload n.core.streams)
+after_call s n (Reboot boot) = rebooted boot
+
+abbrev pub orders_of : Setup → Node → Call → List Order
+orders_of s n (Step now e) = orders_by (row s n now e)
+orders_of s n (Declare i interval) = []
+orders_of s n (Leave i) = []
+orders_of s n (Put i payload) = []
+orders_of s n (Reboot boot) = []
+
+-- where the calls leave the node, one after another
+abbrev pub after_calls : Setup → Node → List Call → Node
+after_calls s n [] = n
+after_calls s n (call ∷ calls) = after_calls s (after_call s n call) calls
+
+-- the orders of each call
+abbrev pub orders_of_each : Setup → Node → List Call → List (List Order)
+orders_of_each s n [] = []
+orders_of_each s n (call ∷ calls) = orders_of s n call ∷ orders_of_each s (after_call s n call) calls

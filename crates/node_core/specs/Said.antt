@@ -1,0 +1,37 @@
+-- What is said in a slot, and its bytes.
+use Rattle.std.specs.Prelude.{ℕ, ◌+◌, ◌*◌, List, if◌then◌else◌, slice_index, drop, Some, option_map}
+use Rattle.std.specs.declared.option.Option.{Option}
+use Rattle.lwb_base.specs.Messages.{Ask}
+use Rattle.lwb_packets.specs.DataPackets.{is_data, spelling as data_spelling}
+use Rattle.lwb_packets.specs.Requests.{is_request, spelling as request_spelling}
+use Rattle.lwb_packets.specs.declared.data_packet.DataPacket.{DataPacket}
+use Rattle.lwb_packets.specs.declared.request.Request.{Request}
+use Rattle.schedule_codec.specs.Spelling.{spelling as schedule_spelling}
+use Rattle.schedule_codec.specs.Reading.{schedule_of}
+use Rattle.bus_rules.specs.Slots.{Data, Message, ScheduleOf, DataOf, RequestOf}
+
+-- a data packet in this slot, as its initiator sends it
+abbrev pub data_packet : Data → ℕ → DataPacket
+data_packet d j = record { slot = j; counter = 0; node = d.node; boot = d.boot; stream = d.stream; seq = d.seq; payload = d.payload }
+
+abbrev pub request_packet : Ask → ℕ → Request
+request_packet a j = record { slot = j; counter = 0; node = a.node; boot = a.boot; stream = a.stream; interval = a.interval }
+
+-- the bytes of the packet with counter 0
+abbrev pub bytes_of : Message → ℕ → List ℕ
+bytes_of (ScheduleOf x) j = schedule_spelling x j 0
+bytes_of (DataOf d) j = data_spelling (data_packet d j)
+bytes_of (RequestOf a) j = request_spelling (request_packet a j)
+
+abbrev pub data_in : List ℕ → Data
+data_in p = record { node = slice_index p 3; boot = slice_index p 4; stream = slice_index p 5; seq = 256 * slice_index p 6 + slice_index p 7; payload = drop 8 p }
+
+abbrev pub request_in : List ℕ → Ask
+request_in p = record { node = slice_index p 3; boot = slice_index p 4; stream = slice_index p 5; interval = slice_index p 6 }
+
+-- what a packet says; none where its bytes are no spelling
+abbrev pub message_of : List ℕ → Option Message
+message_of p =
+    if is_data p then Some (DataOf (data_in p))
+    else if is_request p then Some (RequestOf (request_in p))
+    else option_map ScheduleOf (schedule_of p)

@@ -1,0 +1,2 @@
+//! The core of a node: what it does and orders at each event, over any clock and any radio.
+#![tactic(auto)]
