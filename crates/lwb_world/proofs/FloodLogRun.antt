@@ -14,7 +14,7 @@ use Rattle.glossy_relay.specs.Relaying.{slot_of, counter_of}
 use Rattle.scenario_text.specs.FloodParts.{FloodParts, knows}
 use Rattle.air_log.specs.declared.entry.Entry.{Entry}
 use Rattle.air_log.specs.OnAir.{Sending, Tuning}
-use Rattle.air_log.specs.Entries.{sendings_of}
+use Rattle.air_log.specs.Entries.{sendings_of, tunings_of}
 use Rattle.air_log.specs.Hearing as rule
 use Rattle.air_log.specs.HearsAir.{scene_of}
 use Rattle.air_log.specs.Hearing.{Scene, key_of, TunedThrough, Meets, Before}
@@ -184,6 +184,9 @@ module _ (f : FloodParts) (clocks : ℕ → ℕ → ℕ) (air : List Entry) (is 
     ];
   }
 
+  off_is : (v : ℕ) (t : Tuning) → Contains (tunings_of air) t → t.node ≡ v → t.end ≡ (tuning_by f.sends v (law.events v)).end
+  off_is v t there node = ap (λ (i : Tuning). i.end) ((law.tuned t).0 there).1 ∙ ap (λ (w : ℕ). (tuning_by f.sends w (law.events w)).end) node
+
   window : (v : ℕ) → takes_part r v → IsWindow r Tuned v OPENING CLOSING
   window v here = record {
     some = is.sound.some_sends;
@@ -199,8 +202,7 @@ module _ (f : FloodParts) (clocks : ℕ → ℕ → ℕ) (air : List Entry) (is 
     };
     only = λ x sent time tuned. (let last = lasting f clocks air law x sent in
         let t = tuned (x.end - 1) (omega (arith, last.1)) (omega (arith, last.1)) in
-        let is_by = (law.tuned t.tuning).0 t.there in
-        let off : t.tuning.end ≡ (tuning_by f.sends v (law.events v)).end = ap (λ (i : Tuning). i.end) is_by.1 ∙ ap (λ (w : ℕ). (tuning_by f.sends w (law.events w)).end) t.node in
+        let off = off_is v t.tuning t.there t.node in
         let until = t.until in
         omega (arith, until, off, last.1));
   }
@@ -209,8 +211,8 @@ module _ (f : FloodParts) (clocks : ℕ → ℕ → ℕ) (air : List Entry) (is 
   log_run = record {
     times = log_times;
     hears = λ v x here. (
-      λ there. to_run v x ((law.hears (record { node = v; sending = x })).0 there).1,
-      λ h. (law.hears (record { node = v; sending = x })).1 (known v here, from_run v x h),
+      λ there. to_run v x ((law.hears v x).0 there).1,
+      λ h. (law.hears v x).1 (known v here, from_run v x h),
     );
     tuned = λ v here. tuned_in_window r Tuned v OPENING CLOSING (λ x sent. (let last = lasting f clocks air law x sent in omega (arith, last.1))) (window v here) (λ z. ((law.happened v (known v here)).sendings z).0);
   }

@@ -20,29 +20,32 @@ pub fn air_floods_by_steps()
 
 /// There are as many sendings as pairs of a node and a step in which it sends.
 pub fn sendings_are_counted()
-    ensures { (r : Run) (tuned : ℕ → Sending → Bool) → FloodRun r (λ v x. tuned v x ≡ true) → AllPairs (λ x y. x ≢ y) r.sendings
-        → AllPairs (λ u v. u ≢ v) r.setting.everyone → length r.sendings ≡ sendings r.setting }
+    ensures { (r : Run) (tuned : ℕ → Sending → Bool) → FloodRun r (λ v x. tuned v x ≡ true)
+        → AllPairs (λ x y. x ≢ y) r.sendings → AllPairs (λ u v. u ≢ v) r.setting.everyone → length r.sendings ≡ sendings r.setting }
 {}
 
 /// The numbers of a profile leave the room that a run asks for, and a packet of any kind is spelled with each counter.
 pub fn premises_are_met()
     ensures numbers { (p : Numbers) (b : Budget) → Fits p b → (n q : ℕ) → 7 ≤ n → q ≤ b.contenders
         → (q + 23 < p.turn) × (q + 22 < airtime p n) × (22 ≤ p.delta) }
-    ensures spelled { (kind : Kind) (p : List ℕ) (k : ℕ) → is_spelling kind p ≡ true → k ≤ 11 → is_spelling kind (slice_set p 2 k) ≡ true }
+    ensures spelled { (kind : Kind) (p : List ℕ) (k : ℕ) → is_spelling kind p ≡ true → k ≤ 11
+        → is_spelling kind (slice_set p 2 k) ≡ true }
 {}
 
 /// A node that is tuned from its window's opening until it goes off is tuned through what does not overlap a sending
 /// of its own exactly where it has sent less often than its limit.
 pub fn windows_give_tuning()
     ensures { (r : Run) (tuned : ℕ → Sending → Bool) (v opening closing : ℕ)
-        → ((x : Sending) → Contains r.sendings x → x.start < x.end) → IsWindow r (λ v x. tuned v x ≡ true) v opening closing
+        → ((x : Sending) → Contains r.sendings x → x.start < x.end)
+        → IsWindow r (λ v x. tuned v x ≡ true) v opening closing
         → ((z : Sending) → Contains (r.events v) (Ended z) → Contains r.sendings z × (z.node ≡ v))
         → TunedByCount r (λ v x. tuned v x ≡ true) v }
 {}
 
 /// A flood of a slot is such a run: its numbers fit, its nodes turn around by their clocks and listen in windows.
 pub fn slots_are_runs()
-    ensures { (p : Numbers) (b : Budget) → Fits p b → (n : ℕ) (clocks : ℕ → ℕ → ℕ) (r : Run) (tuned : ℕ → Sending → Bool)
+    ensures { (p : Numbers) (b : Budget) → Fits p b
+        → (n : ℕ) (clocks : ℕ → ℕ → ℕ) (r : Run) (tuned : ℕ → Sending → Bool)
         → IsSlot p b n clocks r (λ v x. tuned v x ≡ true) → FloodRun r (λ v x. tuned v x ≡ true) }
 {}
 
