@@ -7,8 +7,10 @@ ghost use Rattle.lwb_packets.specs.declared.kind.Kind.{Kind};
 ghost use Rattle.glossy_relay.specs.Relaying.{is_spelling};
 ghost use Rattle.bus_model.specs.Flooding.{sendings};
 ghost use Rattle.air_log.specs.OnAir.{Sending};
+ghost use Rattle.air_log.specs.Hearing.{Scene, Hears, TunedThrough};
 ghost use Rattle.air_log.specs.NodeEvents.{Ended};
-ghost use Rattle.lwb_world.specs.FloodRun.{Run, FloodRun, TunedByCount};
+ghost use Rattle.lwb_world.specs.FloodRun.{Run, FloodRun, HearsIn, TunedByCount, takes_part};
+ghost use Rattle.lwb_world.specs.RunOnAir.{IsPart};
 ghost use Rattle.lwb_world.specs.FloodBySteps.{IsFloodBySteps};
 ghost use Rattle.lwb_world.specs.Windows.{IsWindow, IsSlot};
 ghost use Rattle.lwb_world.specs.TwoNodes.{two_nodes, two_tuned};
@@ -22,6 +24,12 @@ pub fn air_floods_by_steps()
 pub fn sendings_are_counted()
     ensures { (r : Run) (tuned : ℕ → Sending → Bool) → FloodRun r (λ v x. tuned v x ≡ true)
         → AllPairs (λ x y. x ≢ y) r.sendings → AllPairs (λ u v. u ≢ v) r.setting.everyone → length r.sendings ≡ sendings r.setting }
+{}
+
+/// Among all that is on the air, a node hears a sending of a run that is a part of it by the rule of that run.
+pub fn runs_hear_by_the_rule_of_the_air()
+    ensures { (a : Scene) (r : Run) → IsPart a r → (v : ℕ) (x : Sending) → takes_part r v → Contains r.sendings x
+        → Hears a v x ↔ HearsIn r (TunedThrough a) v x }
 {}
 
 /// The numbers of a profile leave the room that a run asks for, and a packet of any kind is spelled with each counter.
