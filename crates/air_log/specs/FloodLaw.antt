@@ -52,7 +52,7 @@ pub record AreEventsOf (air : List Entry) (v : ℕ) (events : List Event) : Type
   pub sendings : (x : Sending) → Contains events (Ended x) ↔ (Contains (sendings_of air) x × (x.node ≡ v))
   pub in_order : InOrder events
 
--- v is tuned until its last sending, the N-th of at most N, has ended
+-- v is tuned until its N-th sending has ended, or until the closing if it sends fewer times
 abbrev pub tuning_by : ℕ → ℕ → List Event → Tuning
 tuning_by sends v events = record {
   rank = 0;
@@ -61,7 +61,8 @@ tuning_by sends v events = record {
   end = get_or (own_ends events) (sends - 1) CLOSING;
 }
 
--- the flood of its node answered a hearing with the packet of x, and x starts a turnaround after that hearing's end by the node's clock
+-- the flood of its node answered a hearing with the packet of x, which starts a turnaround after the end of that
+-- hearing by the node's clock
 pub record IsRelay (f : FloodParts) (clock : ℕ → ℕ) (events : List Event) (x : Sending) : Type 0 where
   pub heard : Sending
   pub flood : FloodState
