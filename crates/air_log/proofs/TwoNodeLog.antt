@@ -264,9 +264,9 @@ two_nodes_keep_the_law = record {
     λ is. subst (λ (y : Sending). Contains (sendings_of two_node_log) y × (counter_of y.packet ≡ 0)) (sym is) (first_there, refl),
   );
   lasts = sent (λ x. Lasts x) refl refl;
-  hears = λ h. (
-    λ there. subst (λ (g : Hearing). (knows two_nodes.nodes g.node ≡ true) × Hears scene g.node g.sending) (one_of hearing h there) (refl, hears_first),
-    λ is. hears_only h.node h.sending is.0 is.1,
+  hears = λ v x. (
+    λ there. subst (λ (g : Hearing). (knows two_nodes.nodes g.node ≡ true) × Hears scene g.node g.sending) (one_of hearing (record { node = v; sending = x }) there) (refl, hears_first),
+    λ is. hears_only v x is.0 is.1,
   );
   relayed = λ x here lasts is. at_nodes (λ v. x.node ≡ v → Relays v x → Contains (sendings_of two_node_log) x)
       (λ node is. absurd (by_one x node is))

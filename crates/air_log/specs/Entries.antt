@@ -1,5 +1,5 @@
 -- The sendings, hearings and tunings of a log.
-use Rattle.std.specs.Prelude.{ℕ, List, Option, Some, None, filter_map}
+use Rattle.std.specs.Prelude.{ℕ, List, Option, Some, None, Contains, filter_map}
 use Rattle.air_log.specs.declared.entry.Entry.{Entry}
 use Rattle.air_log.specs.declared.entry.Entry.TheVariants.{Sent, Heard, Tuned}
 use Rattle.air_log.specs.OnAir.{Sending, Hearing, Tuning}
@@ -11,7 +11,10 @@ sending_in (Tuned t) = None
 
 abbrev pub hearing_in : Entry → Option Hearing
 hearing_in (Sent x) = None
-hearing_in (Heard h) = Some (record { node = h.node; sending = record { rank = h.rank; node = h.from; start = h.start; end = h.end; packet = h.packet } })
+hearing_in (Heard h) = Some (record {
+  node = h.node;
+  sending = record { rank = h.rank; node = h.from; start = h.start; end = h.end; packet = h.packet };
+})
 hearing_in (Tuned t) = None
 
 abbrev pub tuning_in : Entry → Option Tuning
@@ -24,6 +27,10 @@ sendings_of air = filter_map sending_in air
 
 abbrev pub hearings_of : List Entry → List Hearing
 hearings_of air = filter_map hearing_in air
+
+-- v has a Heard entry of x
+abbrev pub IsHeard : List Entry → ℕ → Sending → Type 0
+IsHeard air v x = Contains (hearings_of air) (record { node = v; sending = x })
 
 abbrev pub tunings_of : List Entry → List Tuning
 tunings_of air = filter_map tuning_in air

@@ -8,18 +8,20 @@ use Rattle.glossy_relay.specs.Relaying.{counter_of, reply_to}
 use Rattle.glossy_relay.specs.declared.flood.Reply.TheVariants.{Relay}
 use Rattle.scenario_text.specs.FloodParts.{FloodParts, knows}
 use Rattle.air_log.specs.declared.entry.Entry.{Entry}
-use Rattle.air_log.specs.OnAir.{Sending, Hearing, Tuning}
-use Rattle.air_log.specs.Entries.{sendings_of, hearings_of, tunings_of, node_of}
+use Rattle.air_log.specs.OnAir.{Sending, Tuning}
+use Rattle.air_log.specs.Entries.{sendings_of, tunings_of, node_of, IsHeard}
 use Rattle.air_log.specs.HearsAir.{HearsAir}
 use Rattle.air_log.specs.NodeEvents.{Event, Heard, Ended, InOrder, occasions, own_ends}
 
--- the ticks at which all nodes tune in, at which the packet of the starting node begins, and at which nodes go off that have not sent as often as they may
+-- all nodes tune in at this tick
 abbrev pub OPENING : ℕ
 OPENING = 1344000000
 
+-- the packet of the starting node begins
 abbrev pub START : ℕ
 START = 1344064000
 
+-- nodes go off that have sent fewer times than they may
 abbrev pub CLOSING : ℕ
 CLOSING = 1346096000
 
@@ -29,7 +31,13 @@ first_packet start = 2 ∷ 1 ∷ 0 ∷ start ∷ 1 ∷ 0 ∷ 0 ∷ 0 ∷ []
 
 -- a sending on the channel of rank 0 that lasts its packet's airtime
 abbrev pub sending_at : ℕ → ℕ → List ℕ → Sending
-sending_at v start packet = record { rank = 0; node = v; start = start; end = start + airtime one (length packet); packet = packet }
+sending_at v start packet = record {
+  rank = 0;
+  node = v;
+  start = start;
+  end = start + airtime one (length packet);
+  packet = packet;
+}
 
 abbrev pub Lasts : Sending → Type 0
 Lasts x = x ≡ sending_at x.node x.start x.packet
@@ -40,15 +48,21 @@ first_flood f v = if f.start == v then initiating (first_packet f.start) f.sends
 
 -- in the order of their ends, these are the hearings of v and its own sendings
 pub record AreEventsOf (air : List Entry) (v : ℕ) (events : List Event) : Type 0 where
-  pub hearings : (x : Sending) → Contains events (Heard x) ↔ Contains (hearings_of air) (record { node = v; sending = x })
+  pub hearings : (x : Sending) → Contains events (Heard x) ↔ IsHeard air v x
   pub sendings : (x : Sending) → Contains events (Ended x) ↔ (Contains (sendings_of air) x × (x.node ≡ v))
   pub in_order : InOrder events
 
--- v is tuned until its last sending, the N-th of at most N, has ended
+-- v is tuned until its N-th sending has ended, or until the closing if it sends fewer times
 abbrev pub tuning_by : ℕ → ℕ → List Event → Tuning
-tuning_by sends v events = record { rank = 0; node = v; start = OPENING; end = get_or (own_ends events) (sends - 1) CLOSING }
+tuning_by sends v events = record {
+  rank = 0;
+  node = v;
+  start = OPENING;
+  end = get_or (own_ends events) (sends - 1) CLOSING;
+}
 
--- the flood of v answered a hearing with the packet of x, which v sends a turnaround after that hearing's end, by its clock
+-- the flood of its node answered a hearing with the packet of x, which starts a turnaround after the end of that
+-- hearing by the node's clock
 pub record IsRelay (f : FloodParts) (clock : ℕ → ℕ) (events : List Event) (x : Sending) : Type 0 where
   pub heard : Sending
   pub flood : FloodState
@@ -63,12 +77,16 @@ pub record FloodLaw (f : FloodParts) (clocks : ℕ → ℕ → ℕ) (air : List 
   pub happened : (v : ℕ) → knows f.nodes v ≡ true → AreEventsOf air v (events v)
   -- nodes alone have entries, and each is tuned once
   pub known : (e : Entry) → Contains air e → knows f.nodes (node_of e) ≡ true
-  pub tuned : (t : Tuning) → Contains (tunings_of air) t ↔ ((knows f.nodes t.node ≡ true) × (t ≡ tuning_by f.sends t.node (events t.node)))
+  pub tuned : (t : Tuning) → Contains (tunings_of air) t
+      ↔ ((knows f.nodes t.node ≡ true) × (t ≡ tuning_by f.sends t.node (events t.node)))
   -- the starting node begins, and nobody else
-  pub begun : (x : Sending) → (Contains (sendings_of air) x × (counter_of x.packet ≡ 0)) ↔ (x ≡ sending_at f.start START (first_packet f.start))
+  pub begun : (x : Sending) → (Contains (sendings_of air) x × (counter_of x.packet ≡ 0))
+      ↔ (x ≡ sending_at f.start START (first_packet f.start))
   pub lasts : (x : Sending) → Contains (sendings_of air) x → Lasts x
   -- nodes hear by the rule of the air
-  pub hears : (h : Hearing) → Contains (hearings_of air) h ↔ ((knows f.nodes h.node ≡ true) × HearsAir one f.trace air h.node h.sending)
+  pub hears : (v : ℕ) (x : Sending) → IsHeard air v x ↔ ((knows f.nodes v ≡ true) × HearsAir one f.trace air v x)
   -- what a node relays, it sends, and nothing else
-  pub relayed : (x : Sending) → knows f.nodes x.node ≡ true → Lasts x → IsRelay f (clocks x.node) (events x.node) x → Contains (sendings_of air) x
-  pub relays : (x : Sending) → Contains (sendings_of air) x → counter_of x.packet ≢ 0 → IsRelay f (clocks x.node) (events x.node) x
+  pub relayed : (x : Sending) → knows f.nodes x.node ≡ true → Lasts x → IsRelay f (clocks x.node) (events x.node) x
+      → Contains (sendings_of air) x
+  pub relays : (x : Sending) → Contains (sendings_of air) x → counter_of x.packet ≢ 0
+      → IsRelay f (clocks x.node) (events x.node) x

@@ -1,4 +1,4 @@
--- A flood over two nodes whose clocks keep true time, and its log: node 2 relays what node 1 sends, and each sends once.
+-- A flood over two nodes whose clocks keep true time, and its log: node 2 relays what node 1 sends. Each sends once.
 use Rattle.std.specs.Prelude.{ℕ, List, [], ◌∷◌}
 use Rattle.scenario_text.specs.FloodParts.{FloodParts}
 use Rattle.air_log.specs.declared.entry.Entry.{Entry}
@@ -9,7 +9,12 @@ two_nodes = record {
   sends = 1;
   nodes = record { node = 1; offset = 0 } ∷ record { node = 2; offset = 0 } ∷ [];
   rates = [];
-  trace = record { links = record { from = 1; to = 2 } ∷ record { from = 2; to = 1 } ∷ []; losses = []; cuts = []; captures = [] };
+  trace = record {
+    links = record { from = 1; to = 2 } ∷ record { from = 2; to = 1 } ∷ [];
+    losses = [];
+    cuts = [];
+    captures = [];
+  };
   start = 1;
 }
 

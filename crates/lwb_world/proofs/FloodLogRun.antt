@@ -14,15 +14,16 @@ use Rattle.glossy_relay.specs.Relaying.{slot_of, counter_of}
 use Rattle.scenario_text.specs.FloodParts.{FloodParts, knows}
 use Rattle.air_log.specs.declared.entry.Entry.{Entry}
 use Rattle.air_log.specs.OnAir.{Sending, Tuning}
-use Rattle.air_log.specs.Entries.{sendings_of}
-use Rattle.air_log.specs.Hearing as rule
+use Rattle.air_log.specs.Entries.{sendings_of, tunings_of}
 use Rattle.air_log.specs.HearsAir.{scene_of}
-use Rattle.air_log.specs.Hearing.{Scene, key_of, TunedThrough, Meets, Before}
+use Rattle.air_log.specs.Hearing.{Scene, key_of, TunedThrough}
 use Rattle.air_log.specs.NodeEvents.{Heard, occasions}
 use Rattle.air_log.specs.FloodLaw.{FloodLaw, IsRelay, OPENING, START, CLOSING, first_packet, first_flood, tuning_by, sending_at as lasting_at}
-use Rattle.lwb_world.specs.FloodRun.{Run, FloodRun, HasTimes, initiates, takes_part, counter, sending_at, begins, Rival, HearsIn, Relayed, TurnsAround}
+use Rattle.lwb_world.specs.FloodRun.{Run, FloodRun, HasTimes, initiates, takes_part, counter, sending_at, begins, Relayed, TurnsAround}
 use Rattle.lwb_world.specs.Windows.{IsWindow}
 use Rattle.lwb_world.specs.FloodLog.{HasClocks, run_of}
+use Rattle.lwb_world.specs.RunOnAir.{IsPart}
+use Rattle.lwb_world.proofs.RuleInRun.{rule_in_run}
 use Rattle.lwb_world.proofs.Packets.{slot_set, relayed_parts}
 use Rattle.lwb_world.proofs.SendingTimes.{occasion_event, timed}
 use Rattle.lwb_world.proofs.Spellings.{data_again}
@@ -142,47 +143,21 @@ module _ (f : FloodParts) (clocks : ℕ → ℕ → ℕ) (air : List Entry) (is 
   captured_at : (v : ℕ) (x : Sending) → Contains (sendings_of air) x → captured f.trace (key_of one x).frame (slot_of x.packet) (counter x) v ≡ r.setting.captured (counter x) v
   captured_at v x sent = ap (λ (i : ℕ). captured f.trace i (slot_of x.packet) (counter x) v) (frame_is x sent) ∙ ap (λ (i : ℕ). captured f.trace 5 i (counter x) v) (slot_is x sent)
 
-  to_rival : (v : ℕ) (x y : Sending) → rule.Rival scene v x y → Rival r v x y
-  to_rival v x y z = record { sent = z.sent; meets = z.meets; passes = sym (arrives_at v y z.sent) ∙ z.arrives }
-
-  from_rival : (v : ℕ) (x y : Sending) → Contains (sendings_of air) x → Rival r v x y → rule.Rival scene v x y
-  from_rival v x y sent z = record {
-    sent = z.sent;
-    channel = (lasting f clocks air law y z.sent).0 ∙ sym (lasting f clocks air law x sent).0;
-    meets = z.meets;
-    arrives = arrives_at v y z.sent ∙ z.passes;
+  log_part : IsPart scene r
+  log_part = record {
+    delta = refl;
+    sent = λ x there. (there, (lasting f clocks air law x there).0);
+    channel = λ x y there sent rank meets. sent;
+    own = λ x y there sent here meets. sent;
+    passes_by = arrives_at;
+    captured_by = captured_at;
   }
 
   abbrev pub Tuned : ℕ → Sending → Type 0
   Tuned v x = TunedThrough scene v x
 
-  to_run : (v : ℕ) (x : Sending) → rule.Hears scene v x → HearsIn r Tuned v x
-  to_run v x h = record {
-    sent = h.sent;
-    tuned = h.tuned;
-    silent = h.silent;
-    passes = sym (arrives_at v x h.sent) ∙ h.arrives;
-    first = λ y rival same. h.first y (from_rival v x y h.sent rival) same;
-    close = λ y rival same. h.close y (from_rival v x y h.sent rival) same;
-    chosen = elim h.chosen [
-      | inl alone ↦ inl (λ y rival. alone y (from_rival v x y h.sent rival))
-      | inr c ↦ inr (record { winner = c.winner; rival = to_rival v x c.winner c.rival; same = c.same; named = sym (captured_at v x h.sent) ∙ c.named })
-    ];
-  }
-
-  from_run : (v : ℕ) (x : Sending) → HearsIn r Tuned v x → rule.Hears scene v x
-  from_run v x h = record {
-    sent = h.sent;
-    tuned = h.tuned;
-    silent = h.silent;
-    arrives = arrives_at v x h.sent ∙ h.passes;
-    first = λ y rival same. h.first y (to_rival v x y rival) same;
-    close = λ y rival same. h.close y (to_rival v x y rival) same;
-    chosen = elim h.chosen [
-      | inl alone ↦ inl (λ y rival. alone y (to_rival v x y rival))
-      | inr c ↦ inr (record { winner = c.winner; rival = from_rival v x c.winner h.sent c.rival; same = c.same; named = captured_at v x h.sent ∙ c.named })
-    ];
-  }
+  off_is : (v : ℕ) (t : Tuning) → Contains (tunings_of air) t → t.node ≡ v → t.end ≡ (tuning_by f.sends v (law.events v)).end
+  off_is v t there node = ap (λ (i : Tuning). i.end) ((law.tuned t).0 there).1 ∙ ap (λ (w : ℕ). (tuning_by f.sends w (law.events w)).end) node
 
   window : (v : ℕ) → takes_part r v → IsWindow r Tuned v OPENING CLOSING
   window v here = record {
@@ -199,8 +174,7 @@ module _ (f : FloodParts) (clocks : ℕ → ℕ → ℕ) (air : List Entry) (is 
     };
     only = λ x sent time tuned. (let last = lasting f clocks air law x sent in
         let t = tuned (x.end - 1) (omega (arith, last.1)) (omega (arith, last.1)) in
-        let is_by = (law.tuned t.tuning).0 t.there in
-        let off : t.tuning.end ≡ (tuning_by f.sends v (law.events v)).end = ap (λ (i : Tuning). i.end) is_by.1 ∙ ap (λ (w : ℕ). (tuning_by f.sends w (law.events w)).end) t.node in
+        let off = off_is v t.tuning t.there t.node in
         let until = t.until in
         omega (arith, until, off, last.1));
   }
@@ -209,8 +183,8 @@ module _ (f : FloodParts) (clocks : ℕ → ℕ → ℕ) (air : List Entry) (is 
   log_run = record {
     times = log_times;
     hears = λ v x here. (
-      λ there. to_run v x ((law.hears (record { node = v; sending = x })).0 there).1,
-      λ h. (law.hears (record { node = v; sending = x })).1 (known v here, from_run v x h),
+      λ there. (let h = (law.hears v x).0 there in (rule_in_run scene r log_part v x here h.1.sent).0 h.1),
+      λ h. (law.hears v x).1 (known v here, (rule_in_run scene r log_part v x here h.sent).1 h),
     );
     tuned = λ v here. tuned_in_window r Tuned v OPENING CLOSING (λ x sent. (let last = lasting f clocks air law x sent in omega (arith, last.1))) (window v here) (λ z. ((law.happened v (known v here)).sendings z).0);
   }

@@ -9,6 +9,7 @@ pub mod WholeFlood
 pub mod SendingCounts
 pub mod Spellings
 pub mod TunedWindows
+pub mod RuleInRun
 pub mod Slots
 pub mod TwoNodeRun
 pub mod LogEntries

@@ -69,7 +69,7 @@ module _ (f : FloodParts) (clocks : ℕ → ℕ → ℕ) (air : List Entry) (law
 
   -- what was heard was sent
   pub heard_was_sent : (v : ℕ) (x : Sending) → Contains (hearings_of air) (record { node = v; sending = x }) → Contains (sendings_of air) x
-  heard_was_sent v x there = ((law.hears (record { node = v; sending = x })).0 there).1.sent
+  heard_was_sent v x there = ((law.hears v x).0 there).1.sent
 
   pub event_was_sent : (v : ℕ) (x : Sending) → knows f.nodes v ≡ true → Contains (law.events v) (Heard x) → Contains (sendings_of air) x
   event_was_sent v x here there = heard_was_sent v x (((law.happened v here).hearings x).0 there)

@@ -66,6 +66,10 @@ module _ (r : Run) (f : HasTimes r) where
       let w = within r.air r.turn (counter x) x.start (r.starts t.origin) (omega arith) t.few t.near in
       record { origin = t.origin; initiator = t.initiator; since = w.0; until = omega (arith, w.1, ends.1) }
 
+  -- with a raised counter a packet is still its initiator's
+  raised_packet : (y : Sending) (t : Timed r y) (p : List ℕ) → p ≡ slice_set y.packet 2 (counter y + 1) → p ≡ packet r t.origin (counter y + 1)
+  raised_packet y t p is = is ∙ ap (λ (q : List ℕ). slice_set q 2 (counter y + 1)) t.packet ∙ set-set (r.message t.origin) 2 (counter y) (counter y + 1)
+
   timed_next : (k : ℕ) → ((y : Sending) → Contains r.sendings y → counter y ≡ k → Timed r y) → (x : Sending) → Contains r.sendings x → counter x ≡ suc k → Timed r x
   timed_next k before x sent at =
       let both = f.relays x sent (omega arith) in
@@ -80,7 +84,7 @@ module _ (r : Run) (f : HasTimes r) where
       let t = before y was_sent at_y in
       let turned = f.turned x.node y both.0 hearing (in_time y was_sent t) in
       let ends = f.lasts y was_sent in
-      let is : x.packet ≡ packet r t.origin (counter y + 1) = parts.2 ∙ ap (λ (p : List ℕ). slice_set p 2 (counter y + 1)) t.packet ∙ set-set (r.message t.origin) 2 (counter y) (counter y + 1) in
+      let is : x.packet ≡ packet r t.origin (counter y + 1) = raised_packet y t x.packet parts.2 in
       let step : counter x ≡ counter y + 1 = counter_is t.origin (counter y + 1) x t.initiator is in
       let near : Near x.start (r.starts t.origin + (counter y + 1) * (r.air + r.turn)) (counter y + 1) = chained r.air r.turn (counter y) y.start x.start (r.starts t.origin) t.near (subst (λ (s : ℕ). Near s (y.start + r.air + r.turn) 1) (sym c.start) (subst (λ (e : ℕ). Near (r.relay_start x.node y.end) (e + r.turn) 1) ends.1 turned)) in
       record {

@@ -148,13 +148,13 @@ module _ (r : Run) (Tuned : ℕ → Sending → Type 0) (f : FloodRun r Tuned) (
   pub few_sent : (v : ℕ) (x : Sending) → takes_part r v → HearsIn r Tuned v x → counter x ≡ k → m.times v < s.limit
   few_sent v x here h step =
       let t = at.turns v here in
-      let less = (f.tuned v here x t.before t.rest h.sent (in_time r f.times x h.sent (timed r f.times x h.sent)) t.whole (early v x here h.sent step t) (late v x here h.sent step t) h.silent).0 h.tuned in
+      let less = (f.tuned v here x t.before t.rest h.sent (in_time r f.times x h.sent (timed r f.times x h.sent)) (record { whole = t.whole; ended = early v x here h.sent step t; later = late v x here h.sent step t }) h.silent).0 h.tuned in
       subst (λ (n : ℕ). n < s.limit) (sent_is v t) less
 
   tuned_in : (v : ℕ) (x : Sending) → takes_part r v → Contains r.sendings x → counter x ≡ k → Silent r v x → m.times v < s.limit → Tuned v x
   tuned_in v x here sent step silent less =
       let t = at.turns v here in
-      (f.tuned v here x t.before t.rest sent (in_time r f.times x sent (timed r f.times x sent)) t.whole (early v x here sent step t) (late v x here sent step t) silent).1 (subst (λ (n : ℕ). n < s.limit) (sym (sent_is v t)) less)
+      (f.tuned v here x t.before t.rest sent (in_time r f.times x sent (timed r f.times x sent)) (record { whole = t.whole; ended = early v x here sent step t; later = late v x here sent step t }) silent).1 (subst (λ (n : ℕ). n < s.limit) (sym (sent_is v t)) less)
 
   -- what is picked is heard
   decide : (v o u : ℕ) → initiates r o → ((x : Sending) × Offered r k v o x × (x.node ≡ u)) ⊎ ((x : Sending) → Offered r k v o x → x.node ≡ u → ⊥)

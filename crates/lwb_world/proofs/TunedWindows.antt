@@ -57,7 +57,7 @@ sent_among w (Ended x ∷ es) = omega (arith, sent_among (after w (Ended x)) es)
 module _ (r : Run) (Tuned : ℕ → Sending → Type 0) (v opening closing : ℕ) (lasts : (x : Sending) → Contains r.sendings x → x.start < x.end) (window : IsWindow r Tuned v opening closing)
     (own : (z : Sending) → Contains (r.events v) (Ended z) → Contains r.sendings z × (z.node ≡ v)) where
   pub tuned_in_window : TunedByCount r Tuned v
-  tuned_in_window x before rest sent time whole early late silent = (there, back)
+  tuned_in_window x before rest sent time cut silent = (there, back)
     where
       limit : ℕ
       limit = r.setting.limit
@@ -66,7 +66,7 @@ module _ (r : Run) (Tuned : ℕ → Sending → Type 0) (v opening closing : ℕ
       number = (let n = sent_among (begins r v) before in omega (arith, n))
 
       off_is : off_at r v closing ≡ get_or (own_ends before ++ own_ends rest) (r.setting.limit - 1) closing
-      off_is = ap (λ (l : List ℕ). get_or l (r.setting.limit - 1) closing) (ap own_ends whole ∙ own_ends_append before rest)
+      off_is = ap (λ (l : List ℕ). get_or l (r.setting.limit - 1) closing) (ap own_ends cut.whole ∙ own_ends_append before rest)
 
       there : Tuned v x → (after_all (begins r v) before).sent < r.setting.limit
       there t =
@@ -80,7 +80,7 @@ module _ (r : Run) (Tuned : ℕ → Sending → Type 0) (v opening closing : ℕ
           over : r.setting.limit - 1 < length (own_ends before) → x.end ≤ off_at r v closing → EndAt before (r.setting.limit - 1) closing → ⊥
           over less until (Inside z in_before is inside) =
               let off : off_at r v closing ≡ z.end = off_is ∙ within_first (own_ends before) (own_ends rest) (r.setting.limit - 1) closing less ∙ is in
-              let ended = early (Ended z) in_before in
+              let ended = cut.ended (Ended z) in_before in
               omega (arith, until, off, ended, lasts x sent)
           over less until (Past is past) = omega arith
 
@@ -90,8 +90,8 @@ module _ (r : Run) (Tuned : ℕ → Sending → Type 0) (v opening closing : ℕ
           not_off : (i : ℕ) → length (own_ends before) + i ≡ r.setting.limit - 1 → EndAt rest i closing → x.end ≤ off_at r v closing
           not_off i at (Inside z in_rest is inside) =
               let off : off_at r v closing ≡ z.end = off_is ∙ ap (λ (j : ℕ). get_or (own_ends before ++ own_ends rest) j closing) (sym at) ∙ after_first (own_ends before) (own_ends rest) i closing ∙ is in
-              let ends = late (Ended z) in_rest in
-              let mine = own z (subst (λ (l : List Event). Contains l (Ended z)) (sym whole) (Contains-append_right before rest (Ended z) in_rest)) in
+              let ends = cut.later (Ended z) in_rest in
+              let mine = own z (subst (λ (l : List Event). Contains l (Ended z)) (sym cut.whole) (Contains-append_right before rest (Ended z) in_rest)) in
               let last = lasts z mine.0 in
               elim (cases_lt z.start x.end) [
                 | inl meets ↦ absurd (silent z mine.0 mine.1 (record { before = ends; after = meets }))

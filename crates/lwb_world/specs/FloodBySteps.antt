@@ -30,11 +30,17 @@ ended r v = after_all (begins r v) (r.events v)
 pub record IsFloodBySteps (r : Run) : Type 0 where
   -- each sending is an initiator's packet with a counter k up to 11, and starts within k ticks of k steps after it
   pub spelled : (x : Sending) → Contains r.sendings x
-      → (o : ℕ) × initiates r o × (counter x ≤ 11) × (x.packet ≡ packet r o (counter x)) × Near x.start (r.starts o + counter x * (r.air + r.turn)) (counter x)
+      → (o : ℕ) × initiates r o × (counter x ≤ 11) × (x.packet ≡ packet r o (counter x))
+      × Near x.start (r.starts o + counter x * (r.air + r.turn)) (counter x)
   pub sends : (v k o : ℕ) → initiates r o → k ≤ 11 → SendsOnAir r v k o ↔ Sends r.setting v k o
-  pub sends_once : (x y : Sending) → Contains r.sendings x → Contains r.sendings y → x.node ≡ y.node → counter x ≡ counter y → x ≡ y
-  pub hears_once : (v : ℕ) (x y : Sending) → takes_part r v → Contains (r.events v) (Heard x) → Contains (r.events v) (Heard y) → counter x ≡ counter y → x ≡ y
+  pub sends_once : (x y : Sending) → Contains r.sendings x → Contains r.sendings y
+      → x.node ≡ y.node → counter x ≡ counter y → x ≡ y
+  pub hears_once : (v : ℕ) (x y : Sending) → takes_part r v → Contains (r.events v) (Heard x) → Contains (r.events v) (Heard y)
+      → counter x ≡ counter y → x ≡ y
   pub hears : (v k o : ℕ) → takes_part r v → initiates r o → k ≤ 11 → HearsOnAir r v k o ↔ Hears r.setting v k o
-  pub accepts : (v k o : ℕ) → takes_part r v → has r.setting.initiators v ≡ false → initiates r o → accepted_of (ended r v) ≡ Some (packet r o k, k) ↔ Accepts r.setting v o k
-  pub accepts_only : (v : ℕ) (p : List ℕ) (k : ℕ) → takes_part r v → has r.setting.initiators v ≡ false → accepted_of (ended r v) ≡ Some (p, k) → (o : ℕ) × initiates r o × (p ≡ packet r o k) × Accepts r.setting v o k
+  -- a listener's flood has accepted at the end what the node accepts by steps, and nothing else
+  pub accepts : (v k o : ℕ) → takes_part r v → has r.setting.initiators v ≡ false → initiates r o
+      → accepted_of (ended r v) ≡ Some (packet r o k, k) ↔ Accepts r.setting v o k
+  pub accepts_only : (v : ℕ) (p : List ℕ) (k : ℕ) → takes_part r v → has r.setting.initiators v ≡ false
+      → accepted_of (ended r v) ≡ Some (p, k) → (o : ℕ) × initiates r o × (p ≡ packet r o k) × Accepts r.setting v o k
   pub times : (v : ℕ) → takes_part r v → (ended r v).sent ≡ (moment r.setting STEPS).times v

@@ -10,7 +10,7 @@ use Rattle.scenario_text.specs.FloodParts.{FloodParts, IsSound, knows}
 use Rattle.bus_model.specs.FloodOfText.{setting}
 use Rattle.air_log.specs.declared.entry.Entry.{Entry}
 use Rattle.air_log.specs.OnAir.{Sending}
-use Rattle.air_log.specs.Entries.{sendings_of, hearings_of}
+use Rattle.air_log.specs.Entries.{sendings_of, hearings_of, IsHeard}
 use Rattle.air_log.specs.FloodLaw.{FloodLaw, START, first_packet}
 use Rattle.lwb_world.specs.FloodRun.{Run}
 
@@ -49,19 +49,19 @@ pub record HasSent (air : List Entry) (v k : ℕ) : Type 0 where
 -- v has a Heard entry with counter k
 pub record HasHeard (air : List Entry) (v k : ℕ) : Type 0 where
   pub sending : Sending
-  pub there : Contains (hearings_of air) (record { node = v; sending = sending })
+  pub there : IsHeard air v sending
   pub counter : counter_of sending.packet ≡ k
 
 -- the Heard entry of v that ends first has counter k
 pub record HeardFirst (air : List Entry) (v k : ℕ) : Type 0 where
   pub sending : Sending
-  pub there : Contains (hearings_of air) (record { node = v; sending = sending })
+  pub there : IsHeard air v sending
   pub counter : counter_of sending.packet ≡ k
-  pub first : (y : Sending) → Contains (hearings_of air) (record { node = v; sending = y }) → sending.end ≤ y.end
+  pub first : (y : Sending) → IsHeard air v y → sending.end ≤ y.end
 
 -- the step at which v accepts: the counter of its first hearing. The starting node accepts nothing
 abbrev pub IsAcceptance : FloodParts → List Entry → ℕ → Option ℕ → Type 0
-IsAcceptance f air v None = (v ≡ f.start) ⊎ ((x : Sending) → Contains (hearings_of air) (record { node = v; sending = x }) → ⊥)
+IsAcceptance f air v None = (v ≡ f.start) ⊎ ((x : Sending) → IsHeard air v x → ⊥)
 IsAcceptance f air v (Some k) = (v ≢ f.start) × HeardFirst air v k
 
 -- the nodes that accept, each with its step, in the order of these nodes

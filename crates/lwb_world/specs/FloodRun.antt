@@ -11,9 +11,12 @@ use Rattle.air_log.specs.OnAir.{Sending, Hearing}
 use Rattle.air_log.specs.Hearing.{Meets, Before}
 use Rattle.air_log.specs.NodeEvents.{Event, Heard, Ended, sending_of, InOrder, after_all, occasions}
 
--- the setting of the flood by steps (its limit, links, capture lines, initiators, and all that take part); the kind, slot and channel of its packets; each initiator's packet and start;
--- in ticks how long a packet is on the air, the turnaround, the greatest displacement and the greatest difference of two initiators' starts;
--- the sendings, the hearings, each node's events in order of their ends, and when a node starts a relay of what it heard up to a tick
+-- What is given: the setting of the flood by steps (its limit, links, capture lines, initiators, and all that take part);
+-- the kind, slot and channel of its packets; each initiator's packet, and when it starts.
+-- In ticks: how long a packet is on the air, the turnaround, the greatest displacement of equal packets that are heard
+-- as one, and the greatest difference of two initiators' starts.
+-- What was done: the sendings, the hearings, each node's events in the order of their ends, and when a node starts a
+-- relay of what it heard up to a tick.
 pub record Run : Type 0 where
   pub setting : Setting
   pub kind : Kind
@@ -42,6 +45,9 @@ counter x = counter_of x.packet
 -- an initiator's packet with another counter
 abbrev pub packet : Run → ℕ → ℕ → List ℕ
 packet r o k = slice_set (r.message o) 2 k
+
+abbrev pub WasHeard : Run → ℕ → Sending → Type 0
+WasHeard r v x = Contains r.hearings (record { node = v; sending = x })
 
 -- a sending that lasts as long as the run's packets do
 abbrev pub sending_at : Run → ℕ → ℕ → List ℕ → Sending
@@ -109,7 +115,8 @@ pub record HasRoom (r : Run) : Type 0 where
   pub room_to_overlap : r.spread + 22 < r.air
   pub displacement : 22 ≤ r.delta
 
--- the initiators' packets are spelled in this slot with any counter, begin with counter 0, and differ in more than the counter; they start together
+-- the initiators' packets are spelled in this slot with any counter, begin with counter 0, and differ in more than the
+-- counter; they start together
 pub record HasInitiators (r : Run) : Type 0 where
   pub there : (o : ℕ) → initiates r o → takes_part r o
   pub counter_zero : (o : ℕ) → initiates r o → counter_of (r.message o) ≡ 0
@@ -122,19 +129,23 @@ pub record HasInitiators (r : Run) : Type 0 where
 pub record HasSendings (r : Run) : Type 0 where
   pub lasts : (x : Sending) → Contains r.sendings x → (x.rank ≡ r.rank) × (x.end ≡ x.start + r.air)
   pub begun : (o : ℕ) → initiates r o → Contains r.sendings (sending_at r o (r.starts o) (r.message o))
-  pub beginnings : (x : Sending) → Contains r.sendings x → counter x ≡ 0 → initiates r x.node × (x.start ≡ r.starts x.node) × (x.packet ≡ r.message x.node)
-  pub relayed : (v start : ℕ) (p : List ℕ) → takes_part r v → Relayed r v (sending_at r v start p) → Contains r.sendings (sending_at r v start p)
+  pub beginnings : (x : Sending) → Contains r.sendings x → counter x ≡ 0
+      → initiates r x.node × (x.start ≡ r.starts x.node) × (x.packet ≡ r.message x.node)
+  pub relayed : (v start : ℕ) (p : List ℕ) → takes_part r v → Relayed r v (sending_at r v start p)
+      → Contains r.sendings (sending_at r v start p)
   pub relays : (x : Sending) → Contains r.sendings x → counter x ≢ 0 → takes_part r x.node × Relayed r x.node x
 
 -- the events of a node are its hearings and its own sendings
 pub record HasEvents (r : Run) : Type 0 where
-  pub heard_events : (v : ℕ) (x : Sending) → takes_part r v → Contains (r.events v) (Heard x) ↔ Contains r.hearings (record { node = v; sending = x })
-  pub ended_events : (v : ℕ) (x : Sending) → takes_part r v → Contains (r.events v) (Ended x) ↔ (Contains r.sendings x × (x.node ≡ v))
+  pub heard_events : (v : ℕ) (x : Sending) → takes_part r v → Contains (r.events v) (Heard x) ↔ WasHeard r v x
+  pub ended_events : (v : ℕ) (x : Sending) → takes_part r v
+      → Contains (r.events v) (Ended x) ↔ (Contains r.sendings x × (x.node ≡ v))
   pub in_order : (v : ℕ) → takes_part r v → InOrder (r.events v)
 
 -- a relay starts a turnaround after the end of what was heard, but for one tick
 abbrev pub TurnsAround : Run → Type 0
-TurnsAround r = (v : ℕ) (x : Sending) → takes_part r v → Contains r.hearings (record { node = v; sending = x }) → InTime r x → Near (r.relay_start v x.end) (x.end + r.turn) 1
+TurnsAround r = (v : ℕ) (x : Sending) → takes_part r v → WasHeard r v x → InTime r x
+    → Near (r.relay_start v x.end) (x.end + r.turn) 1
 
 -- all from which the times of the sendings follow: hearings are only asked to be of sendings
 pub record HasTimes (r : Run) : Type 0 where
@@ -146,18 +157,23 @@ pub record HasTimes (r : Run) : Type 0 where
   pub open sent use *
   pub happened : HasEvents r
   pub open happened use *
-  pub heard_sent : (v : ℕ) (x : Sending) → takes_part r v → Contains r.hearings (record { node = v; sending = x }) → Contains r.sendings x
+  pub heard_sent : (v : ℕ) (x : Sending) → takes_part r v → WasHeard r v x → Contains r.sendings x
   pub turned : TurnsAround r
 
 -- what is heard is what the air's rule says
 abbrev pub HearsByRule : Run → (ℕ → Sending → Type 0) → Type 0
-HearsByRule r Tuned = (v : ℕ) (x : Sending) → takes_part r v → Contains r.hearings (record { node = v; sending = x }) ↔ HearsIn r Tuned v x
+HearsByRule r Tuned = (v : ℕ) (x : Sending) → takes_part r v → WasHeard r v x ↔ HearsIn r Tuned v x
+
+-- these events of v have ended when x starts, and the rest have not
+pub record IsCut (r : Run) (v : ℕ) (x : Sending) (before rest : List Event) : Type 0 where
+  pub whole : r.events v ≡ before ++ rest
+  pub ended : (e : Event) → Contains before e → (sending_of e).end ≤ x.start
+  pub later : (e : Event) → Contains rest e → x.start < (sending_of e).end
 
 -- while it does not send, v is tuned exactly where fewer than its limit of own sendings have ended
 abbrev pub TunedByCount : Run → (ℕ → Sending → Type 0) → ℕ → Type 0
-TunedByCount r Tuned v = (x : Sending) (before rest : List Event) → Contains r.sendings x → InTime r x → r.events v ≡ before ++ rest
-    → ((e : Event) → Contains before e → (sending_of e).end ≤ x.start) → ((e : Event) → Contains rest e → x.start < (sending_of e).end)
-    → Silent r v x → Tuned v x ↔ ((after_all (begins r v) before).sent < r.setting.limit)
+TunedByCount r Tuned v = (x : Sending) (before rest : List Event) → Contains r.sendings x → InTime r x
+    → IsCut r v x before rest → Silent r v x → Tuned v x ↔ ((after_all (begins r v) before).sent < r.setting.limit)
 
 pub record FloodRun (r : Run) (Tuned : ℕ → Sending → Type 0) : Type 0 where
   pub times : HasTimes r

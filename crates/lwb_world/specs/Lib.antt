@@ -3,3 +3,4 @@ pub mod FloodBySteps
 pub mod Windows
 pub mod TwoNodes
 pub mod FloodLog
+pub mod RunOnAir

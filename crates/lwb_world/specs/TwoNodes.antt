@@ -2,7 +2,7 @@
 use Rattle.std.specs.Prelude.{ℕ, ◌+◌, List, [], ◌∷◌, Bool, true, ◌||◌, ◌==◌, None, if◌then◌else◌}
 use Rattle.lwb_packets.specs.declared.kind.Kind.TheVariants.{Payload}
 use Rattle.air_log.specs.OnAir.{Sending}
-use Rattle.air_log.specs.NodeEvents.{Heard, Ended}
+use Rattle.air_log.specs.NodeEvents.{Event, Heard, Ended}
 use Rattle.lwb_world.specs.FloodRun.{Run}
 
 abbrev pub packet_of : ℕ → ℕ → List ℕ
@@ -14,9 +14,20 @@ first_sending = record { rank = 0; node = 1; start = 0; end = 32768; packet = pa
 abbrev pub second_sending : Sending
 second_sending = record { rank = 0; node = 2; start = 45056; end = 77824; packet = packet_of 1 1 }
 
+abbrev pub two_events : ℕ → List Event
+two_events v =
+    if v == 1 then Ended first_sending ∷ []
+    else (if v == 2 then Heard first_sending ∷ Ended second_sending ∷ [] else [])
+
 abbrev pub two_nodes : Run
 two_nodes = record {
-  setting = record { limit = 1; passes = λ k u v. true; captured = λ k v. None; initiators = 1 ∷ []; everyone = 1 ∷ 2 ∷ [] };
+  setting = record {
+    limit = 1;
+    passes = λ k u v. true;
+    captured = λ k v. None;
+    initiators = 1 ∷ [];
+    everyone = 1 ∷ 2 ∷ [];
+  };
   kind = Payload;
   slot = 1;
   rank = 0;
@@ -28,7 +39,7 @@ two_nodes = record {
   spread = 0;
   sendings = first_sending ∷ second_sending ∷ [];
   hearings = record { node = 2; sending = first_sending } ∷ [];
-  events = λ v. if v == 1 then Ended first_sending ∷ [] else (if v == 2 then Heard first_sending ∷ Ended second_sending ∷ [] else []);
+  events = two_events;
   relay_start = λ v e. e + 12288;
 }
 

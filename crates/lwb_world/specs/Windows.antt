@@ -24,7 +24,8 @@ pub record HasWindow (r : Run) (Tuned : ℕ → Sending → Type 0) (v : ℕ) : 
   pub closing : ℕ
   pub window : IsWindow r Tuned v opening closing
 
--- a flood of a slot, with packets of n bytes: its times are those of a profile, its nodes turn around by their clocks and listen in windows
+-- a flood of a slot, with packets of n bytes: its times are those of a profile, its nodes turn around by their clocks
+-- and listen in windows
 pub record IsSlot (p : Numbers) (b : Budget) (n : ℕ) (clocks : ℕ → ℕ → ℕ) (r : Run) (Tuned : ℕ → Sending → Type 0) : Type 0 where
   pub size : 7 ≤ n
   pub air : r.air ≡ airtime p n

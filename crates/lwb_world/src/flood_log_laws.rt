@@ -19,28 +19,31 @@ ghost use Rattle.lwb_world.specs.FloodLog.{HasClocks, run_of, HasSent, HasHeard,
 /// A log that keeps the law of one flood is the flood by steps: a node has a Sent entry with counter k exactly where
 /// it sends in step k, and a Heard entry with counter k exactly where it hears in step k.
 pub fn flood_logs_are_floods_by_steps()
-    ensures run { (f : FloodParts) (clocks : ℕ → ℕ → ℕ) (air : List Entry) → HasClocks f clocks → (law : FloodLaw f clocks air)
+    ensures run { (f : FloodParts) (clocks : ℕ → ℕ → ℕ) (air : List Entry) → HasClocks f clocks
+        → (law : FloodLaw f clocks air)
         → IsFloodBySteps (run_of f clocks air law) }
-    ensures sends { (f : FloodParts) (clocks : ℕ → ℕ → ℕ) (air : List Entry) → HasClocks f clocks → FloodLaw f clocks air
-        → (v k : ℕ) → HasSent air v k ↔ Sends (setting f) v k f.start }
-    ensures hears { (f : FloodParts) (clocks : ℕ → ℕ → ℕ) (air : List Entry) → HasClocks f clocks → FloodLaw f clocks air
-        → (v k : ℕ) → knows f.nodes v ≡ true → HasHeard air v k ↔ Hears (setting f) v k f.start }
-    ensures keys { (f : FloodParts) (clocks : ℕ → ℕ → ℕ) (air : List Entry) → HasClocks f clocks → FloodLaw f clocks air
-        → (x : Sending) → Contains (sendings_of air) x → ((key_of one x).frame ≡ 5) × ((key_of one x).slot ≡ 1) × (counter_of x.packet ≤ 11) }
+    ensures sends { (f : FloodParts) (clocks : ℕ → ℕ → ℕ) (air : List Entry) → HasClocks f clocks
+        → FloodLaw f clocks air → (v k : ℕ) → HasSent air v k ↔ Sends (setting f) v k f.start }
+    ensures hears { (f : FloodParts) (clocks : ℕ → ℕ → ℕ) (air : List Entry) → HasClocks f clocks
+        → FloodLaw f clocks air → (v k : ℕ) → knows f.nodes v ≡ true → HasHeard air v k ↔ Hears (setting f) v k f.start }
+    ensures keys { (f : FloodParts) (clocks : ℕ → ℕ → ℕ) (air : List Entry) → HasClocks f clocks
+        → FloodLaw f clocks air → (x : Sending) → Contains (sendings_of air) x
+        → ((key_of one x).frame ≡ 5) × ((key_of one x).slot ≡ 1) × (counter_of x.packet ≤ 11) }
 {}
 
 /// What is read off such a log is the outcome of the flood: the nodes that accept with the counters of their first
 /// hearings, in the order of the text, and the number of Sent entries.
 pub fn flood_logs_have_the_outcome()
-    ensures accepts { (f : FloodParts) (clocks : ℕ → ℕ → ℕ) (air : List Entry) → HasClocks f clocks → FloodLaw f clocks air
-        → (step : ℕ → Option ℕ) → ((v : ℕ) → knows f.nodes v ≡ true → IsAcceptance f air v (step v))
-        → accepting step (ids f.nodes) ≡ (outcome f).accepts }
-    ensures sent { (f : FloodParts) (clocks : ℕ → ℕ → ℕ) (air : List Entry) → HasClocks f clocks → FloodLaw f clocks air
-        → length (sendings_of air) ≡ (outcome f).sent }
+    ensures accepts { (f : FloodParts) (clocks : ℕ → ℕ → ℕ) (air : List Entry) → HasClocks f clocks
+        → FloodLaw f clocks air → (step : ℕ → Option ℕ)
+        → ((v : ℕ) → knows f.nodes v ≡ true → IsAcceptance f air v (step v)) → accepting step (ids f.nodes) ≡ (outcome f).accepts }
+    ensures sent { (f : FloodParts) (clocks : ℕ → ℕ → ℕ) (air : List Entry) → HasClocks f clocks
+        → FloodLaw f clocks air → length (sendings_of air) ≡ (outcome f).sent }
 {}
 
 /// In such a log the first hearing of a node has counter k exactly where the shortest relay path to it has k + 1 links.
 pub fn flood_logs_accept_by_the_least_relay_path()
-    ensures { (f : FloodParts) (clocks : ℕ → ℕ → ℕ) (air : List Entry) → HasClocks f clocks → FloodLaw f clocks air
-        → (v k : ℕ) → knows f.nodes v ≡ true → v ≢ f.start → HeardFirst air v k ↔ IsLeast (setting f) f.start (suc k) v }
+    ensures { (f : FloodParts) (clocks : ℕ → ℕ → ℕ) (air : List Entry) → HasClocks f clocks
+        → FloodLaw f clocks air → (v k : ℕ) → knows f.nodes v ≡ true → v ≢ f.start
+        → HeardFirst air v k ↔ IsLeast (setting f) f.start (suc k) v }
 {}
