@@ -22,21 +22,20 @@ pub record Table : Type 0 where
 abbrev pub no_table : Table
 no_table = record { entries = []; place = 0 }
 
+-- each code is above this one
+abbrev pub Above : ℕ → List Entry → Type 0
+Above c [] = ⊤
+Above c (e ∷ es) = (c < e.code) × Above c es
+
 -- each code is below those after it
 abbrev pub Ascends : List Entry → Type 0
 Ascends [] = ⊤
-Ascends (e ∷ es) = All (λ x. e.code < x.code) es × Ascends es
+Ascends (e ∷ es) = Above e.code es × Ascends es
 
-pub record IsEntry (e : Entry) : Type 0 where
-  pub code : (4 ≤ e.code) × (e.code ≤ 803)
-  pub interval : (1 ≤ e.interval) × (e.interval ≤ 120)
-  pub unheard : e.unheard ≤ 15
-
--- what holds of the table at all times
-pub record IsTable (t : Table) : Type 0 where
-  pub few : length t.entries ≤ 32
-  pub each : All IsEntry t.entries
-  pub ascends : Ascends t.entries
+-- what holds of the entries of a table at all times
+pub record AreEntries (es : List Entry) : Type 0 where
+  pub few : length es ≤ 32
+  pub ascends : Ascends es
 
 abbrev pub has_code : ℕ → Entry → Bool
 has_code c e = e.code == c

@@ -1,4 +1,5 @@
 pub mod Ranges
+pub mod TwoBytes
 pub mod Kinds
 pub mod Body
 pub mod DataPackets

@@ -1,8 +1,11 @@
 use super::*;
 use lwb_base::{NodeId, Packet, Payload};
+use std::alloc::Global;
 use std::test::Fail;
 
 const DATA: [u8; 9] = [2, 1, 0, 2, 1, 0, 0, 0, 0xaa];
+
+const REQUEST: [u8; 7] = [3, 1, 0, 2, 1, 0, 4];
 
 fn packet(bytes: &[u8]) -> Result<Packet, Fail> {
     Ok(Packet::new(bytes).ok_or("length")?)
@@ -24,33 +27,70 @@ fn vectors_are_written_and_read(rt: HostRuntime) -> Result<(), Fail> {
         payload: Payload::new(&[0xaa]).ok_or("payload")?,
     });
     assert_eq!(rt; written.bytes(), DATA.as_slice());
+    let request = Request {
+        slot: 1,
+        counter: 0,
+        node: NodeId::new(2).ok_or("id")?,
+        boot: 1,
+        stream: 0,
+        interval: 4,
+    };
+    assert_eq!(rt; encode_request(&request).bytes(), REQUEST.as_slice());
+    assert!(rt; decode_request(&packet(&REQUEST)?) == Some(request));
     Ok(())
 }
 
 #[test]
 fn near_spellings_are_refused(rt: HostRuntime) -> Result<(), Fail> {
-    for (at, byte) in [
-        (0, 1),
-        (1, 0),
-        (1, 41),
-        (2, 12),
-        (3, 0),
-        (3, 201),
-        (4, 0),
-        (4, 201),
-        (5, 4),
-    ] {
-        let mut bytes = DATA;
-        bytes[at] = byte;
-        assert!(rt;
-            decode_payload(&packet(&bytes)?).is_none(),
-            "{byte} at {at}"
-        );
-    }
+    assert!(rt; decode_request(&packet(&[3, 1, 0, 2, 1, 0, 4, 0])?).is_none());
     let last = decode_payload(&packet(&[2, 1, 0, 2, 1, 0, 0xff, 0xfe])?);
     assert_eq!(rt; last.ok_or("last")?.seq, 65_534);
     assert!(rt; decode_payload(&packet(&[2, 1, 0, 2, 1, 0, 0xff, 0xff])?).is_none());
     assert!(rt; decode_payload(&packet(&DATA[..7])?).is_none());
+    Ok(())
+}
+
+// How many of the 256 values of one byte make a data packet, a request, and a packet of some kind.
+fn accepted(alloc: Global, vector: &[u8], at: usize) -> Result<(u32, u32, u32), Fail> {
+    let mut counts: (u32, u32, u32) = (0, 0, 0);
+    for value in 0..=255 {
+        let mut bytes = Vec::from_slice(alloc, vector)?;
+        if let Some(byte) = bytes.get_mut(at) {
+            *byte = value;
+        }
+        let changed = packet(bytes.as_slice())?;
+        if decode_payload(&changed).is_some() {
+            counts.0 = counts.0.saturating_add(1);
+        }
+        if decode_request(&changed).is_some() {
+            counts.1 = counts.1.saturating_add(1);
+        }
+        if kind_of(&changed).is_some() {
+            counts.2 = counts.2.saturating_add(1);
+        }
+    }
+    Ok(counts)
+}
+
+#[test]
+fn one_byte_changed(rt: HostRuntime) -> Result<(), Fail> {
+    let alloc = rt.alloc();
+    for (at, count) in [1, 40, 12, 200, 200, 4, 256, 256, 256].iter().enumerate() {
+        let kinds = if at == 0 { 4 } else { 256 };
+        assert_eq!(rt;
+            accepted(alloc, &DATA, at)?,
+            (*count, 0, kinds),
+            "byte {at}"
+        );
+    }
+    for (at, count) in [1, 44, 12, 200, 200, 4, 121].iter().enumerate() {
+        let kinds = if at == 0 { 4 } else { 256 };
+        assert_eq!(rt;
+            accepted(alloc, &REQUEST, at)?,
+            (0, *count, kinds),
+            "byte {at}"
+        );
+    }
     Ok(())
 }
 

@@ -1,5 +1,5 @@
 -- Acknowledgements that are read one after another.
-use Rattle.std.proofs.Common.{◌≡◌, ℕ, ◌+◌, ◌-◌, ◌*◌, ◌<◌, ◌≤◌, List, [], ◌∷◌, ◌++◌, true, length, take, drop, get_or, slice_get, flat_map, Option, Some, None, refl, sym, ◌∙◌, ap, subst, arith, append_assoc, length-append, take-append-drop}
+use Rattle.std.proofs.Common.{◌≡◌, ℕ, ◌+◌, ◌-◌, ◌*◌, ◌<◌, ◌≤◌, List, [], ◌∷◌, ◌++◌, true, length, take, drop, get_or, slice_get, flat_map, Option, Some, None, refl, sym, ◌∙◌, ap, subst, arith, append_assoc, length-append, take-append-drop, nat_le, nat_lt}
 use Rattle.std.proofs.lemmas.Bool.{and_parts, and_from, leb-true, lt-ltb}
 use Rattle.std.proofs.lemmas.List.{append-nil, nil_from_length, length-drop}
 use Rattle.std.proofs.lemmas.List.Concat.{flat_map-append}
@@ -87,6 +87,20 @@ pub record Follows (acks : List Ask) (rest : List ℕ) (a : Ask) : Type 0 where
   pub bytes : ask_bytes a ≡ take 4 rest
   pub takes : takes_ack acks a ≡ true
 
+follows_from : (acks whole more : List Ask) (rest : List ℕ) (a : Ask) → whole ≡ acks ++ a ∷ more → rest ≡ ask_bytes a ++ flat more → list_all ask_in_range whole ≡ true → are_acks whole ≡ true → Follows acks rest a
+follows_from acks whole more rest a is behind all ordered =
+    let joined : list_all ask_in_range (acks ++ a ∷ more) ≡ true = ap (λ l. list_all ask_in_range l) (sym is) ∙ all in
+    let ranges = and_parts (list_all ask_in_range acks) (list_all ask_in_range (a ∷ more)) (sym (list_all-append ask_in_range acks (a ∷ more)) ∙ joined) in
+    let ordering : are_acks (acks ++ a ∷ more) ≡ true = ap (λ l. are_acks l) (sym is) ∙ ordered in
+    let order = and_parts (nat_le (length (acks ++ a ∷ more)) 4) (strictly_ascend (acks ++ a ∷ more)) ordering in
+    let few : length (acks ++ a ∷ more) ≤ 4 = leb-true (length (acks ++ a ∷ more)) 4 order.0 in
+    let room : length acks < 4 = omega (arith, length-append acks (a ∷ more)) in
+    record {
+      range = (and_parts (ask_in_range a) (list_all ask_in_range more) ranges.1).0;
+      bytes = ap (λ (l : List ℕ). take 4 l) (sym behind);
+      takes = and_from (nat_lt (length acks) 4) (may_follow (slice_get acks (length acks - 1)) a) (lt-ltb (length acks) 4 room) (follows_in acks more a order.1);
+    }
+
 pub next_in : (count : ℕ) (bytes : List ℕ) (acks whole : List Ask) (rest : List ℕ) (i : ℕ) → Read count bytes acks rest i → i < count → list_all ask_in_range whole ≡ true → are_acks whole ≡ true → flat whole ≡ bytes
     → (a : Ask) × Follows acks rest a
 next_in count bytes acks whole rest i read below all ordered is =
@@ -95,20 +109,9 @@ next_in count bytes acks whole rest i read below all ordered is =
     let total = ap length read.same in
     let joined = length-append (flat acks) rest in
     let size : 4 * length whole ≡ 4 * count = omega (arith, length-asks whole, ap length is, length-asks acks) in
-    let next = one_more acks whole rest (read.same ∙ sym is) (omega arith) in
-    let a = next.0 in
-    let more = next.1 in
-    let ranges = and_parts _ _ (sym (list_all-append ask_in_range acks (a ∷ more)) ∙ ap (λ l. list_all ask_in_range l) (sym next.2) ∙ all) in
-    let order = and_parts _ _ (ap (λ l. are_acks l) (sym next.2) ∙ ordered) in
-    let few : length (acks ++ a ∷ more) ≤ 4 = leb-true _ 4 order.0 in
-    let room : length acks < 4 = omega (arith, length-append acks (a ∷ more)) in (
-      a,
-      record {
-        range = (and_parts _ _ ranges.1).0;
-        bytes = ap (λ (l : List ℕ). take 4 l) (sym next.3);
-        takes = and_from _ _ (lt-ltb (length acks) 4 room) (follows_in acks more a order.1);
-      },
-    )
+    let longer : length acks < length whole = omega arith in
+    let next = one_more acks whole rest (read.same ∙ sym is) longer in
+    (next.0, follows_from acks whole next.1 rest next.0 next.2 next.3 all ordered)
 
 value_or : Ask → Option Ask → Ask
 value_or d None = d

@@ -1,5 +1,5 @@
 -- Ascending lists with one more at their end.
-use Rattle.std.proofs.Common.{◌≡◌, ℕ, zero, suc, ◌-◌, ◌<◌, ◌≤◌, List, [], ◌∷◌, ◌++◌, Bool, true, Option, Some, None, length, slice_get, get_or, refl, sym, ◌∙◌, ap, arith, length-append}
+use Rattle.std.proofs.Common.{◌&&◌, ◌≡◌, ℕ, zero, suc, ◌-◌, ◌<◌, ◌≤◌, List, [], ◌∷◌, ◌++◌, Bool, true, Option, Some, None, length, slice_get, get_or, refl, sym, ◌∙◌, ap, arith, length-append, nat_le, nat_lt}
 use Rattle.std.proofs.lemmas.Bool.{and_parts, and_from, ltb-true, leb-true, le-leb}
 use Rattle.std.proofs.lemmas.List.Folds.{list_all-append}
 use Rattle.std.specs.List.{list_all}
@@ -33,21 +33,22 @@ codes_push (b ∷ d ∷ cs) c ascend follows =
 -- what a list takes keeps it in order
 pub are_acks_push : (qs : List Ask) (a : Ask) → acks.are_acks qs ≡ true → acks.takes_ack qs a ≡ true → acks.are_acks (qs ++ a ∷ []) ≡ true
 are_acks_push qs a are takes =
-    let both = and_parts _ _ are in
-    let may = and_parts _ _ takes in
+    let both : (nat_le (length qs) 4 ≡ true) × (acks.strictly_ascend qs ≡ true) = and_parts _ _ are in
+    let may : (nat_lt (length qs) 4 ≡ true) × (acks.may_follow (slice_get qs (length qs - 1)) a ≡ true) = and_parts _ _ takes in
     let room = ltb-true (length qs) 4 may.0 in
-    and_from _ _ (le-leb _ 4 (omega (arith, length-append qs (a ∷ [])))) (acks_push qs a both.1 may.1)
+    let few : length (qs ++ a ∷ []) ≤ 4 = omega (arith, length-append qs (a ∷ [])) in
+    and_from _ _ (le-leb (length (qs ++ a ∷ [])) 4 few) (acks_push qs a both.1 may.1)
 
 pub are_owners_push : (cs : List ℕ) (c : ℕ) → owners.are_owners cs ≡ true → 4 ≤ c → c ≤ 803 → owners.takes_owner cs c ≡ true → owners.are_owners (cs ++ c ∷ []) ≡ true
 are_owners_push cs c are low high takes =
-    let both = and_parts _ _ are in
-    let first = and_parts _ _ both.0 in
-    let may = and_parts _ _ takes in
+    let both : ((nat_le (length cs) 40 && list_all (between 4 803) cs) ≡ true) × (owners.ascend cs ≡ true) = and_parts _ _ are in
+    let first : (nat_le (length cs) 40 ≡ true) × (list_all (between 4 803) cs ≡ true) = and_parts _ _ both.0 in
+    let may : (nat_lt (length cs) 40 ≡ true) × (owners.may_follow (slice_get cs (length cs - 1)) c ≡ true) = and_parts _ _ takes in
     let room = ltb-true (length cs) 40 may.0 in
+    let few : length (cs ++ c ∷ []) ≤ 40 = omega (arith, length-append cs (c ∷ [])) in
     let within : between 4 803 c ≡ true = and_from _ _ (le-leb 4 c low) (le-leb c 803 high) in
-    and_from _ _
-    (and_from _ _ (le-leb _ 40 (omega (arith, length-append cs (c ∷ [])))) (list_all-append (between 4 803) cs (c ∷ []) ∙ and_from _ _ first.1 (and_from _ _ within refl)))
-    (codes_push cs c both.1 may.1)
+    let all : list_all (between 4 803) (cs ++ c ∷ []) ≡ true = list_all-append (between 4 803) cs (c ∷ []) ∙ and_from _ _ first.1 (and_from _ _ within refl) in
+    and_from _ _ (and_from _ _ (le-leb (length (cs ++ c ∷ [])) 40 few) all) (codes_push cs c both.1 may.1)
 
 -- an element of a list that passes
 pub passes_at : {X : Type 0} (p : X → Bool) (xs : List X) (i : ℕ) (d : X) → list_all p xs ≡ true → i < length xs → p (get_or xs i d) ≡ true

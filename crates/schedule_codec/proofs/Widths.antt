@@ -1,5 +1,5 @@
 -- The least width of numbers, and the differences of codes.
-use Rattle.std.proofs.Common.{◌≡◌, ℕ, zero, suc, ◌+◌, ◌-◌, ◌<◌, ◌≤◌, List, [], ◌∷◌, Bool, true, false, length, take, drop, get_or, refl, ◌∙◌, ap, subst, arith}
+use Rattle.std.proofs.Common.{◌≡◌, ℕ, zero, suc, ◌+◌, ◌-◌, ◌<◌, ◌≤◌, List, [], ◌∷◌, Bool, true, false, length, take, drop, get_or, refl, ◌∙◌, ap, subst, arith, nat_le}
 use Rattle.std.proofs.lemmas.Bool.{and_parts, and_from, leb-true, lt-ltb, cond-true, cond-false, cond_both}
 use Rattle.std.proofs.lemmas.List.{drop_more, take_all}
 use Rattle.std.specs.List.{list_all}
@@ -51,9 +51,11 @@ length-differences c (d ∷ cs) = ap suc (length-differences d cs)
 pub differences_fit : (c : ℕ) (cs : List ℕ) → list_all (between 4 803) cs ≡ true → fit 10 (differences (c ∷ cs)) ≡ true
 differences_fit c [] all = refl
 differences_fit c (d ∷ cs) all =
-    let both = and_parts _ _ all in
-    let high = leb-true d 803 (and_parts _ _ both.0).1 in
-    and_from _ _ (lt-ltb (d - c) 1024 (omega arith)) (differences_fit d cs both.1)
+    let both : (between 4 803 d ≡ true) × (list_all (between 4 803) cs ≡ true) = and_parts _ _ all in
+    let within : (nat_le 4 d ≡ true) × (nat_le d 803 ≡ true) = and_parts _ _ both.0 in
+    let high = leb-true d 803 within.1 in
+    let small : d - c < 1024 = omega (arith, high) in
+    and_from _ _ (lt-ltb (d - c) 1024 small) (differences_fit d cs both.1)
 
 -- what a slice pattern takes apart
 pub first_and_rest : (cs : List ℕ) → 1 ≤ length cs → get_or cs 0 0 ∷ take (length cs - 1) (drop 1 cs) ≡ cs
@@ -73,7 +75,8 @@ codes_of c cs are =
     let front = and_parts _ _ both.0 in
     let all = and_parts _ _ front.1 in
     let within = and_parts _ _ all.0 in
-    record { first = (leb-true 4 c within.0, leb-true c 803 within.1); others = all.1; ascending = both.1; few = omega (arith, leb-true (length (c ∷ cs)) 40 front.0) }
+    let few : length (c ∷ cs) ≤ 40 = leb-true (length (c ∷ cs)) 40 front.0 in
+    record { first = (leb-true 4 c within.0, leb-true c 803 within.1); others = all.1; ascending = both.1; few = omega (arith, few) }
 
 pub width_fits : (ds : List ℕ) → fit 10 ds ≡ true → (fit (width_of ds) ds ≡ true) × (width_of ds ≤ 10)
 width_fits ds small = least_passes 10 0 (λ w. fit w ds) small

@@ -1,8 +1,9 @@
 -- Ascending lists of owners, as codes, and their bytes.
-use Rattle.std.specs.Prelude.{ℕ, zero, suc, ◌+◌, ◌-◌, ◌*◌, ◌/◌, ◌%◌, List, [], ◌∷◌, ◌++◌, Bool, true, ◌&&◌, nat_lt, nat_le, if◌then◌else◌, length, Some, None}
+use Rattle.std.specs.Prelude.{ℕ, zero, suc, ◌+◌, ◌-◌, ◌*◌, List, [], ◌∷◌, ◌++◌, Bool, true, ◌&&◌, nat_lt, nat_le, if◌then◌else◌, length, Some, None}
 use Rattle.std.specs.declared.option.Option.{Option}
 use Rattle.std.specs.List.{list_all, slice_get}
 use Rattle.lwb_packets.specs.Ranges.{between}
+use Rattle.lwb_packets.specs.TwoBytes.{two_bytes}
 use Rattle.schedule_codec.specs.Packing.{fit, bytes_for, packed}
 
 -- each is not below the one before
@@ -38,10 +39,6 @@ least (suc n) w passes = if passes w then w else least n (w + 1) passes
 -- the least width that all of them fit. A difference of two codes fits 10 bits
 abbrev pub width_of : List ℕ → ℕ
 width_of ds = least 10 0 (λ w. fit w ds)
-
--- a number in two bytes, the high one first
-abbrev pub two_bytes : ℕ → List ℕ
-two_bytes n = n / 256 ∷ n % 256 ∷ []
 
 -- the first code with the width, and the packed differences
 abbrev pub codes_bytes : ℕ → List ℕ → List ℕ

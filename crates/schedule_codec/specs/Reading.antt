@@ -3,6 +3,7 @@
 use Rattle.std.specs.Prelude.{ℕ, zero, suc, ◌+◌, ◌-◌, ◌*◌, ◌/◌, ◌%◌, ◌^◌, List, [], ◌∷◌, Bool, ◌==◌, if◌then◌else◌, length, drop, slice_index, is_some, Some, None}
 use Rattle.std.specs.declared.option.Option.{Option}
 use Rattle.lwb_base.specs.Messages.{Ask, Schedule}
+use Rattle.lwb_packets.specs.TwoBytes.{number_of_two}
 use Rattle.schedule_codec.specs.Packing.{number, digits}
 use Rattle.schedule_codec.specs.Spelling.{spells}
 
@@ -19,7 +20,7 @@ summed c ds = c ∷ following c ds
 abbrev pub owners_in : List ℕ → List ℕ
 owners_in bs =
     let count = slice_index bs 0 in
-    let first = 256 * slice_index bs 1 + slice_index bs 2 in
+    let first = number_of_two (slice_index bs 1) (slice_index bs 2) in
     let width = first % 16 in
     let rest = drop 3 bs in
     if count == 0 then [] else summed (first / 16) (digits width (count - 1) (number 8 rest / 2 ^ (8 * length rest - (count - 1) * width)))

@@ -39,7 +39,7 @@ pub record SpellsBody (kind : ℕ) (bs : List ℕ) (contend : ℕ) (acks : List 
   pub owned : are_owners owners ≡ true
   pub whole : acks_bytes contend acks ++ owners_bytes owners ≡ bs
 
--- an opening stands in slot 0, and a closing in the last slot of its round
+-- an opening stands in slot 0, and a closing in the last slot of some round of its version
 abbrev pub slot_fits : ℕ → ℕ → ℕ → Bool
 slot_fits gap contend slot = if gap == 0 then slot == 0 else between 2 (if contend == 0 then 42 else 45) slot
 

@@ -44,7 +44,8 @@ pub struct Acknowledged {
 /// none.
 pub fn read_acks(kind: u8, bytes: &[u8]) -> Option<Acknowledged>
     ensures some { IfSome result (λ r. SpellsAcks kind bytes.now r.contend r.acks) }
-    ensures all { (contend : ℕ) (acks : List Ask) → SpellsAcks kind bytes.now contend acks → result ≡ Some (record { contend = contend; acks = acks }) }
+    ensures all { (contend : ℕ) (acks : List Ask) → SpellsAcks kind bytes.now contend acks
+        → result ≡ Some (record { contend = contend; acks = acks }) }
 {
     match kind {
         1 => Some(Acknowledged {
@@ -56,6 +57,7 @@ pub fn read_acks(kind: u8, bytes: &[u8]) -> Option<Acknowledged>
     }
 }
 
+// The one acknowledgement, or none for zeros.
 fn read_single(bytes: &[u8]) -> Option<Acks>
     ensures some { IfSome result (SpellsAcks 1 bytes.now 0) }
     ensures all { (acks : List Ask) → SpellsAcks 1 bytes.now 0 acks → result ≡ Some acks }
@@ -68,9 +70,11 @@ fn read_single(bytes: &[u8]) -> Option<Acks>
     Some(acks)
 }
 
+// The number of contention slots with the count of acknowledgements, and so many.
 fn read_several(bytes: &[u8]) -> Option<Acknowledged>
     ensures some { IfSome result (λ r. SpellsAcks 4 bytes.now r.contend r.acks) }
-    ensures all { (contend : ℕ) (acks : List Ask) → SpellsAcks 4 bytes.now contend acks → result ≡ Some (record { contend = contend; acks = acks }) }
+    ensures all { (contend : ℕ) (acks : List Ask) → SpellsAcks 4 bytes.now contend acks
+        → result ≡ Some (record { contend = contend; acks = acks }) }
 {
     let [head, each @ ..] = bytes else {
         return None;
@@ -89,7 +93,8 @@ fn read_each(bytes: &[u8], count: u8) -> Option<Acks>
     requires few { count ≤ 4 }
     requires long { length bytes.now ≡ 4 * count }
     ensures some { IfSome result (λ acks. (list_all ask_in_range acks ≡ true) × (are_acks acks ≡ true) × (flat_map ask_bytes acks ≡ bytes.now)) }
-    ensures all { (acks : List Ask) → list_all ask_in_range acks ≡ true → are_acks acks ≡ true → flat_map ask_bytes acks ≡ bytes.now → result ≡ Some acks }
+    ensures all { (acks : List Ask) → list_all ask_in_range acks ≡ true → are_acks acks ≡ true → flat_map ask_bytes acks ≡ bytes.now
+        → result ≡ Some acks }
 {
     let mut acks = Acks::new();
     let mut rest = bytes;

@@ -116,6 +116,7 @@ impl Acks {
         Some(place.ack)
     }
 
+    /// How many there are.
     pub fn count(&self) -> u8
         ensures value { result ≡ length self.now }
         ensures acks { are_acks self.now ≡ true }
@@ -123,6 +124,7 @@ impl Acks {
         self.places.len() as u8
     }
 
+    // The places that are used, in order.
     pub(crate) fn places(&self) -> &[Place]
         ensures value { result.now ≡ self.now }
         ensures acks { are_acks self.now ≡ true }

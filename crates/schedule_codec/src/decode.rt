@@ -21,6 +21,7 @@ pub fn read(p: &Packet) -> Option<Schedule>
     spelled(p)
 }
 
+// The schedule whose spelling these bytes are.
 fn spelled(p: &Packet) -> Option<Schedule>
     ensures some { IfSome result (λ s. spells p.now s ≡ true) }
     ensures all { (s : Said) → spells p.now s ≡ true → result ≡ Some s }
@@ -47,7 +48,8 @@ fn spelled(p: &Packet) -> Option<Schedule>
     })
 }
 
-// An opening stands in slot 0, and a closing in the last slot of its round.
+// An opening stands in slot 0, and a closing in the last slot of some round: of at most 40 owners, and of 1 contention
+// slot or of at most 4.
 fn slot_fits(gap: u8, contend: u8, slot: u8) -> bool
     ensures { result ≡ fits gap contend slot }
 {
@@ -59,9 +61,11 @@ fn slot_fits(gap: u8, contend: u8, slot: u8) -> bool
     }
 }
 
+// What stands behind the host's boot: the acknowledgements and the owners.
 fn read_body(kind: u8, bytes: &[u8]) -> Option<(Acknowledged, Owners)>
     ensures some { IfSome result (λ b. SpellsBody kind bytes.now b.0.contend b.0.acks b.1) }
-    ensures all { (contend : ℕ) (acks : List Ask) (owners : List ℕ) → SpellsBody kind bytes.now contend acks owners → result ≡ Some (record { contend = contend; acks = acks }, owners) }
+    ensures all { (contend : ℕ) (acks : List Ask) (owners : List ℕ) → SpellsBody kind bytes.now contend acks owners
+        → result ≡ Some (record { contend = contend; acks = acks }, owners) }
 {
     let size = acks_size(kind, bytes)?;
     let (front, rest) = bytes.split_at(size);
@@ -71,7 +75,9 @@ fn read_body(kind: u8, bytes: &[u8]) -> Option<(Acknowledged, Owners)>
 // How many bytes the acknowledgements take, as far as their first byte tells.
 fn acks_size(kind: u8, bytes: &[u8]) -> Option<usize>
     ensures within { IfSome result (λ n. n ≤ length bytes.now) }
-    ensures all { (contend : ℕ) (acks : List Ask) (rest : List ℕ) → SpellsAcks kind (acks_bytes contend acks) contend acks → acks_bytes contend acks ++ rest ≡ bytes.now → result ≡ Some (length (acks_bytes contend acks)) }
+    ensures all { (contend : ℕ) (acks : List Ask) (rest : List ℕ) → SpellsAcks kind (acks_bytes contend acks) contend acks
+        → acks_bytes contend acks ++ rest ≡ bytes.now
+        → result ≡ Some (length (acks_bytes contend acks)) }
 {
     let size = match kind {
         1 => 4,

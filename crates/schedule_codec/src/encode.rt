@@ -18,6 +18,7 @@ pub fn write(s: &Schedule, slot: u8) -> Packet
     spell(s, slot)
 }
 
+// The bytes of a schedule, whose parts are all in range.
 fn spell(s: &Schedule, slot: u8) -> Packet
     requires { IsWritable s.now slot }
     ensures value { result ≡ spelling s.now slot 0 }

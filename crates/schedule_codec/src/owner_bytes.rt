@@ -1,8 +1,9 @@
 ghost use Rattle.std.specs.Prelude.{◌≡◌, ◌<◌, ◌≤◌, ℕ, List, ◌∷◌, true, length, IfSome, SomeIff, Some};
 ghost use Rattle.std.specs.List.{list_all};
 ghost use Rattle.lwb_packets.specs.Ranges.{between};
+ghost use Rattle.lwb_packets.specs.TwoBytes.{two_bytes as bytes_of_two};
 ghost use Rattle.schedule_codec.specs.Packing.{fit};
-ghost use Rattle.schedule_codec.specs.OwnerLists.{are_owners, differences as differences_of, codes_bytes, owners_bytes, two_bytes as bytes_of_two};
+ghost use Rattle.schedule_codec.specs.OwnerLists.{are_owners, differences as differences_of, codes_bytes, owners_bytes};
 ghost use Rattle.schedule_codec.specs.Reading.{summed as summed_from};
 
 use crate::Owners;
@@ -27,6 +28,7 @@ pub fn write_owners(owners: &Owners) -> ArrayVec<u8, 52>
     bytes
 }
 
+// The first code with the width of the differences, and these packed.
 fn write_codes(first: u16, rest: &[u16]) -> ArrayVec<u8, 51>
     requires { are_owners (first ∷ rest.now) ≡ true }
     ensures { result.items ≡ codes_bytes first (differences_of (first ∷ rest.now)) }
@@ -59,6 +61,7 @@ pub fn read_owners(bytes: &[u8]) -> Option<Owners>
     }
 }
 
+// The owners that are spelled by this count and these bytes behind it.
 fn read_codes(count: u8, bytes: &[u8]) -> Option<Owners>
     requires { 0 < count }
     ensures some { IfSome result (λ cs. (are_owners cs ≡ true) × (owners_bytes cs ≡ count ∷ bytes.now)) }

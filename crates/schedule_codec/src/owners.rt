@@ -6,8 +6,8 @@ use arrayvec::ArrayVec;
 use lwb_base::Owner;
 use std::marker::Model;
 
-/// The owners of the data slots of a round, at most 40 in ascending order; one may stand there more than once. Contracts
-/// see the list of their codes.
+/// The owners of the data slots of a round, at most 40 in ascending order; one may stand there more than once.
+/// Contracts see the list of their codes.
 #[derive(Drop)]
 pub struct Owners {
     codes: ArrayVec<u16, 40>,
@@ -58,6 +58,7 @@ impl Owners {
         Owner::from_code(codes[i])
     }
 
+    /// How many there are.
     pub fn count(&self) -> u8
         ensures value { result ≡ length self.now }
         ensures owners { are_owners self.now ≡ true }

@@ -1,0 +1,146 @@
+ghost use Rattle.std.specs.Prelude.{◌≡◌, ◌-◌, ◌≤◌, ◌<◌, ◌==◌, ◌^◌, IfOk, IfErr, IfSome, length, is_some, if◌then◌else◌, map, filter_map, slice_set};
+ghost use Rattle.std.specs.List.{prefix_len};
+ghost use Rattle.bus_rules.specs.Tables.{AreEntries, Ascends, entry_of, with_entry, without, seen, missed};
+ghost use Rattle.stream_table.specs.Entries.{IsAt, IsGap, is_below, granted_once, put_answer, misses_last, is_full_for};
+
+use crate::entry::Entry;
+use arrayvec::ArrayVec;
+
+// What became of an entry that was put to the others.
+pub(crate) enum Put {
+    Added,
+    Changed,
+    Full,
+}
+
+// The place of the entry with this code, or the place at which it would stand.
+pub(crate) fn search(entries: &[Entry], code: u16) -> Result<usize, usize>
+    requires { Ascends entries.now }
+    ensures found { IfOk result (λ n. IsAt entries.now code n) }
+    ensures missing { IfErr result (λ n. IsGap entries.now code n) }
+{
+    let place = place_of(entries, code);
+    if place < entries.len() && entries[place].code() == code {
+        Ok(place)
+    } else {
+        Err(place)
+    }
+}
+
+// How many entries have a code below this one.
+fn place_of(entries: &[Entry], code: u16) -> usize
+    requires { Ascends entries.now }
+    ensures value { result ≡ prefix_len (is_below code) entries.now }
+    ensures within { result ≤ length entries.now }
+{
+    let mut low = 0;
+    let mut high = entries.len();
+    while low < high {
+        let middle = low + (high - low) / 2;
+        if entries[middle].code() < code {
+            low = middle + 1;
+        } else {
+            high = middle;
+        }
+    }
+    low
+}
+
+// An entry in the place of another.
+fn set(entries: &mut ArrayVec<Entry, 32>, place: usize, entry: Entry)
+    requires { place < length entries.old.items }
+    ensures { entries.new.items ≡ slice_set entries.old.items place entry }
+{
+    entries[place] = entry;
+}
+
+// Puts an entry in its place, or instead of the one that has its code.
+pub(crate) fn place_entry(entries: &mut ArrayVec<Entry, 32>, entry: Entry) -> Put
+    requires { AreEntries entries.old.items }
+    ensures answer { result ≡ put_answer entries.old.items entry.code }
+    ensures after { entries.new.items ≡ (if is_full_for entries.old.items entry.code then entries.old.items else with_entry entry entries.old.items) }
+    ensures kept { AreEntries entries.new.items }
+{
+    match search(entries.as_slice(), entry.code()) {
+        Ok(place) => {
+            set(entries, place, entry);
+            Put::Changed
+        }
+        Err(place) => {
+            if entries.is_full() {
+                return Put::Full;
+            }
+            entries.insert(place, entry);
+            Put::Added
+        }
+    }
+}
+
+// Removes the entry with this code. False where there is none.
+pub(crate) fn remove(entries: &mut ArrayVec<Entry, 32>, code: u16) -> bool
+    requires { AreEntries entries.old.items }
+    ensures answer { result ≡ is_some (entry_of entries.old.items code) }
+    ensures after { entries.new.items ≡ without code entries.old.items }
+    ensures kept { AreEntries entries.new.items }
+{
+    match search(entries.as_slice(), code) {
+        Ok(place) => {
+            entries.remove(place);
+            true
+        }
+        Err(_) => false,
+    }
+}
+
+// The owner with this code was heard.
+pub(crate) fn hear(entries: &mut ArrayVec<Entry, 32>, code: u16)
+    requires { AreEntries entries.old.items }
+    ensures after { entries.new.items ≡ map (seen code) entries.old.items }
+    ensures kept { AreEntries entries.new.items }
+{
+    match search(entries.as_slice(), code) {
+        Ok(place) => {
+            let entry = entries[place].heard();
+            set(entries, place, entry);
+        }
+        Err(_) => {}
+    }
+}
+
+// The owner with this code was not heard. True where its entry is gone for it.
+pub(crate) fn miss(entries: &mut ArrayVec<Entry, 32>, code: u16) -> bool
+    requires { AreEntries entries.old.items }
+    ensures answer { result ≡ misses_last entries.old.items code }
+    ensures after { entries.new.items ≡ filter_map (missed code) entries.old.items }
+    ensures kept { AreEntries entries.new.items }
+{
+    match search(entries.as_slice(), code) {
+        Ok(place) => match entries[place].unheard() {
+            Some(entry) => {
+                set(entries, place, entry);
+                false
+            }
+            None => {
+                entries.remove(place);
+                true
+            }
+        },
+        Err(_) => false,
+    }
+}
+
+// One slot more for this code.
+pub(crate) fn grant(entries: &mut ArrayVec<Entry, 32>, code: u16)
+    requires entries { AreEntries entries.old.items }
+    requires granted { IfSome (entry_of entries.old.items code) (λ e. e.granted < 2 ^ 32 - 1) }
+    ensures after { entries.new.items ≡ map (granted_once code) entries.old.items }
+    ensures kept { AreEntries entries.new.items }
+{
+    match search(entries.as_slice(), code) {
+        Ok(place) => {
+            let entry = entries[place].grant();
+            set(entries, place, entry);
+        }
+        Err(_) => {}
+    }
+}
