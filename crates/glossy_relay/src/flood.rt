@@ -91,6 +91,20 @@ impl Flood {
         }
     }
 
+    /// Whether a sending is ordered that has not ended.
+    pub fn waits(&self) -> bool
+        ensures { result ≡ self.now.waiting }
+    {
+        self.waiting
+    }
+
+    /// Whether it began here.
+    pub fn initiated(&self) -> bool
+        ensures { result ≡ self.now.initiated }
+    {
+        self.initiated
+    }
+
     /// `Ignore` comes exactly where the packet does not fit; `Relay`, with the counter plus 1, where it fits and its
     /// counter is below 11; `Keep` where it fits and its counter is 11.
     pub fn heard(&mut self, p: &Packet) -> Reply

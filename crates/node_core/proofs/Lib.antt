@@ -1,1 +1,2 @@
 mod WorkedOrders
+pub mod Meanings

@@ -144,22 +144,27 @@ is_schedule_part (DataSlot owner) = false
 is_schedule_part (Contention i) = false
 is_schedule_part Closing = true
 
-abbrev pub reference_by : Numbers → ℕ → Window → List ℕ → Reply → Option ℕ
-reference_by p now w q reply =
-    if is_schedule_part w.part && not (is_ignored reply) && is_none (accepted_of w.flood) && not w.flood.initiated
+abbrev pub reply_by : ℕ → Window → List ℕ → Reply
+reply_by rank w p = if is_foreign rank (message_of p) then Ignore else reply_to w.flood p
+
+abbrev pub flood_by : ℕ → Window → List ℕ → FloodState
+flood_by rank w p = if is_foreign rank (message_of p) then w.flood else after_heard w.flood p
+
+abbrev pub reference_by : Numbers → ℕ → ℕ → Window → List ℕ → Option ℕ
+reference_by p rank now w q =
+    if is_schedule_part w.part && not (is_ignored (reply_by rank w q)) && is_none (accepted_of w.flood) && not w.flood.initiated
     then Some (zero_from p now q)
     else w.reference
 
-abbrev pub reply_in : Bool → FloodState → List ℕ → Reply
-reply_in foreign flood p = if foreign then Ignore else reply_to flood p
+abbrev pub hearing : Numbers → ℕ → ℕ → Window → List ℕ → Window
+hearing p rank now w q = record w { flood = flood_by rank w q; reference = reference_by p rank now w q }
 
 abbrev pub window_hears : Setup → Node → ℕ → ℕ → Window → List ℕ → Stepped
 window_hears s n now j w p =
-    let foreign = is_foreign (rank_of n.core.tune) (message_of p) in
-    let reply = reply_in foreign w.flood p in
+    let rank = rank_of n.core.tune in
     record {
-      node = record n { stage = InWindow j (record w { flood = if foreign then w.flood else after_heard w.flood p; reference = reference_by s.profile now w p reply }) };
-      orders = relaying s.profile now reply;
+      node = record n { stage = InWindow j (hearing s.profile rank now w p) };
+      orders = relaying s.profile now (reply_by rank w p);
       delivery = None;
     }
 

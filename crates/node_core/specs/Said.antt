@@ -5,16 +5,24 @@ use Rattle.lwb_base.specs.Messages.{Ask}
 use Rattle.lwb_packets.specs.DataPackets.{is_data, spelling as data_spelling}
 use Rattle.lwb_packets.specs.Requests.{is_request, spelling as request_spelling}
 use Rattle.lwb_packets.specs.declared.data_packet.DataPacket.{DataPacket}
-use Rattle.lwb_packets.specs.declared.request.Request.{Request}
+use Rattle.lwb_packets.specs.declared.request.Request as Requested
 use Rattle.schedule_codec.specs.Spelling.{spelling as schedule_spelling}
 use Rattle.schedule_codec.specs.Reading.{schedule_of}
-use Rattle.bus_rules.specs.Slots.{Data, Message, ScheduleOf, DataOf, RequestOf}
+use Rattle.node_core.specs.declared.message.Heard.{Heard}
+use Rattle.node_core.specs.declared.message.Heard.TheVariants.{Schedule, Data, Request}
+use Rattle.bus_rules.specs.Slots.{Data as DataSaid, Message, ScheduleOf, DataOf, RequestOf}
+
+-- what a packet says that was read
+abbrev pub meaning : Heard → Message
+meaning (Schedule s) = ScheduleOf s
+meaning (Data d) = DataOf (record { node = d.node; boot = d.boot; stream = d.stream; seq = d.seq; payload = d.payload })
+meaning (Request r) = RequestOf (record { node = r.node; boot = r.boot; stream = r.stream; interval = r.interval })
 
 -- a data packet in this slot, as its initiator sends it
-abbrev pub data_packet : Data → ℕ → DataPacket
+abbrev pub data_packet : DataSaid → ℕ → DataPacket
 data_packet d j = record { slot = j; counter = 0; node = d.node; boot = d.boot; stream = d.stream; seq = d.seq; payload = d.payload }
 
-abbrev pub request_packet : Ask → ℕ → Request
+abbrev pub request_packet : Ask → ℕ → Requested.Request
 request_packet a j = record { slot = j; counter = 0; node = a.node; boot = a.boot; stream = a.stream; interval = a.interval }
 
 -- the bytes of the packet with counter 0
@@ -23,7 +31,7 @@ bytes_of (ScheduleOf x) j = schedule_spelling x j 0
 bytes_of (DataOf d) j = data_spelling (data_packet d j)
 bytes_of (RequestOf a) j = request_spelling (request_packet a j)
 
-abbrev pub data_in : List ℕ → Data
+abbrev pub data_in : List ℕ → DataSaid
 data_in p = record { node = slice_index p 3; boot = slice_index p 4; stream = slice_index p 5; seq = 256 * slice_index p 6 + slice_index p 7; payload = drop 8 p }
 
 abbrev pub request_in : List ℕ → Ask

@@ -1,2 +1,6 @@
 //! The core of a node: what it does and orders at each event, over any clock and any radio.
 #![tactic(auto)]
+
+mod message;
+mod times;
+mod window;

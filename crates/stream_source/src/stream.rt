@@ -22,11 +22,14 @@ pub struct Waiting {
 }
 
 impl Model for Waiting {
+    ghost use Rattle.std.specs.Prelude.{◌≤◌};
     ghost use Rattle.bus_rules.specs.Streams.{Waiting as Waits};
 
     ghost Value = { Waits };
 
     ghost view = { λ w. record { seq = w.seq; payload = w.payload } };
+
+    ghost invariant = { λ w. w.seq ≤ 65534 };
 
     ghost inverse = { λ w. record { seq = w.seq; payload = w.payload } };
 }
@@ -57,7 +60,7 @@ impl Model for Stream {
 
     ghost view = { λ s. record { wish = s.wish; agreed = s.agreed; last = s.last; queue = s.queue.items; next = s.next } };
 
-    ghost invariant = { λ s. s.queue.capacity ≡ 16 };
+    ghost invariant = { λ s. (s.queue.capacity ≡ 16) × (s.wish ≤ 120) };
 }
 
 impl Stream {
@@ -87,12 +90,14 @@ impl Stream {
     }
 
     pub(crate) fn wish(&self) -> u8
-        ensures { result ≡ self.now.wish }
+        ensures value { result ≡ self.now.wish }
+        ensures range { result ≤ 120 }
     {
         self.wish
     }
 
     pub(crate) fn set_wish(&mut self, interval: u8)
+        requires { interval ≤ 120 }
         ensures { self.new ≡ rule.wishes interval self.old }
     {
         self.wish = interval;

@@ -1,4 +1,4 @@
-ghost use Rattle.std.specs.Prelude.{◌≡◌, ◌≤◌, ◌==◌, true, IfOk, if◌then◌else◌, fold, map, length, replicate, option_map};
+ghost use Rattle.std.specs.Prelude.{◌≡◌, ◌≤◌, ◌==◌, true, IfOk, IfSome, if◌then◌else◌, fold, map, length, replicate, option_map};
 ghost use Rattle.std.specs.List.{list_all};
 ghost use Rattle.bus_rules.specs.Streams as rule;
 ghost use Rattle.schedule_codec.specs.AckLists.{ask_in_range};
@@ -100,7 +100,8 @@ impl Streams {
     /// What the stream wishes, where a request of it is due. None exactly where none is.
     pub fn due_of(&self, stream: u8) -> Option<u8>
         requires { stream ≤ 3 }
-        ensures { result ≡ rule.due_of self.now stream }
+        ensures value { result ≡ rule.due_of self.now stream }
+        ensures range { IfSome result (λ wish. wish ≤ 120) }
     {
         let stream = &self.streams[usize::from(stream)];
         if stream.is_due() {
@@ -112,7 +113,8 @@ impl Streams {
 
     /// The least stream of which a request is due, with its wish. None exactly where none is due.
     pub fn due(&self) -> Option<(u8, u8)>
-        ensures { result ≡ option_map (rule.with_wish self.now) (rule.due self.now) }
+        ensures least { result ≡ option_map (rule.with_wish self.now) (rule.due self.now) }
+        ensures range { IfSome result (λ r. (r.0 ≤ 3) × (r.1 ≤ 120)) }
     {
         for i in 0..4_u8 {
             if let Some(wish) = self.due_of(i) {
@@ -134,6 +136,7 @@ impl Streams {
     /// none is due or slots are still to be skipped; then one skip less is left.
     pub fn request_now(&mut self, node: NodeId) -> Option<(u8, u8)>
         ensures answer { result ≡ option_map (rule.with_wish self.old) (rule.requested self.old) }
+        ensures range { IfSome result (λ r. (r.0 ≤ 3) × (r.1 ≤ 120)) }
         ensures after { self.new ≡ rule.after_contention node self.old }
     {
         let request = self.due()?;

@@ -71,7 +71,8 @@ impl Reference {
         Reference::with_zero(profile, zero.min(LAST_TIME))
     }
 
-    fn with_zero(profile: &Profile, zero: u64) -> Reference
+    /// Of a round whose slot 0 begins at this time, which is below 2^47.
+    pub fn with_zero(profile: &Profile, zero: u64) -> Reference
         requires { zero < 2 ^ 47 }
         ensures value { result ≡ times_of profile.now zero }
         ensures made { IsProfile profile.now }

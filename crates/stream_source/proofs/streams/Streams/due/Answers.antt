@@ -11,6 +11,6 @@ pub returns-in-Some : goal.returns-in-Some
 returns-in-Some c =
     let s = c.args.self.now in
     let i = c.loop-i.i in
-    let here = of_due (is_due s i) (stream_at s i).wish c.in-Some.wish c.in-Some.ensures in
+    let here = of_due (is_due s i) (stream_at s i).wish c.in-Some.wish c.in-Some.ensures.value in
     let found = least_found (is_due s) i (omega arith) c.loop-i.invariant here.0 in
     rw (found, here.1) refl

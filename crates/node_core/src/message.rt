@@ -1,0 +1,32 @@
+ghost use Rattle.std.specs.Prelude.{◌≡◌, IfSome};
+ghost use Rattle.std.specs.Option.{option_map};
+ghost use Rattle.node_core.specs.Said.{meaning, message_of};
+
+use lwb_base::Packet;
+use lwb_packets::{DataPacket, Request, decode_payload, decode_request};
+use schedule_codec::{Schedule, read};
+
+// What a packet that was heard says.
+#[derive(Drop)]
+pub(crate) enum Heard {
+    Schedule(Schedule),
+    Data(DataPacket),
+    Request(Request),
+}
+
+// None exactly where the bytes are no spelling.
+#[tactic(auto, using(crate::proofs::Meanings::says_data, crate::proofs::Meanings::says_request))]
+pub(crate) fn message_in(p: &Packet) -> Option<Heard>
+    ensures { option_map meaning result ≡ message_of p.now }
+{
+    if let Some(data) = decode_payload(p) {
+        return Some(Heard::Data(data));
+    }
+    if let Some(request) = decode_request(p) {
+        return Some(Heard::Request(request));
+    }
+    match read(p) {
+        Some(schedule) => Some(Heard::Schedule(schedule)),
+        None => None,
+    }
+}

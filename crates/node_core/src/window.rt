@@ -1,0 +1,89 @@
+ghost use Rattle.std.specs.Prelude.{◌≡◌, ◌≤◌, ◌<◌, ◌^◌, true, Some, None, IfSome, if◌then◌else◌, not};
+ghost use Rattle.lwb_packets.specs.declared.kind.Kind as Kind;
+ghost use Rattle.glossy_relay.specs.FloodState.{listening};
+ghost use Rattle.glossy_relay.specs.Relaying.{after_sent, after_ending};
+ghost use Rattle.node_core.specs.Said.{meaning, message_of};
+ghost use Rattle.node_core.specs.Rows.{is_foreign as foreign, is_schedule_part, hearing, reply_by};
+
+use crate::message::{Heard, message_in};
+use crate::times::heard_zero;
+use bus_rules::Part;
+use glossy_relay::{After, Flood, Reply};
+use lwb_base::{Packet, Profile, Rank};
+use std::marker::Model;
+
+// The window of a slot, while it is open.
+#[derive(Drop)]
+pub(crate) struct Window {
+    pub(crate) part: Part,
+    pub(crate) last: u8,
+    pub(crate) flood: Flood,
+    pub(crate) reference: Option<u64>,
+}
+
+impl Model for Window {
+    ghost use Rattle.node_core.specs.Nodes.{Window as WindowOf};
+
+    ghost Value = { WindowOf };
+
+    ghost view = { λ w. record { part = w.part; last = w.last; flood = w.flood; reference = w.reference } };
+
+    ghost inverse = { λ w. record { part = w.part; last = w.last; flood = w.flood; reference = w.reference } };
+}
+
+impl Window {
+    // A packet was heard, on the channel of this rank, whose hearing ended at this reading.
+    pub(crate) fn hear(&mut self, profile: &Profile, rank: Rank, now: u64, p: &Packet) -> Reply
+        requires { now < 2 ^ 46 }
+        ensures reply { result ≡ reply_by rank self.old p.now }
+        ensures after { self.new ≡ hearing profile.now rank now self.old p.now }
+    {
+        if is_foreign(rank, p) {
+            return Reply::Ignore;
+        }
+        let first = is_end(self.part) && !self.flood.initiated() && self.flood.accepted().is_none();
+        let reply = self.flood.heard(p);
+        if first && !matches!(reply, Reply::Ignore) {
+            self.reference = Some(heard_zero(profile, now, p));
+        }
+        reply
+    }
+
+    // The ordered sending ended.
+    pub(crate) fn sent(&mut self) -> After
+        requires { self.old.flood.waiting ≡ true }
+        ensures after { self.new ≡ record self.old { flood = after_sent self.old.flood } }
+        ensures off { result ≡ after_ending self.old.flood }
+    {
+        self.flood.sent()
+    }
+}
+
+// A schedule of another rank.
+fn is_foreign(rank: Rank, p: &Packet) -> bool
+    ensures { result ≡ foreign rank (message_of p.now) }
+{
+    match message_in(p) {
+        Some(message) => is_of_another(rank, &message),
+        None => false,
+    }
+}
+
+fn is_of_another(rank: Rank, message: &Heard) -> bool
+    ensures { result ≡ foreign rank (Some (meaning message.now)) }
+{
+    match message {
+        Heard::Schedule(schedule) => schedule.host != rank,
+        Heard::Data(_) | Heard::Request(_) => false,
+    }
+}
+
+// An opening or a closing slot.
+fn is_end(part: Part) -> bool
+    ensures { result ≡ is_schedule_part part }
+{
+    match part {
+        Part::Opening | Part::Closing => true,
+        Part::Data(_) | Part::Contention(_) => false,
+    }
+}
