@@ -1,0 +1,34 @@
+-- The sendings, hearings and tunings of a log.
+use Rattle.std.specs.Prelude.{ℕ, List, Option, Some, None, filter_map}
+use Rattle.air_log.specs.declared.entry.Entry.{Entry}
+use Rattle.air_log.specs.declared.entry.Entry.TheVariants.{Sent, Heard, Tuned}
+use Rattle.air_log.specs.OnAir.{Sending, Hearing, Tuning}
+
+abbrev pub sending_in : Entry → Option Sending
+sending_in (Sent x) = Some (record { rank = x.rank; node = x.node; start = x.start; end = x.end; packet = x.packet })
+sending_in (Heard h) = None
+sending_in (Tuned t) = None
+
+abbrev pub hearing_in : Entry → Option Hearing
+hearing_in (Sent x) = None
+hearing_in (Heard h) = Some (record { node = h.node; sending = record { rank = h.rank; node = h.from; start = h.start; end = h.end; packet = h.packet } })
+hearing_in (Tuned t) = None
+
+abbrev pub tuning_in : Entry → Option Tuning
+tuning_in (Sent x) = None
+tuning_in (Heard h) = None
+tuning_in (Tuned t) = Some (record { rank = t.rank; node = t.node; start = t.start; end = t.end })
+
+abbrev pub sendings_of : List Entry → List Sending
+sendings_of air = filter_map sending_in air
+
+abbrev pub hearings_of : List Entry → List Hearing
+hearings_of air = filter_map hearing_in air
+
+abbrev pub tunings_of : List Entry → List Tuning
+tunings_of air = filter_map tuning_in air
+
+abbrev pub node_of : Entry → ℕ
+node_of (Sent x) = x.node
+node_of (Heard h) = h.node
+node_of (Tuned t) = t.node

@@ -1,0 +1,22 @@
+-- What is on the air: sendings, who hears them, and tunings.
+use Rattle.std.specs.Prelude.{ℕ, List}
+
+-- on the channel of a rank a node sends a packet, from its start to its end
+pub record Sending : Type 0 where
+  pub rank : ℕ
+  pub node : ℕ
+  pub start : ℕ
+  pub end : ℕ
+  pub packet : List ℕ
+
+-- a node hears a sending
+pub record Hearing : Type 0 where
+  pub node : ℕ
+  pub sending : Sending
+
+-- a node's radio is on at the channel of a rank
+pub record Tuning : Type 0 where
+  pub rank : ℕ
+  pub node : ℕ
+  pub start : ℕ
+  pub end : ℕ

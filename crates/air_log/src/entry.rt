@@ -1,0 +1,39 @@
+use lwb_base::{NodeId, Packet, Rank};
+
+/// One entry of a log. Its times are true ticks of 1/64 µs; it contains its start and not its end.
+#[derive(Drop)]
+pub enum Entry {
+    Sent(SentEntry),
+    Heard(HeardEntry),
+    Tuned(TunedEntry),
+}
+
+/// A node sent a packet on the channel of a rank.
+#[derive(Drop)]
+pub struct SentEntry {
+    pub rank: Rank,
+    pub node: NodeId,
+    pub start: u64,
+    pub end: u64,
+    pub packet: Packet,
+}
+
+/// A node heard the packet that `from` sent, from its start to its end.
+#[derive(Drop)]
+pub struct HeardEntry {
+    pub rank: Rank,
+    pub node: NodeId,
+    pub from: NodeId,
+    pub start: u64,
+    pub end: u64,
+    pub packet: Packet,
+}
+
+/// A longest time in which a node's radio is on at the channel of a rank, its own sendings included.
+#[derive(Clone, Copy, Debug, PartialEq, Eq)]
+pub struct TunedEntry {
+    pub rank: Rank,
+    pub node: NodeId,
+    pub start: u64,
+    pub end: u64,
+}

@@ -1,0 +1,11 @@
+//! The log of a run: who sent, who heard, and who was tuned, and the laws that logs keep.
+#![tactic(auto)]
+
+mod air;
+mod entry;
+
+pub use air::Air;
+pub use entry::{Entry, HeardEntry, SentEntry, TunedEntry};
+
+#[cfg(test)]
+mod tests;
