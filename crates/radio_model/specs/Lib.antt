@@ -1,0 +1,3 @@
+pub mod OnAir
+pub mod Captures
+pub mod Hearing
