@@ -1,3 +1,6 @@
 pub mod OnAir
 pub mod Captures
 pub mod Hearing
+pub mod Stations
+pub mod Pairs
+pub mod Seal

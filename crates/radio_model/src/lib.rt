@@ -1,2 +1,10 @@
 //! Who hears what on the air: the medium that all nodes share.
 #![tactic(auto)]
+
+mod hearers;
+mod links;
+mod sending;
+mod station;
+
+pub use hearers::Hearers;
+pub use links::Links;
