@@ -3,4 +3,5 @@ pub mod Captures
 pub mod Hearing
 pub mod Stations
 pub mod Pairs
+pub mod Meetings
 pub mod Seal

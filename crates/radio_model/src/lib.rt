@@ -3,6 +3,7 @@
 
 mod hearers;
 mod links;
+mod rivals;
 mod sending;
 mod station;
 
