@@ -1,1 +1,5 @@
 pub mod RivalLists
+pub mod Places
+pub mod Changes
+pub mod PlacedRivals
+pub mod Ending

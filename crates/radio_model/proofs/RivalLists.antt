@@ -1,5 +1,5 @@
 -- Lists of rivals, one more at a time.
-use Rattle.std.proofs.Common.{◌≡◌, ◌+◌, ◌<◌, ◌≤◌, ℕ, List, [], ◌∷◌, ◌++◌, length, take, get_or, Option, Some, None, option_to_list, filter_map, refl, sym, ◌∙◌, ap, arith, append_assoc, append-nil}
+use Rattle.std.proofs.Common.{◌≡◌, ◌+◌, ◌<◌, ◌≤◌, ℕ, List, [], ◌∷◌, ◌++◌, length, take, get_or, Option, Some, None, option_to_list, filter_map, refl, sym, ◌∙◌, ap, arith, append_assoc, append-nil, length-append, Bool, true, false, if◌then◌else◌}
 use Rattle.std.proofs.lemmas.List.{take_more, take_all}
 use Rattle.std.proofs.lemmas.List.Elements.{filter_map-append}
 
@@ -30,3 +30,21 @@ kept_all f xs i x old new now all is adds =
     ∙ ap (λ (l : List _). old ++ (filter_map f l ++ option_to_list (f x))) (take_all i xs all)
     ∙ ap (λ (l : List _). old ++ (filter_map f xs ++ l)) (sym (one_kept f x))
     ∙ ap (λ (l : List _). old ++ l) (sym (filter_map-append f xs (x ∷ [])))
+
+-- a list by a test, one element more
+pub adds_passing : {X Y : Type 0} (test : X → Bool) (value : X → Y) (xs : List X) (i : ℕ) (x : X) (b : Bool) (new now : List Y) → i < length xs → x ≡ get_or xs i x → b ≡ test x
+    → now ≡ filter_map (λ z. if test z then Some (value z) else None) (take i xs) → new ≡ (if b then now ++ value x ∷ [] else now)
+    → new ≡ filter_map (λ z. if test z then Some (value z) else None) (take (i + 1) xs)
+adds_passing {X} {Y} test value xs i x b new now below at is so adds =
+    let f : X → Option Y = λ z. if test z then Some (value z) else None in
+    adds ∙ by_test b ∙ ap (λ (c : Bool). now ++ option_to_list (if c then Some (value x) else None)) is
+    ∙ ap (λ (l : List Y). l ++ option_to_list (f x)) so ∙ sym (filter_map_more f xs i x below at)
+  where
+    by_test : (c : Bool) → (if c then now ++ value x ∷ [] else now) ≡ now ++ option_to_list (if c then Some (value x) else None)
+    by_test true = refl
+    by_test false = sym (append-nil now)
+
+pub few_passing : {Y : Type 0} (b : Bool) (y : Y) (i : ℕ) (new now : List Y) → length now ≤ i → new ≡ (if b then now ++ y ∷ [] else now) → length new ≤ i + 1
+few_passing true y i new now few is = omega (arith, ap length is, length-append now (y ∷ []))
+few_passing false y i new now few is = omega (arith, ap length is)
+

@@ -65,12 +65,18 @@ is_clear lines v k rs Alone = true
 is_clear lines v k rs Mixed = is_chosen lines v rs (captured lines k.frame k.slot k.counter v)
 is_clear lines v k rs Spoiled = false
 
--- the node of this station hears x, which ends at t
-abbrev pub is_heard : Numbers → Lines → Sending → ℕ → List Rival → Station → Bool
-is_heard p lines x t rs st =
-    covers st x.rank x.start t && not (list_any (overlaps x) (on_air st))
-    && passes_at lines (key_of p x) x.node st.node
-    && is_clear lines st.node (key_of p x) rs (crowd_of lines st.node rs)
+-- the node of this station hears x, which has this key and ends now, from node u
+abbrev pub is_heard : Lines → ℕ → Sending → Key → List Rival → Station → Bool
+is_heard lines u x k rs st =
+    covers st x.rank x.start x.end && not (list_any (overlaps x) (on_air st)) && passes_at lines k u st.node
+    && is_clear lines st.node k rs (crowd_of lines st.node rs)
+
+abbrev pub heard_by : Lines → ℕ → Sending → Key → List Rival → Station → Option (ℕ × ℕ)
+heard_by lines u x k rs st = if is_heard lines u x k rs st then Some (st.node, u) else None
+
+-- all that hear x from node u, with that node
+abbrev pub hearers_to : Numbers → Lines → ℕ → Sending → List Station → List (ℕ × ℕ)
+hearers_to p lines u x sts = filter_map (heard_by lines u x (key_of p x) (rivals_to p x sts)) sts
 
 -- a place and a node that belong together
 pub record IsPlaced (nodes : List ℕ) (place node : ℕ) : Type 0 where

@@ -1,7 +1,8 @@
 -- What the medium keeps of each node, and how calls change it.
-use Rattle.std.specs.Prelude.{ℕ, ◌+◌, List, [], ◌∷◌, ◌++◌, Bool, true, false, ◌&&◌, ◌||◌, ◌==◌, nat_lt, nat_le, if◌then◌else◌, Option, Some, None, map, length, option_to_list}
+use Rattle.std.specs.Prelude.{◌≡◌, ℕ, ◌+◌, ◌<◌, ◌≤◌, ◌^◌, is_some, is_none, slice_index_or, Contains, All, find, List, [], ◌∷◌, ◌++◌, Bool, true, false, ◌&&◌, ◌||◌, ◌==◌, nat_lt, nat_le, if◌then◌else◌, Option, Some, None, map, length, option_to_list}
 use Rattle.circular_buffer.specs.Buffer.{Buffer, buffer, keep_last}
-use Rattle.lwb_base.specs.Profile.{Numbers, airtime}
+use Rattle.lwb_base.specs.Profile.{Numbers, airtime, IsProfile}
+use Rattle.radio_model.specs.Seal.{AreNodes}
 use Rattle.radio_model.specs.declared.sending.Sending.{Sending}
 use Rattle.radio_model.specs.declared.station.Tuned.{Tuned}
 use Rattle.radio_model.specs.declared.station.Past.{Past}
@@ -18,6 +19,53 @@ node_of st = st.node
 
 abbrev pub nodes_of : MediumState → List ℕ
 nodes_of m = map node_of m.stations
+
+abbrev pub is_of : ℕ → Station → Bool
+is_of v st = st.node == v
+
+abbrev pub station_of : MediumState → ℕ → Option Station
+station_of m v = find (is_of v) m.stations
+
+-- the node is tuned and does not send
+abbrev pub can_send : Option Station → Bool
+can_send None = false
+can_send (Some st) = is_some st.tuned && is_none st.sending
+
+abbrev pub sending_of : Option Station → Option Sending
+sending_of None = None
+sending_of (Some st) = st.sending
+
+-- no time falls, none is after the end of a sending that runs, and all are small
+pub record IsTime (m : MediumState) (t : ℕ) : Type 0 where
+  pub later : m.now ≤ t
+  pub small : t ≤ 2 ^ 46
+  pub running : (st : Station) (x : Sending) → Contains m.stations st → st.sending ≡ Some x → t ≤ x.end
+
+-- the node's sending ends at t, which is its start plus its packet's airtime
+pub record Ends (m : MediumState) (v t : ℕ) : Type 0 where
+  pub sending : Sending
+  pub runs : sending_of (station_of m v) ≡ Some sending
+  pub until : sending.end ≡ t
+  pub lasts : t ≡ sending.start + airtime m.numbers (length sending.packet)
+
+-- a node as it is at first
+abbrev pub fresh : ℕ → ℕ → Station
+fresh node place = record { node = node; place = place; tuned = None; last = None; sending = None; ended = buffer [] 13 }
+
+-- the nodes as they are at first, at places counted from here on
+abbrev pub stations_from : ℕ → List ℕ → List Station
+stations_from k [] = []
+stations_from k (v ∷ vs) = fresh v k ∷ stations_from (k + 1) vs
+
+abbrev pub first_state : Numbers → List ℕ → MediumState
+first_state p nodes = record { numbers = p; now = 0; stations = stations_from 0 nodes }
+
+-- the numbers of a profile, 1 to 64 ascending nodes at places counted from 0, and room for the last 13 sendings of each
+pub record IsMedium (m : MediumState) : Type 0 where
+  pub profile : IsProfile m.numbers
+  pub nodes : AreNodes (nodes_of m)
+  pub places : (k : ℕ) (d : Station) → k < length m.stations → (slice_index_or m.stations k d).place ≡ k
+  pub rooms : All (λ st. st.ended.capacity ≡ 13) m.stations
 
 -- what the end of a tuning at t leaves as the last one. An empty one leaves nothing
 abbrev pub last_at : Option Tuned → Option Past → ℕ → Option Past

@@ -3,9 +3,12 @@
 
 mod hearers;
 mod links;
+mod listeners;
+mod medium;
 mod rivals;
 mod sending;
 mod station;
 
 pub use hearers::Hearers;
 pub use links::Links;
+pub use medium::Medium;

@@ -144,9 +144,9 @@ pub fn rivals_of(profile: &Profile, stations: &[Station], x: &Sending) -> ArrayV
     rivals
 }
 
-// Whether the bit of that place is set.
+/// Whether the bit of that place is set.
 #[tactic(auto, using(std::proofs::lemmas::Nat::Bits::shr_and_one))]
-fn has_bit(mask: u64, place: u8) -> bool
+pub fn has_bit(mask: u64, place: u8) -> bool
     requires { place < 64 }
     ensures { result ≡ (bit_at mask place == 1) }
 {
