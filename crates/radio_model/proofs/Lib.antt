@@ -3,3 +3,8 @@ pub mod Places
 pub mod Changes
 pub mod PlacedRivals
 pub mod Ending
+pub mod Settled
+pub mod Tunings
+pub mod Members
+pub mod Scenes
+pub mod Retuned

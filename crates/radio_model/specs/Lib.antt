@@ -4,4 +4,5 @@ pub mod Hearing
 pub mod Stations
 pub mod Pairs
 pub mod Meetings
+pub mod Holding
 pub mod Seal
