@@ -21,7 +21,7 @@ three lost = record {
   sends = 2;
   nodes = node 1 ∷ node 2 ∷ node 3 ∷ [];
   rates = [];
-  trace = record { links = link 1 2 ∷ link 2 1 ∷ link 2 3 ∷ link 3 2 ∷ []; losses = lost };
+  trace = record { links = link 1 2 ∷ link 2 1 ∷ link 2 3 ∷ link 3 2 ∷ []; losses = lost; cuts = []; captures = [] };
   start = 1;
 }
 
@@ -41,6 +41,8 @@ equal_relays_at_once : outcome (record {
   trace = record {
     links = link 1 2 ∷ link 2 1 ∷ link 1 3 ∷ link 3 1 ∷ link 2 3 ∷ link 3 2 ∷ link 2 4 ∷ link 4 2 ∷ link 3 4 ∷ link 4 3 ∷ [];
     losses = [];
+    cuts = [];
+    captures = [];
   };
   start = 1;
 }) ≡ record { accepts = (2, 0) ∷ (3, 0) ∷ (4, 1) ∷ []; sent = 4 }

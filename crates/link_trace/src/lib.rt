@@ -1,10 +1,16 @@
 //! Which links pass in which step of which slot, by the lines of a recorded trace.
 #![tactic(auto)]
 
+mod captures;
+mod in_order;
 mod lines;
+mod links;
+mod masks;
+mod ranges;
 mod trace;
 
-pub use lines::{LinkLine, LoseLine};
+pub use lines::{CaptureLine, CutLine, LinkLine, LoseLine};
+pub use links::Links;
 pub use trace::Trace;
 
 #[cfg(test)]

@@ -1,58 +1,89 @@
-ghost use Rattle.std.specs.Prelude.{◌≡◌, ◌++◌, ◌∷◌, [], Contains, OnErr, Ok, true, false};
+ghost use Rattle.std.specs.Prelude.{◌≡◌, ◌<◌, length, slice_index, OnOk, OnErr, Ok, true, false};
 ghost use Rattle.std.specs.List.{list_any};
-ghost use Rattle.link_trace.specs.Passes.{is_link, is_loss};
+ghost use Rattle.link_trace.specs.Passes.{is_link, is_loss, is_cut, is_capture, cut_off};
+ghost use Rattle.link_trace.specs.Order.{Ascends, by_link, by_loss, by_cut, by_capture};
+ghost use Rattle.link_trace.specs.Order.{with_link, with_loss, with_cut, with_capture};
+ghost use Rattle.link_trace.specs.Sealed.{unsealed, no_lines};
+ghost use Rattle.link_trace.specs.Masks.{AreNodes, IsMask};
 
-use crate::{LinkLine, LoseLine};
+use crate::captures::{add_capture, captured_sender};
+use crate::in_order::{add_in_order, has_link, is_there};
+use crate::masks::{cut_mask, link_masks, lost_mask};
+use crate::ranges::{cuts_so_far, losses_of_step, names};
+use crate::{CaptureLine, CutLine, LinkLine, LoseLine};
 use lwb_base::{Memory, NodeId};
 use std::alloc::Global;
 use std::marker::Model;
 
-/// The lines of a recorded trace: the links, and where they are lost. Contracts see the lists of lines.
+/// The lines of a recorded trace: the links, where they are lost, where nodes are cut off, and which sender a node
+/// captures. Contracts see the lists of lines, each ascending, and the nodes of the seal.
 #[derive(Drop)]
 pub struct Trace {
     links: Vec<LinkLine>,
     losses: Vec<LoseLine>,
+    cuts: Vec<CutLine>,
+    captures: Vec<CaptureLine>,
+    nodes: Vec<NodeId>,
+    masks: Vec<u64>,
+    alloc: Global,
 }
 
 impl Model for Trace {
-    ghost use Rattle.link_trace.specs.Passes.{Lines};
+    ghost use Rattle.link_trace.specs.Masks.{AreKept};
+    ghost use Rattle.link_trace.specs.Sealed.{Traced};
 
-    ghost Value = { Lines };
+    ghost Value = { Traced };
 
-    ghost view = { λ t. record { links = t.links.items; losses = t.losses.items } };
+    ghost view = { λ t. record {
+      lines = record { links = t.links.items; losses = t.losses.items; cuts = t.cuts.items; captures = t.captures.items };
+      nodes = t.nodes.items;
+    } };
+
+    ghost invariant = { λ t. AreKept
+        (record { links = t.links.items; losses = t.losses.items; cuts = t.cuts.items; captures = t.captures.items })
+        t.nodes.items t.masks.items };
 }
 
 impl Trace {
-    ghost use Rattle.link_trace.specs.Passes.{passes as passes_by};
+    ghost use Rattle.link_trace.specs.Passes.{passes as passes_by, captured as captured_by};
 
-    /// A trace with no lines. It keeps the allocator and takes no memory.
+    /// A trace with no lines, which is not sealed. It keeps the allocator and takes no memory.
     pub fn new(alloc: Global) -> Trace
-        ensures { result ≡ record { links = []; losses = [] } }
+        ensures { result ≡ unsealed no_lines }
     {
         Trace {
             links: Vec::new(alloc),
             losses: Vec::new(alloc),
+            cuts: Vec::new(alloc),
+            captures: Vec::new(alloc),
+            nodes: Vec::new(alloc),
+            masks: Vec::new(alloc),
+            alloc,
         }
     }
 
-    /// Adds a link. `Ok(false)` comes exactly where it is there already, and then nothing changes.
+    /// Adds a link, which unseals the trace. `Ok(false)` comes exactly where it is there already, and then nothing
+    /// changes.
     pub fn link(&mut self, from: NodeId, to: NodeId) -> Result<bool, Memory>
-        ensures added { result ≡ Ok true → self.new ≡ record self.old { links = self.old.links ++ record { from = from; to = to } ∷ [] } }
-        ensures fresh { result ≡ Ok true → Contains self.old.links (record { from = from; to = to }) → ⊥ }
-        ensures twice { result ≡ Ok false → Contains self.old.links (record { from = from; to = to }) × (self.new ≡ self.old) }
+        ensures added { result ≡ Ok true
+            → self.new ≡ unsealed (with_link (record { from = from; to = to }) self.old.lines) }
+        ensures fresh { result ≡ Ok true → list_any (is_link from to) self.old.lines.links ≡ false }
+        ensures twice { result ≡ Ok false
+            → (list_any (is_link from to) self.old.lines.links ≡ true) × (self.new ≡ self.old) }
         ensures err { OnErr result (self.new ≡ self.old) }
     {
         let line = LinkLine { from, to };
-        if self.links.contains(&line) {
-            return Ok(false);
+        let is_new = add_in_order(&mut self.links, line)?;
+        if is_new {
+            self.nodes.clear();
+            self.masks.clear();
         }
-        match self.links.push(line) {
-            Ok(()) => Ok(true),
-            Err(_) => Err(Memory),
-        }
+        Ok(is_new)
     }
 
-    /// Loses a link in one step. `Ok(false)` comes exactly where that line is there already, and then nothing changes.
+    /// Loses a link in one step, which unseals the trace. `Ok(false)` comes exactly where that line is there
+    /// already, and then nothing changes.
+    #[tactic(auto, using(crate::proofs::Orders::tells_loss))]
     pub fn lose(
         &mut self,
         frame: u32,
@@ -61,9 +92,11 @@ impl Trace {
         from: NodeId,
         to: NodeId,
     ) -> Result<bool, Memory>
-        ensures added { result ≡ Ok true → self.new ≡ record self.old { losses = self.old.losses ++ record { frame = frame; slot = slot; step = step; from = from; to = to } ∷ [] } }
-        ensures fresh { result ≡ Ok true → Contains self.old.losses (record { frame = frame; slot = slot; step = step; from = from; to = to }) → ⊥ }
-        ensures twice { result ≡ Ok false → Contains self.old.losses (record { frame = frame; slot = slot; step = step; from = from; to = to }) × (self.new ≡ self.old) }
+        ensures added { result ≡ Ok true
+            → self.new ≡ unsealed (with_loss (record { frame = frame; slot = slot; step = step; from = from; to = to }) self.old.lines) }
+        ensures fresh { result ≡ Ok true → list_any (is_loss frame slot step from to) self.old.lines.losses ≡ false }
+        ensures twice { result ≡ Ok false
+            → (list_any (is_loss frame slot step from to) self.old.lines.losses ≡ true) × (self.new ≡ self.old) }
         ensures err { OnErr result (self.new ≡ self.old) }
     {
         let line = LoseLine {
@@ -73,33 +106,176 @@ impl Trace {
             from,
             to,
         };
-        if self.losses.contains(&line) {
-            return Ok(false);
+        let is_new = add_in_order(&mut self.losses, line)?;
+        if is_new {
+            self.nodes.clear();
+            self.masks.clear();
         }
-        match self.losses.push(line) {
-            Ok(()) => Ok(true),
-            Err(_) => Err(Memory),
-        }
+        Ok(is_new)
     }
 
-    /// Whether the pair is a link, and no line loses it in that frame, slot and step.
-    pub fn passes(&self, frame: u32, slot: u8, step: u8, from: NodeId, to: NodeId) -> bool
-        ensures { result ≡ passes_by self.now frame slot step from to }
+    /// Cuts a node off from that step on until the frame ends, which unseals the trace. `Ok(false)` comes exactly
+    /// where that line is there already, and then nothing changes.
+    pub fn cut(&mut self, frame: u32, slot: u8, step: u8, node: NodeId) -> Result<bool, Memory>
+        ensures added { result ≡ Ok true
+            → self.new ≡ unsealed (with_cut (record { frame = frame; slot = slot; step = step; node = node }) self.old.lines) }
+        ensures fresh { result ≡ Ok true → list_any (is_cut frame slot step node) self.old.lines.cuts ≡ false }
+        ensures twice { result ≡ Ok false
+            → (list_any (is_cut frame slot step node) self.old.lines.cuts ≡ true) × (self.new ≡ self.old) }
+        ensures err { OnErr result (self.new ≡ self.old) }
     {
-        has_link(&self.links, from, to) && !has_loss(&self.losses, frame, slot, step, from, to)
+        let line = CutLine {
+            frame,
+            slot,
+            step,
+            node,
+        };
+        let is_new = add_in_order(&mut self.cuts, line)?;
+        if is_new {
+            self.nodes.clear();
+            self.masks.clear();
+        }
+        Ok(is_new)
     }
-}
 
-fn has_link(links: &[LinkLine], from: NodeId, to: NodeId) -> bool
-    ensures { result ≡ list_any (is_link from to) links.now }
-{
-    links.iter().any(|l| l.from == from && l.to == to)
+    /// Names the sender that a node hears in that step where different packets meet, which unseals the trace.
+    /// `Ok(false)` comes exactly where a line of that frame, slot, step and node is there already, and then nothing
+    /// changes.
+    pub fn capture(
+        &mut self,
+        frame: u32,
+        slot: u8,
+        step: u8,
+        at: NodeId,
+        from: NodeId,
+    ) -> Result<bool, Memory>
+        ensures added { result ≡ Ok true
+            → self.new ≡ unsealed (with_capture (record { frame = frame; slot = slot; step = step; at = at; from = from }) self.old.lines) }
+        ensures fresh { result ≡ Ok true → list_any (is_capture frame slot step at) self.old.lines.captures ≡ false }
+        ensures twice { result ≡ Ok false
+            → (list_any (is_capture frame slot step at) self.old.lines.captures ≡ true) × (self.new ≡ self.old) }
+        ensures err { OnErr result (self.new ≡ self.old) }
+    {
+        let line = CaptureLine {
+            frame,
+            slot,
+            step,
+            at,
+            from,
+        };
+        let is_new = add_capture(&mut self.captures, line)?;
+        if is_new {
+            self.nodes.clear();
+            self.masks.clear();
+        }
+        Ok(is_new)
+    }
+
+    /// The sender that the capture line of that frame, slot and step at the node names. None comes exactly where there
+    /// is no such line.
+    pub fn captured(&self, frame: u32, slot: u8, step: u8, at: NodeId) -> Option<NodeId>
+        ensures { result ≡ captured_by self.now.lines frame slot step at }
+    {
+        captured_sender(&self.captures, frame, slot, step, at)
+    }
+
+    /// Whether the pair is a link, no line loses it in that frame, slot and step, and neither of its nodes is cut off
+    /// by then.
+    pub fn passes(&self, frame: u32, slot: u8, step: u8, from: NodeId, to: NodeId) -> bool
+        ensures { result ≡ passes_by self.now.lines frame slot step from to }
+    {
+        has_link(&self.links, from, to)
+            && !has_loss(&self.losses, frame, slot, step, from, to)
+            && !is_cut_off(&self.cuts, frame, slot, step, from)
+            && !is_cut_off(&self.cuts, frame, slot, step, to)
+    }
+
+    /// Seals the trace with these nodes, 1 to 64 ascending ids: it keeps, for each of them, which of them have a link
+    /// to it. The lines stay. After Memory the trace is as it was.
+    pub fn seal(&mut self, nodes: &[NodeId]) -> Result<(), Memory>
+        requires { AreNodes nodes.now }
+        ensures sealed { OnOk result (self.new ≡ record { lines = self.old.lines; nodes = nodes.now }) }
+        ensures err { OnErr result (self.new ≡ self.old) }
+    {
+        let masks = link_masks(self.alloc, &self.links, nodes)?;
+        let Ok(kept) = Vec::from_slice(self.alloc, nodes) else {
+            return Err(Memory);
+        };
+        self.nodes = kept;
+        self.masks = masks;
+        Ok(())
+    }
+
+    /// The nodes from which a link to node `at` passes in that frame, slot and step: bit i is that of node i, and bits
+    /// past the nodes are 0. Nodes are counted from 0, as the seal names them. The time that this takes grows with
+    /// the lines of the frame, and hardly with those of other frames.
+    pub fn from_mask(&self, frame: u32, slot: u8, step: u8, at: u8) -> u64
+        requires { at < length self.now.nodes }
+        ensures { IsMask (λ from. passes_by self.now.lines frame slot step from (slice_index self.now.nodes at))
+            self.now.nodes result }
+    {
+        let to = self.nodes[usize::from(at)];
+        let cuts = cuts_so_far(&self.cuts, frame, slot, step);
+        if names(cuts, to) {
+            return 0;
+        }
+        let losses = losses_of_step(&self.losses, frame, slot, step);
+        let lost = lost_mask(losses, &self.nodes, to);
+        let cut = cut_mask(cuts, &self.nodes);
+        self.masks[usize::from(at)] & !lost & !cut
+    }
+
+    /// The links, ascending by the sending node and then the receiving one.
+    pub fn links(&self) -> &[LinkLine]
+        ensures value { result.now ≡ self.now.lines.links }
+        ensures ascends { Ascends by_link self.now.lines.links }
+    {
+        &self.links
+    }
+
+    /// The lose lines, ascending by frame, slot, step, sending and receiving node.
+    pub fn losses(&self) -> &[LoseLine]
+        ensures value { result.now ≡ self.now.lines.losses }
+        ensures ascends { Ascends by_loss self.now.lines.losses }
+    {
+        &self.losses
+    }
+
+    /// The cut lines, ascending by frame, slot, step and node.
+    pub fn cuts(&self) -> &[CutLine]
+        ensures value { result.now ≡ self.now.lines.cuts }
+        ensures ascends { Ascends by_cut self.now.lines.cuts }
+    {
+        &self.cuts
+    }
+
+    /// The capture lines, ascending by frame, slot, step and receiving node.
+    pub fn captures(&self) -> &[CaptureLine]
+        ensures value { result.now ≡ self.now.lines.captures }
+        ensures ascends { Ascends by_capture self.now.lines.captures }
+    {
+        &self.captures
+    }
 }
 
 fn has_loss(losses: &[LoseLine], frame: u32, slot: u8, step: u8, from: NodeId, to: NodeId) -> bool
+    requires { Ascends by_loss losses.now }
     ensures { result ≡ list_any (is_loss frame slot step from to) losses.now }
 {
-    losses.iter().any(|l| {
-        l.frame == frame && l.slot == slot && l.step == step && l.from == from && l.to == to
-    })
+    let line = LoseLine {
+        frame,
+        slot,
+        step,
+        from,
+        to,
+    };
+    is_there(losses, &line)
+}
+
+#[tactic(auto, using(crate::proofs::Together::one_of_these))]
+fn is_cut_off(cuts: &[CutLine], frame: u32, slot: u8, step: u8, node: NodeId) -> bool
+    requires { Ascends by_cut cuts.now }
+    ensures { result ≡ cut_off cuts.now frame slot step node }
+{
+    names(cuts_so_far(cuts, frame, slot, step), node)
 }

@@ -18,6 +18,8 @@ its_parts = record {
   trace = record {
     links = record { from = 1; to = 2 } ∷ record { from = 2; to = 1 } ∷ record { from = 2; to = 3 } ∷ record { from = 3; to = 2 } ∷ [];
     losses = [];
+    cuts = [];
+    captures = [];
   };
   start = 1;
 }

@@ -2,7 +2,9 @@
 use Rattle.std.specs.Prelude.{◌≡◌, ℕ, List, [], ◌∷◌, ◌++◌, Bool, true, false, not, ◌&&◌, ◌==◌, nat_lt, nat_le, if◌then◌else◌, Some, None, is_some, is_none, length, codes, Option, option_and_then}
 use Rattle.std.specs.Fmt.{decimal}
 use Rattle.std.specs.List.{flat_map, list_all, list_any}
+use Rattle.link_trace.specs.Order.{with_link, with_loss}
 use Rattle.link_trace.specs.Passes.{Lines, is_link, is_loss}
+use Rattle.link_trace.specs.Sealed.{no_lines}
 use Rattle.scenario_text.specs.FloodParts.{FloodParts, knows}
 use Rattle.scenario_text.specs.declared.lines.NodeLine.{NodeLine}
 use Rattle.scenario_text.specs.declared.plain_line.PlainLine.{PlainLine}
@@ -29,7 +31,7 @@ pub record Drafted : Type 0 where
   pub start : Option ℕ
 
 abbrev pub nothing : Drafted
-nothing = record { sends = None; nodes = []; closed = false; trace = record { links = []; losses = [] }; start = None }
+nothing = record { sends = None; nodes = []; closed = false; trace = no_lines; start = None }
 
 -- this draft, if the line is allowed
 abbrev pub only : Bool → Drafted → Option Drafted
@@ -47,7 +49,7 @@ joins d u v = knows d.nodes u && knows d.nodes v && not (u == v)
 abbrev pub linked : Drafted → ℕ → ℕ → Option Drafted
 linked d u v =
     only (joins d u v && not (list_any (is_link u v) d.trace.links))
-    (record d { closed = true; trace = record d.trace { links = d.trace.links ++ record { from = u; to = v } ∷ [] } })
+    (record d { closed = true; trace = with_link (record { from = u; to = v }) d.trace })
 
 -- what the draft and one line more say, if the line is allowed there. A pair is both of its links. Nodes come after
 -- `sends`, and the other lines name nodes: so `sends` is the first line
@@ -60,10 +62,7 @@ next d (Link u v) = linked d u v
 next d (Pair u v) = option_and_then (λ e. linked e v u) (linked d u v)
 next d (Lose k u v) =
     only (nat_le k 11 && joins d u v && not (list_any (is_loss 5 1 k u v) d.trace.losses))
-    (record d {
-      closed = true;
-      trace = record d.trace { losses = d.trace.losses ++ record { frame = 5; slot = 1; step = k; from = u; to = v } ∷ [] };
-    })
+    (record d { closed = true; trace = with_loss (record { frame = 5; slot = 1; step = k; from = u; to = v }) d.trace })
 next d (Start i) = only (is_none d.start && knows d.nodes i) (record d { closed = true; start = Some i })
 
 -- what the draft and these lines say, if each is allowed where it stands

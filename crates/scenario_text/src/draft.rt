@@ -28,7 +28,7 @@ impl Model for Draft {
 
     ghost Value = { Drafted };
 
-    ghost view = { λ d. record { sends = d.sends; nodes = d.nodes.items; closed = d.closed; trace = d.trace; start = d.start } };
+    ghost view = { λ d. record { sends = d.sends; nodes = d.nodes.items; closed = d.closed; trace = d.trace.lines; start = d.start } };
 }
 
 impl Draft {
@@ -110,7 +110,6 @@ impl Draft {
         }
     }
 
-    #[tactic(auto, using(crate::proofs::Known::link_is_there, crate::proofs::Known::link_is_new))]
     fn add_link(&mut self, from: u64, to: u64) -> Result<bool, Memory>
         ensures added { result ≡ Ok true → linked self.old from to ≡ Some self.new }
         ensures refused { result ≡ Ok false → linked self.old from to ≡ None }
@@ -132,7 +131,6 @@ impl Draft {
         self.add_link(other_end, one_end)
     }
 
-    #[tactic(auto, using(crate::proofs::Known::loss_is_there, crate::proofs::Known::loss_is_new))]
     fn add_loss(&mut self, step: u64, from: u64, to: u64) -> Result<bool, Memory>
         ensures added { result ≡ Ok true → next self.old (Lose step from to) ≡ Some self.new }
         ensures refused { result ≡ Ok false → next self.old (Lose step from to) ≡ None }

@@ -22,9 +22,9 @@ impl Model for FloodText {
 
     ghost Value = { FloodParts };
 
-    ghost view = { λ t. record { sends = t.sends; nodes = t.nodes.items; rates = t.rates.items; trace = t.trace; start = t.start } };
+    ghost view = { λ t. record { sends = t.sends; nodes = t.nodes.items; rates = t.rates.items; trace = t.trace.lines; start = t.start } };
 
-    ghost invariant = { λ t. IsSound (record { sends = t.sends; nodes = t.nodes.items; rates = t.rates.items; trace = t.trace; start = t.start }) };
+    ghost invariant = { λ t. IsSound (record { sends = t.sends; nodes = t.nodes.items; rates = t.rates.items; trace = t.trace.lines; start = t.start }) };
 }
 
 impl FloodText {
@@ -36,8 +36,8 @@ impl FloodText {
         trace: Trace,
         start: NodeId,
     ) -> FloodText
-        requires { IsSound (record { sends = sends; nodes = nodes.items; rates = rates.items; trace = trace; start = start }) }
-        ensures { result ≡ record { sends = sends; nodes = nodes.items; rates = rates.items; trace = trace; start = start } }
+        requires { IsSound (record { sends = sends; nodes = nodes.items; rates = rates.items; trace = trace.lines; start = start }) }
+        ensures { result ≡ record { sends = sends; nodes = nodes.items; rates = rates.items; trace = trace.lines; start = start } }
     {
         FloodText {
             sends,
@@ -73,7 +73,7 @@ impl FloodText {
 
     /// The links of the nodes, and where they are lost in the slot of the flood.
     pub fn trace(&self) -> &Trace
-        ensures { result.now ≡ self.now.trace }
+        ensures { result.now.lines ≡ self.now.trace }
     {
         &self.trace
     }

@@ -1,0 +1,66 @@
+ghost use Rattle.std.specs.Prelude.{◌≡◌, ℕ, Ok, true, false, IfOk, IfErr, OnErr};
+ghost use Rattle.std.specs.List.{list_any, find};
+ghost use Rattle.std.specs.Option.{option_map};
+ghost use Rattle.link_trace.specs.Passes.{is_capture};
+ghost use Rattle.link_trace.specs.Order.{Ascends, HasPlace, IsFirst, with_line, by_capture};
+ghost use Rattle.link_trace.specs.declared.lines.CaptureLine.{CaptureLine};
+
+use crate::CaptureLine;
+use lwb_base::{Memory, NodeId};
+
+/// Adds a line where it stands by its key. `Ok(false)` comes exactly where a line of that key is there already.
+pub fn add_capture(lines: &mut Vec<CaptureLine>, line: CaptureLine) -> Result<bool, Memory>
+    requires { Ascends by_capture lines.old.items }
+    ensures added { result ≡ Ok true → lines.new.items ≡ with_line by_capture line lines.old.items }
+    ensures fresh { result ≡ Ok true
+        → list_any (is_capture line.frame line.slot line.step line.at) lines.old.items ≡ false }
+    ensures ascends { Ascends by_capture lines.new.items }
+    ensures twice { result ≡ Ok false
+        → list_any (is_capture line.frame line.slot line.step line.at) lines.old.items ≡ true }
+    ensures same { result ≡ Ok false → lines.new.items ≡ lines.old.items }
+    ensures err { OnErr result (lines.new.items ≡ lines.old.items) }
+{
+    match find_capture(lines, line.frame, line.slot, line.step, line.at) {
+        Ok(_) => Ok(false),
+        Err(place) => {
+            if lines.insert(place, line).is_err() {
+                return Err(Memory);
+            }
+            Ok(true)
+        }
+    }
+}
+
+/// The sender that the line of the key names. None comes exactly where there is no such line.
+pub fn captured_sender(
+    lines: &[CaptureLine],
+    frame: u32,
+    slot: u8,
+    step: u8,
+    at: NodeId,
+) -> Option<NodeId>
+    requires { Ascends by_capture lines.now }
+    ensures { result ≡ option_map (λ (l : CaptureLine). l.from) (find (is_capture frame slot step at) lines.now) }
+{
+    match find_capture(lines, frame, slot, step, at) {
+        Ok(place) => Some(lines[place].from),
+        Err(_) => None,
+    }
+}
+
+// Where the line of that frame, slot, step and node is, or where it would go.
+fn find_capture(
+    lines: &[CaptureLine],
+    frame: u32,
+    slot: u8,
+    step: u8,
+    at: NodeId,
+) -> Result<usize, usize>
+    requires { Ascends by_capture lines.now }
+    ensures found { IfOk result (IsFirst (is_capture frame slot step at) lines.now) }
+    ensures absent { IfErr result (λ place. (from : ℕ)
+        → HasPlace by_capture lines.now (record { frame = frame; slot = slot; step = step; at = at; from = from }) place) }
+{
+    let key = (frame, slot, step, at);
+    lines.binary_search_by_key(&key, |l| (l.frame, l.slot, l.step, l.at))
+}

@@ -1,0 +1,45 @@
+ghost use Rattle.std.specs.Prelude.{◌≡◌, Ok, true, false, OnErr};
+ghost use Rattle.std.specs.List.{list_any};
+ghost use Rattle.std.specs.Ordering.{is_eq};
+ghost use Rattle.link_trace.specs.Passes.{is_link};
+ghost use Rattle.link_trace.specs.Order.{Ascends, by_link, with_line};
+
+use crate::LinkLine;
+use lwb_base::{Memory, NodeId};
+
+/// Adds a line where it stands in the ascending lines. `Ok(false)` comes exactly where it is there already.
+pub fn add_in_order<L: Ord + Drop>(lines: &mut Vec<L>, line: L) -> Result<bool, Memory>
+    requires { Ascends L.cmp lines.old.items }
+    ensures added { result ≡ Ok true → lines.new.items ≡ with_line L.cmp line lines.old.items }
+    ensures fresh { result ≡ Ok true → list_any (λ l. is_eq (L.cmp l line)) lines.old.items ≡ false }
+    ensures ascends { Ascends L.cmp lines.new.items }
+    ensures twice { result ≡ Ok false → list_any (λ l. is_eq (L.cmp l line)) lines.old.items ≡ true }
+    ensures same { result ≡ Ok false → lines.new.items ≡ lines.old.items }
+    ensures err { OnErr result (lines.new.items ≡ lines.old.items) }
+{
+    match lines.binary_search(&line) {
+        Ok(_) => Ok(false),
+        Err(place) => {
+            if lines.insert(place, line).is_err() {
+                return Err(Memory);
+            }
+            Ok(true)
+        }
+    }
+}
+
+/// Whether the line is one of the ascending lines.
+pub fn is_there<L: Ord>(lines: &[L], line: &L) -> bool
+    requires { Ascends L.cmp lines.now }
+    ensures { result ≡ list_any (λ l. is_eq (L.cmp l line.now)) lines.now }
+{
+    lines.binary_search(line).is_ok()
+}
+
+/// Whether the pair is one of the links.
+pub fn has_link(links: &[LinkLine], from: NodeId, to: NodeId) -> bool
+    requires { Ascends by_link links.now }
+    ensures { result ≡ list_any (is_link from to) links.now }
+{
+    is_there(links, &LinkLine { from, to })
+}
