@@ -8,3 +8,7 @@ pub mod Tunings
 pub mod Members
 pub mod Scenes
 pub mod Retuned
+pub mod OneCall
+pub mod AfterTuning
+pub mod AfterStarting
+pub mod AfterEnding

@@ -4,7 +4,7 @@ use Rattle.std.proofs.lemmas.List.{take_more, take_all, length-take-le, get_or-m
 use Rattle.std.proofs.lemmas.List.Elements.{All-map}
 use Rattle.std.proofs.lemmas.Bool.{cond-true, cond-false, cond_both, cases_eq, cases_order, ne_eqb, eqb-true}
 use Rattle.lwb_base.specs.Profile.{Numbers, IsProfile}
-use Rattle.radio_model.specs.Seal.{AreNodes}
+use Rattle.link_trace.specs.Masks.{AreNodes}
 use Rattle.radio_model.specs.Stations.{MediumState, IsMedium, node_of, nodes_of, is_of, changed_at, after, fresh, stations_from, first_state}
 use Rattle.radio_model.specs.declared.station.Station.{Station}
 

@@ -61,7 +61,7 @@ order_on r t (Some q) order = by_test ((q.rank == r) && (q.until == t)) refl
       ]
     )
 
-tells_same : (P P' : ℕ → ℕ → Type 0) (tuned : Option Tuned) (last : Option Past) (now : ℕ) → ((c k : ℕ) → P c k ↔ P' c k) → Tells P tuned last now → Tells P' tuned last now
+pub tells_same : (P P' : ℕ → ℕ → Type 0) (tuned : Option Tuned) (last : Option Past) (now : ℕ) → ((c k : ℕ) → P c k ↔ P' c k) → Tells P tuned last now → Tells P' tuned last now
 tells_same P P' tuned last now same tells c s t later early = (
   λ all. (tells c s t later early).0 (λ k low high. elim (all k low high) [ inl p ↦ inl ((same c k).1 p) | inr goes ↦ inr goes ]),
   λ is k low high. elim ((tells c s t later early).1 is k low high) [ inl p ↦ inl ((same c k).0 p) | inr goes ↦ inr goes ]

@@ -2,7 +2,7 @@
 use Rattle.std.proofs.Common.{◌≡◌, ℕ, ◌<◌, ◌≤◌, ◌+◌, ◌↔◌, inl, inr, true, Some, Contains, refl, sym, ◌∙◌, ap, subst, arith}
 use Rattle.lwb_base.specs.Profile.{Numbers}
 use Rattle.link_trace.specs.Passes.{Lines, passes}
-use Rattle.radio_model.specs.Captures.{captured}
+use Rattle.link_trace.specs.Passes.{captured}
 use Rattle.radio_model.specs.OnAir.{Sending}
 use Rattle.radio_model.specs.Hearing.{Scene, Hears, Rival, Captured, Arrives, Captures, Alone, frame_of, slot_of, counter_of}
 use Rattle.radio_model.specs.Holding.{Agree}

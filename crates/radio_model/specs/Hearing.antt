@@ -3,7 +3,7 @@ use Rattle.std.specs.Prelude.{◌≡◌, ℕ, ◌+◌, ◌/◌, ◌<◌, ◌≤�
 use Rattle.lwb_base.specs.Profile.{Numbers}
 use Rattle.link_trace.specs.Passes.{Lines, passes}
 use Rattle.radio_model.specs.OnAir.{Sending, Tuning}
-use Rattle.radio_model.specs.Captures.{captured}
+use Rattle.link_trace.specs.Passes.{captured}
 
 -- all sendings and tunings, with the numbers of the profile and the lines of the trace
 pub record Scene : Type 0 where

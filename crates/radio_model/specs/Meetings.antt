@@ -4,8 +4,8 @@ use Rattle.std.specs.List.{list_any, flat_map}
 use Rattle.std.specs.Str.{bytes_eq}
 use Rattle.lwb_base.specs.Profile.{Numbers}
 use Rattle.link_trace.specs.Passes.{Lines, passes}
-use Rattle.radio_model.specs.Seal.{Traced, IsMask}
-use Rattle.radio_model.specs.Captures.{captured}
+use Rattle.link_trace.specs.Masks.{IsMask}
+use Rattle.link_trace.specs.Passes.{captured}
 use Rattle.radio_model.specs.Stations.{on_air, overlaps, covers}
 use Rattle.radio_model.specs.declared.sending.Sending.{Sending}
 use Rattle.radio_model.specs.declared.station.Station.{Station}
@@ -84,5 +84,5 @@ pub record IsPlaced (nodes : List ℕ) (place node : ℕ) : Type 0 where
   pub there : slice_index nodes place ≡ node
 
 -- the mask of the nodes from which a link to v passes at the key
-abbrev pub IsMaskOf : Traced → Key → ℕ → ℕ → Type 0
-IsMaskOf t k v mask = IsMask (λ u. passes_at t.lines k u v) t.nodes mask
+abbrev pub IsMaskOf : Lines → List ℕ → Key → ℕ → ℕ → Type 0
+IsMaskOf lines nodes k v mask = IsMask (λ u. passes_at lines k u v) nodes mask

@@ -2,7 +2,7 @@
 use Rattle.std.specs.Prelude.{◌≡◌, ℕ, ◌+◌, ◌<◌, ◌≤◌, ◌^◌, is_some, is_none, slice_index_or, Contains, All, find, List, [], ◌∷◌, ◌++◌, Bool, true, false, ◌&&◌, ◌||◌, ◌==◌, nat_lt, nat_le, if◌then◌else◌, Option, Some, None, map, length, option_to_list}
 use Rattle.circular_buffer.specs.Buffer.{Buffer, buffer, keep_last}
 use Rattle.lwb_base.specs.Profile.{Numbers, airtime, IsProfile}
-use Rattle.radio_model.specs.Seal.{AreNodes}
+use Rattle.link_trace.specs.Masks.{AreNodes}
 use Rattle.radio_model.specs.declared.sending.Sending.{Sending}
 use Rattle.radio_model.specs.declared.station.Tuned.{Tuned}
 use Rattle.radio_model.specs.declared.station.Past.{Past}

@@ -2,7 +2,6 @@
 #![tactic(auto)]
 
 mod hearers;
-mod links;
 mod listeners;
 mod medium;
 mod rivals;
@@ -10,5 +9,4 @@ mod sending;
 mod station;
 
 pub use hearers::Hearers;
-pub use links::Links;
 pub use medium::Medium;

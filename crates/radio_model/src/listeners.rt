@@ -3,7 +3,7 @@ ghost use Rattle.radio_model.specs.Stations.{node_of};
 ghost use Rattle.radio_model.specs.Meetings.{key_of, is_heard, hearers_to, IsPlaced, rivals_to};
 
 use crate::hearers::Hearers;
-use crate::links::Links;
+use link_trace::Links;
 use crate::rivals::{Crowd, Key, Rival, crowd_at, has_bit, is_chosen, mask_of, rivals_of};
 use crate::sending::Sending;
 use crate::station::Station;
@@ -21,11 +21,11 @@ pub fn listeners<M: Links>(
     requires end { x.now.end ≤ 2 ^ 46 }
     requires few { length stations.now ≤ 64 }
     requires kept { All (λ st. st.ended.capacity ≡ 13) stations.now }
-    requires seal { (M.traced links.now).nodes ≡ map node_of stations.now }
-    requires places { All (λ st. IsPlaced (M.traced links.now).nodes st.place st.node) stations.now }
-    requires rivals { All (λ r. IsPlaced (M.traced links.now).nodes r.place r.node) (rivals_to profile.now x.now stations.now) }
-    requires from { IsPlaced (M.traced links.now).nodes from.now.place from.now.node }
-    ensures { result ≡ hearers_to profile.now (M.traced links.now).lines from.now.node x.now stations.now }
+    requires seal { (M.nodes links.now) ≡ map node_of stations.now }
+    requires places { All (λ st. IsPlaced (M.nodes links.now) st.place st.node) stations.now }
+    requires rivals { All (λ r. IsPlaced (M.nodes links.now) r.place r.node) (rivals_to profile.now x.now stations.now) }
+    requires from { IsPlaced (M.nodes links.now) from.now.place from.now.node }
+    ensures { result ≡ hearers_to profile.now (M.lines links.now) from.now.node x.now stations.now }
 {
     let rivals = rivals_of(profile, stations, x);
     let key = Key::of(profile, x);
@@ -47,11 +47,11 @@ fn hears<M: Links>(
     x: &Sending,
     key: Key,
 ) -> bool
-    requires few { length (M.traced links.now).nodes ≤ 64 }
-    requires rivals { All (λ r. IsPlaced (M.traced links.now).nodes r.place r.node) rivals.now }
-    requires at { IsPlaced (M.traced links.now).nodes at.now.place at.now.node }
-    requires from { IsPlaced (M.traced links.now).nodes from.now.place from.now.node }
-    ensures { result ≡ is_heard (M.traced links.now).lines from.now.node x.now key rivals.now at.now }
+    requires few { length (M.nodes links.now) ≤ 64 }
+    requires rivals { All (λ r. IsPlaced (M.nodes links.now) r.place r.node) rivals.now }
+    requires at { IsPlaced (M.nodes links.now) at.now.place at.now.node }
+    requires from { IsPlaced (M.nodes links.now) from.now.place from.now.node }
+    ensures { result ≡ is_heard (M.lines links.now) from.now.node x.now key rivals.now at.now }
 {
     if !at.was_tuned(x.rank, x.start, x.end) || !at.is_quiet(x) {
         return false;

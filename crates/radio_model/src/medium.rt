@@ -1,14 +1,14 @@
 ghost use Rattle.std.specs.Prelude.{◌≡◌, ◌≤◌, ◌<◌, ◌^◌, ◌∷◌, [], ℕ, IfOk, IfSome, IsSomeAnd, All, Contains, length, map, slice_index, slice_index_or, Some};
 ghost use Rattle.std.specs.List.{HoldsAt};
 ghost use Rattle.lwb_base.specs.Profile.{Numbers};
-ghost use Rattle.radio_model.specs.Seal.{AreNodes};
+ghost use Rattle.link_trace.specs.Masks.{AreNodes};
 ghost use Rattle.radio_model.specs.Stations.{MediumState, node_of, nodes_of, station_of, can_send, sending_of, retuned, started, finished, after, first_state, stations_from, IsTime, Ends};
 ghost use Rattle.radio_model.specs.Meetings.{hearers_to, IsPlaced};
 ghost use Rattle.radio_model.specs.declared.sending.Sending.{Sending};
 ghost use Rattle.radio_model.specs.declared.station.Station.{Station};
 
 use crate::hearers::Hearers;
-use crate::links::Links;
+use link_trace::Links;
 use crate::listeners::listeners;
 use crate::station::Station;
 use lwb_base::{Memory, NodeId, Packet, Profile, Rank};
@@ -85,9 +85,9 @@ impl Medium {
         requires node { Contains (nodes_of self.old) node }
         requires time { IsTime self.old t }
         requires sends { Ends self.old node t }
-        requires seal { (M.traced links.now).nodes ≡ nodes_of self.old }
+        requires seal { (M.nodes links.now) ≡ nodes_of self.old }
         ensures state { self.new ≡ after t node finished self.old }
-        ensures hearers { IfSome (sending_of (station_of self.old node)) (λ x. result ≡ hearers_to self.old.numbers (M.traced links.now).lines node x self.old.stations) }
+        ensures hearers { IfSome (sending_of (station_of self.old node)) (λ x. result ≡ hearers_to self.old.numbers (M.lines links.now) node x self.old.stations) }
     {
         let place = place_of(&self.stations, node);
         let hearers = listeners_at(links, &self.profile, &self.stations, place);
@@ -109,9 +109,9 @@ fn listeners_at<M: Links>(
     requires sends { (d : Station) → IsSomeAnd (slice_index_or stations.now place d).sending (λ x. (x.start ≤ 2 ^ 46) × (x.end ≤ 2 ^ 46)) }
     requires few { length stations.now ≤ 64 }
     requires kept { All (λ st. st.ended.capacity ≡ 13) stations.now }
-    requires seal { (M.traced links.now).nodes ≡ map node_of stations.now }
-    requires places { All (λ st. IsPlaced (M.traced links.now).nodes st.place st.node) stations.now }
-    ensures { (d : Station) → IfSome (slice_index_or stations.now place d).sending (λ x. result ≡ hearers_to profile.now (M.traced links.now).lines (slice_index_or stations.now place d).node x stations.now) }
+    requires seal { (M.nodes links.now) ≡ map node_of stations.now }
+    requires places { All (λ st. IsPlaced (M.nodes links.now) st.place st.node) stations.now }
+    ensures { (d : Station) → IfSome (slice_index_or stations.now place d).sending (λ x. result ≡ hearers_to profile.now (M.lines links.now) (slice_index_or stations.now place d).node x stations.now) }
 {
     let from = &stations[place];
     match &from.sending {

@@ -1,12 +1,12 @@
 ghost use Rattle.std.specs.Prelude.{◌≡◌, ◌≤◌, ◌+◌, ◌/◌, ◌<◌, ◌^◌, ◌++◌, [], List, length, option_to_list, All, slice_index_or, ◌==◌};
 ghost use Rattle.std.specs.List.{list_any};
 ghost use Rattle.std.specs.Int.{bit_at};
-ghost use Rattle.radio_model.specs.Captures.{captured};
+ghost use Rattle.link_trace.specs.Passes.{captured};
 ghost use Rattle.arrayvec.specs.ArrayVec.{array_vec_len};
 ghost use Rattle.radio_model.specs.Stations.{on_air, overlaps};
 ghost use Rattle.radio_model.specs.Meetings.{key_of, rival_to as rival_by, rivals_in, rivals_to, reaches, spoils, differs, comes_from, crowd_of, is_chosen as chosen_by, passes_at, IsPlaced, IsMaskOf};
 
-use crate::links::Links;
+use link_trace::Links;
 use crate::sending::Sending;
 use crate::station::{Station, overlap};
 use arrayvec::ArrayVec;
@@ -155,11 +155,11 @@ pub fn has_bit(mask: u64, place: u8) -> bool
 
 // Whether the rival comes to the node at that place. The mask is that of the key.
 fn comes<M: Links>(links: &M, rival: &Rival, at: &Station, key: Key, mask: u64) -> bool
-    requires few { length (M.traced links.now).nodes ≤ 64 }
-    requires rival { IsPlaced (M.traced links.now).nodes rival.now.place rival.now.node }
-    requires at { IsPlaced (M.traced links.now).nodes at.now.place at.now.node }
-    requires mask { IsMaskOf (M.traced links.now) key at.now.node mask }
-    ensures { result ≡ reaches (M.traced links.now).lines at.now.node rival.now }
+    requires few { length (M.nodes links.now) ≤ 64 }
+    requires rival { IsPlaced (M.nodes links.now) rival.now.place rival.now.node }
+    requires at { IsPlaced (M.nodes links.now) at.now.place at.now.node }
+    requires mask { IsMaskOf (M.lines links.now) (M.nodes links.now) key at.now.node mask }
+    ensures { result ≡ reaches (M.lines links.now) at.now.node rival.now }
 {
     let mask = if rival.key == key {
         mask
@@ -171,8 +171,8 @@ fn comes<M: Links>(links: &M, rival: &Rival, at: &Station, key: Key, mask: u64) 
 
 /// The nodes from which a link to the node passes at the key, each by the bit of its place.
 pub fn mask_of<M: Links>(links: &M, key: Key, at: &Station) -> u64
-    requires at { IsPlaced (M.traced links.now).nodes at.now.place at.now.node }
-    ensures { IsMaskOf (M.traced links.now) key at.now.node result }
+    requires at { IsPlaced (M.nodes links.now) at.now.place at.now.node }
+    ensures { IsMaskOf (M.lines links.now) (M.nodes links.now) key at.now.node result }
 {
     links.from_mask(key.frame, key.slot, key.counter, at.place)
 }
@@ -185,11 +185,11 @@ pub fn crowd_at<M: Links>(
     key: Key,
     mask: u64,
 ) -> Crowd
-    requires few { length (M.traced links.now).nodes ≤ 64 }
-    requires rivals { All (λ r. IsPlaced (M.traced links.now).nodes r.place r.node) rivals.now }
-    requires at { IsPlaced (M.traced links.now).nodes at.now.place at.now.node }
-    requires mask { IsMaskOf (M.traced links.now) key at.now.node mask }
-    ensures { result ≡ crowd_of (M.traced links.now).lines at.now.node rivals.now }
+    requires few { length (M.nodes links.now) ≤ 64 }
+    requires rivals { All (λ r. IsPlaced (M.nodes links.now) r.place r.node) rivals.now }
+    requires at { IsPlaced (M.nodes links.now) at.now.place at.now.node }
+    requires mask { IsMaskOf (M.lines links.now) (M.nodes links.now) key at.now.node mask }
+    ensures { result ≡ crowd_of (M.lines links.now) at.now.node rivals.now }
 {
     let mut mixed = false;
     for rival in rivals {
@@ -211,11 +211,11 @@ pub fn is_chosen<M: Links>(
     key: Key,
     mask: u64,
 ) -> bool
-    requires few { length (M.traced links.now).nodes ≤ 64 }
-    requires rivals { All (λ r. IsPlaced (M.traced links.now).nodes r.place r.node) rivals.now }
-    requires at { IsPlaced (M.traced links.now).nodes at.now.place at.now.node }
-    requires mask { IsMaskOf (M.traced links.now) key at.now.node mask }
-    ensures { result ≡ chosen_by (M.traced links.now).lines at.now.node rivals.now (captured (M.traced links.now).lines key.frame key.slot key.counter at.now.node) }
+    requires few { length (M.nodes links.now) ≤ 64 }
+    requires rivals { All (λ r. IsPlaced (M.nodes links.now) r.place r.node) rivals.now }
+    requires at { IsPlaced (M.nodes links.now) at.now.place at.now.node }
+    requires mask { IsMaskOf (M.lines links.now) (M.nodes links.now) key at.now.node mask }
+    ensures { result ≡ chosen_by (M.lines links.now) at.now.node rivals.now (captured (M.lines links.now) key.frame key.slot key.counter at.now.node) }
 {
     let Some(named) = links.captured(key.frame, key.slot, key.counter, at.node) else {
         return false;

@@ -8,7 +8,7 @@ use Rattle.radio_model.proofs.listeners.listeners.Goals.{then-hears, else-hears}
 
 pub loop-at-preserved : goal.loop-at-preserved
 loop-at-preserved g c =
-    let lines = (g.M.Links.traced c.args.links.now).lines in
+    let lines = (g.M.Links.lines c.args.links.now) in
     let x = c.args.x.now in
     let u = c.args.from.now.node in
     let sts = c.args.stations.now in

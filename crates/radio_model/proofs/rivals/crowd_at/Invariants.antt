@@ -5,6 +5,6 @@ use Rattle.radio_model.proofs.rivals.crowd_at.Given as goal
 
 abbrev pub invariant-loop-rival : goal.invariant-loop-rival
 invariant-loop-rival g l = record {
-  clean : list_any (spoils (g.M.Links.traced l.links).lines l.at.node) (take l.rival-index l.rivals) ≡ false;
-  mixed : l.mixed ≡ list_any (differs (g.M.Links.traced l.links).lines l.at.node) (take l.rival-index l.rivals);
+  clean : list_any (spoils (g.M.Links.lines l.links) l.at.node) (take l.rival-index l.rivals) ≡ false;
+  mixed : l.mixed ≡ list_any (differs (g.M.Links.lines l.links) l.at.node) (take l.rival-index l.rivals);
 }

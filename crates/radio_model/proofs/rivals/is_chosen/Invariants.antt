@@ -4,4 +4,4 @@ use Rattle.radio_model.specs.Meetings.{comes_from}
 use Rattle.radio_model.proofs.rivals.is_chosen.Given as goal
 
 abbrev pub invariant-loop-rival : goal.invariant-loop-rival
-invariant-loop-rival g l = list_any (comes_from (g.M.Links.traced l.links).lines l.at.node l.named) (take l.rival-index l.rivals) ≡ false
+invariant-loop-rival g l = list_any (comes_from (g.M.Links.lines l.links) l.at.node l.named) (take l.rival-index l.rivals) ≡ false

@@ -38,7 +38,7 @@ returns-clause-hearers g c =
     let m : MediumState = record { numbers = c.self.inside.profile; now = c.self.inside.now; stations = c.self.inside.stations.items } in
     let i = c.place_of-place.result in
     let old = c.index_mut-station.result.now in
-    let lines = (g.M.Links.traced c.args.links.now).lines in
+    let lines = (g.M.Links.lines c.args.links.now) in
     let heard = c.listeners_at-hearers.result in
     let at = placed m.stations c.deref.result.now i c.args.node old c.deref.ensures.value c.place_of-place.ensures.below c.place_of-place.ensures.there c.index_mut-station.ensures.value in
     let node : (get_or m.stations i old).node ≡ c.args.node = ap node_of (sym c.index_mut-station.ensures.value) ∙ at.1 in
