@@ -13,9 +13,9 @@ use Rattle.glossy_relay.specs.declared.flood.Reply.TheVariants.{Relay}
 use Rattle.scenario_text.specs.FloodParts.{knows}
 use Rattle.air_log.specs.declared.entry.Entry.{Entry}
 use Rattle.air_log.specs.declared.entry.Entry.TheVariants.{Sent, Heard as HeardOf, Tuned}
-use Rattle.air_log.specs.OnAir.{Sending, Hearing, Tuning}
+use Rattle.radio_model.specs.OnAir.{Sending, Hearing, Tuning}
 use Rattle.air_log.specs.Entries.{sendings_of, hearings_of, tunings_of, node_of}
-use Rattle.air_log.specs.Hearing.{Scene, Meets, Rival, Before, Hears}
+use Rattle.radio_model.specs.Hearing.{Scene, Meets, Rival, Before, Hears}
 use Rattle.air_log.specs.HearsAir.{scene_of}
 use Rattle.air_log.specs.NodeEvents.{Event, Heard, Ended, sending_of, InOrder, after, Occasion}
 use Rattle.air_log.specs.FloodLaw.{FloodLaw, AreEventsOf, IsRelay, Lasts, START, first_packet, first_flood, tuning_by, sending_at}

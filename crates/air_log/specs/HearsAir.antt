@@ -3,9 +3,9 @@ use Rattle.std.specs.Prelude.{ℕ, List}
 use Rattle.lwb_base.specs.Profile.{Numbers}
 use Rattle.link_trace.specs.Passes.{Lines}
 use Rattle.air_log.specs.declared.entry.Entry.{Entry}
-use Rattle.air_log.specs.OnAir.{Sending}
+use Rattle.radio_model.specs.OnAir.{Sending}
 use Rattle.air_log.specs.Entries.{sendings_of, tunings_of}
-use Rattle.air_log.specs.Hearing.{Scene, Hears}
+use Rattle.radio_model.specs.Hearing.{Scene, Hears}
 
 -- the scene of a log
 abbrev pub scene_of : Numbers → Lines → List Entry → Scene

@@ -1,5 +1,3 @@
-pub mod OnAir
-pub mod Hearing
 pub mod Entries
 pub mod HearsAir
 pub mod NodeEvents

@@ -4,8 +4,8 @@ use Rattle.std.specs.Prelude.{Contains, ◌⊎◌, ◌≢◌}
 use Rattle.std.proofs.lemmas.Bool.{cases_order, cases_lt, or_cases, eqb-true, false≢true}
 use Rattle.glossy_relay.specs.FloodState.{FloodState}
 use Rattle.bus_model.specs.Flooding.{has}
-use Rattle.air_log.specs.OnAir.{Sending}
-use Rattle.air_log.specs.Hearing.{Before}
+use Rattle.radio_model.specs.OnAir.{Sending}
+use Rattle.radio_model.specs.Hearing.{Before}
 use Rattle.air_log.specs.NodeEvents.{Event, sending_of, after, after_all, Occasion, occasions}
 use Rattle.air_log.specs.NodeEvents.{InOrder}
 use Rattle.air_log.proofs.Elements.{not_in_none, contains_head, contains_tail, contains_cases, pairs_head, pairs_tail}

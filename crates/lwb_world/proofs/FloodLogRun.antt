@@ -13,10 +13,10 @@ use Rattle.glossy_relay.specs.FloodState.{FloodState, listening, initiating}
 use Rattle.glossy_relay.specs.Relaying.{slot_of, counter_of}
 use Rattle.scenario_text.specs.FloodParts.{FloodParts, knows}
 use Rattle.air_log.specs.declared.entry.Entry.{Entry}
-use Rattle.air_log.specs.OnAir.{Sending, Tuning}
+use Rattle.radio_model.specs.OnAir.{Sending, Tuning}
 use Rattle.air_log.specs.Entries.{sendings_of, tunings_of}
 use Rattle.air_log.specs.HearsAir.{scene_of}
-use Rattle.air_log.specs.Hearing.{Scene, key_of, TunedThrough}
+use Rattle.radio_model.specs.Hearing.{Scene, frame_of, TunedThrough}
 use Rattle.air_log.specs.NodeEvents.{Heard, occasions}
 use Rattle.air_log.specs.FloodLaw.{FloodLaw, IsRelay, OPENING, START, CLOSING, first_packet, first_flood, tuning_by, sending_at as lasting_at}
 use Rattle.lwb_world.specs.FloodRun.{Run, FloodRun, HasTimes, initiates, takes_part, counter, sending_at, begins, Relayed, TurnsAround}
@@ -126,7 +126,7 @@ module _ (f : FloodParts) (clocks : ℕ → ℕ → ℕ) (air : List Entry) (is 
   }
 
   -- all sendings are of frame 5 and slot 1
-  pub frame_is : (x : Sending) → Contains (sendings_of air) x → (key_of one x).frame ≡ 5
+  pub frame_is : (x : Sending) → Contains (sendings_of air) x → frame_of one x ≡ 5
   frame_is x sent =
       let t = timed r log_times x sent in
       let few = t.few in
@@ -137,10 +137,10 @@ module _ (f : FloodParts) (clocks : ℕ → ℕ → ℕ) (air : List Entry) (is 
   slot_is x sent = let t = timed r log_times x sent in ap slot_of t.packet ∙ slot_set (first_packet f.start) (counter x)
 
   -- so a link passes at the key of a sending where it does in the step of its counter
-  arrives_at : (v : ℕ) (x : Sending) → Contains (sendings_of air) x → passes f.trace (key_of one x).frame (slot_of x.packet) (counter x) x.node v ≡ r.setting.passes (counter x) x.node v
+  arrives_at : (v : ℕ) (x : Sending) → Contains (sendings_of air) x → passes f.trace (frame_of one x) (slot_of x.packet) (counter x) x.node v ≡ r.setting.passes (counter x) x.node v
   arrives_at v x sent = ap (λ (i : ℕ). passes f.trace i (slot_of x.packet) (counter x) x.node v) (frame_is x sent) ∙ ap (λ (i : ℕ). passes f.trace 5 i (counter x) x.node v) (slot_is x sent)
 
-  captured_at : (v : ℕ) (x : Sending) → Contains (sendings_of air) x → captured f.trace (key_of one x).frame (slot_of x.packet) (counter x) v ≡ r.setting.captured (counter x) v
+  captured_at : (v : ℕ) (x : Sending) → Contains (sendings_of air) x → captured f.trace (frame_of one x) (slot_of x.packet) (counter x) v ≡ r.setting.captured (counter x) v
   captured_at v x sent = ap (λ (i : ℕ). captured f.trace i (slot_of x.packet) (counter x) v) (frame_is x sent) ∙ ap (λ (i : ℕ). captured f.trace 5 i (counter x) v) (slot_is x sent)
 
   log_part : IsPart scene r

@@ -7,10 +7,10 @@ use Rattle.glossy_relay.specs.FloodState.{FloodState}
 use Rattle.lwb_packets.specs.Body.{body}
 use Rattle.glossy_relay.specs.Relaying.{is_spelling}
 use Rattle.tick_clock.specs.Clocks.{Near}
-use Rattle.air_log.specs.OnAir.{Sending}
+use Rattle.radio_model.specs.OnAir.{Sending}
 use Rattle.air_log.specs.NodeEvents.{Event, Heard, Ended, sending_of, after, Occasion, occasions}
 use Rattle.lwb_world.specs.FloodRun.{counter}
-use Rattle.air_log.specs.Hearing.{Meets}
+use Rattle.radio_model.specs.Hearing.{Meets}
 use Rattle.lwb_world.specs.FloodRun.{Run, HasTimes, initiates, takes_part, packet, begins, InTime}
 use Rattle.air_log.proofs.Elements.{not_in_none, contains_head, contains_tail, contains_cases}
 use Rattle.lwb_world.proofs.Packets.{counter_set, body_set, set_same, long_spelling, fitting_long, relayed_parts}

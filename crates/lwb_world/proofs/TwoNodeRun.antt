@@ -5,8 +5,8 @@ use Rattle.std.proofs.lemmas.Bool.{or_cases, eqb-true, false≢true}
 use Rattle.lwb_packets.specs.DataPackets.{is_data}
 use Rattle.glossy_relay.specs.Relaying.{reply_to}
 use Rattle.glossy_relay.specs.declared.flood.Reply.TheVariants.{Relay}
-use Rattle.air_log.specs.OnAir.{Sending, Hearing}
-use Rattle.air_log.specs.Hearing.{Before}
+use Rattle.radio_model.specs.OnAir.{Sending, Hearing}
+use Rattle.radio_model.specs.Hearing.{Before}
 use Rattle.air_log.specs.NodeEvents.{Event, Heard, Ended, sending_of, after_all, Occasion}
 use Rattle.air_log.specs.NodeEvents.{InOrder}
 use Rattle.lwb_world.specs.FloodRun.{counter, sending_at, FloodRun, initiates, takes_part, begins, Rival, Silent, HearsIn, Relayed, TunedByCount}

@@ -1,8 +1,8 @@
 -- A run as a part of all that is on the air.
 use Rattle.std.specs.Prelude.{◌≡◌, ℕ, Contains}
 use Rattle.link_trace.specs.Passes.{passes, captured}
-use Rattle.air_log.specs.OnAir.{Sending}
-use Rattle.air_log.specs.Hearing.{Scene, key_of, Meets}
+use Rattle.radio_model.specs.OnAir.{Sending}
+use Rattle.radio_model.specs.Hearing.{Scene, frame_of, slot_of, counter_of, Meets}
 use Rattle.lwb_world.specs.FloodRun.{Run, takes_part, counter}
 
 -- the run's sendings are on its channel, and nothing else that matters for them is on the air with one of them: neither
@@ -15,6 +15,6 @@ pub record IsPart (a : Scene) (r : Run) : Type 0 where
   pub own : (x y : Sending) → Contains r.sendings x → Contains a.sendings y → takes_part r y.node → Meets x y
       → Contains r.sendings y
   pub passes_by : (v : ℕ) (x : Sending) → Contains r.sendings x
-      → (let k = key_of a.numbers x in passes a.lines k.frame k.slot k.counter x.node v) ≡ r.setting.passes (counter x) x.node v
+      → passes a.lines (frame_of a.numbers x) (slot_of x) (counter_of x) x.node v ≡ r.setting.passes (counter x) x.node v
   pub captured_by : (v : ℕ) (x : Sending) → Contains r.sendings x
-      → (let k = key_of a.numbers x in captured a.lines k.frame k.slot k.counter v) ≡ r.setting.captured (counter x) v
+      → captured a.lines (frame_of a.numbers x) (slot_of x) (counter_of x) v ≡ r.setting.captured (counter x) v

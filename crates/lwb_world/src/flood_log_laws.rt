@@ -3,15 +3,14 @@
 ghost use Rattle.std.specs.Prelude.{◌≡◌, ◌≢◌, ℕ, suc, ◌≤◌, ◌↔◌, List, Contains, length, Some, true};
 ghost use Rattle.std.specs.declared.option.Option.{Option};
 ghost use Rattle.lwb_base.specs.Profile.{one};
-ghost use Rattle.glossy_relay.specs.Relaying.{counter_of};
 ghost use Rattle.scenario_text.specs.FloodParts.{FloodParts, knows};
 ghost use Rattle.bus_model.specs.Flooding.{Sends, Hears};
 ghost use Rattle.bus_model.specs.FloodOfText.{setting, ids, outcome};
 ghost use Rattle.bus_model.specs.RelayPaths.{IsLeast};
 ghost use Rattle.air_log.specs.declared.entry.Entry.{Entry};
-ghost use Rattle.air_log.specs.OnAir.{Sending};
+ghost use Rattle.radio_model.specs.OnAir.{Sending};
 ghost use Rattle.air_log.specs.Entries.{sendings_of};
-ghost use Rattle.air_log.specs.Hearing.{key_of};
+ghost use Rattle.radio_model.specs.Hearing.{frame_of, slot_of, counter_of};
 ghost use Rattle.air_log.specs.FloodLaw.{FloodLaw};
 ghost use Rattle.lwb_world.specs.FloodBySteps.{IsFloodBySteps};
 ghost use Rattle.lwb_world.specs.FloodLog.{HasClocks, run_of, HasSent, HasHeard, HeardFirst, IsAcceptance, accepting};
@@ -28,7 +27,7 @@ pub fn flood_logs_are_floods_by_steps()
         → FloodLaw f clocks air → (v k : ℕ) → knows f.nodes v ≡ true → HasHeard air v k ↔ Hears (setting f) v k f.start }
     ensures keys { (f : FloodParts) (clocks : ℕ → ℕ → ℕ) (air : List Entry) → HasClocks f clocks
         → FloodLaw f clocks air → (x : Sending) → Contains (sendings_of air) x
-        → ((key_of one x).frame ≡ 5) × ((key_of one x).slot ≡ 1) × (counter_of x.packet ≤ 11) }
+        → (frame_of one x ≡ 5) × (slot_of x ≡ 1) × (counter_of x ≤ 11) }
 {}
 
 /// What is read off such a log is the outcome of the flood: the nodes that accept with the counters of their first

@@ -1,13 +1,7 @@
 -- What is on the air: sendings, who hears them, and tunings.
 use Rattle.std.specs.Prelude.{ℕ, List}
-
 -- on the channel of a rank a node sends a packet, from its start to its end
-pub record Sending : Type 0 where
-  pub rank : ℕ
-  pub node : ℕ
-  pub start : ℕ
-  pub end : ℕ
-  pub packet : List ℕ
+pub use Rattle.radio_model.specs.declared.sending.Sending.{Sending}
 
 -- a node hears a sending
 pub record Hearing : Type 0 where

@@ -1,8 +1,9 @@
 -- Who hears what. An interval of time contains its start and not its end.
-use Rattle.std.specs.Prelude.{◌≡◌, ℕ, ◌+◌, ◌/◌, ◌<◌, ◌≤◌, ◌⊎◌, List, Contains, slice_index, true, Some}
+use Rattle.std.specs.Prelude.{◌≡◌, ℕ, ◌+◌, ◌/◌, ◌<◌, ◌≤◌, ◌⊎◌, List, Contains, true, Some, slice_index}
 use Rattle.lwb_base.specs.Profile.{Numbers}
-use Rattle.link_trace.specs.Passes.{Lines, passes, captured}
-use Rattle.air_log.specs.OnAir.{Sending, Tuning}
+use Rattle.link_trace.specs.Passes.{Lines, passes}
+use Rattle.radio_model.specs.OnAir.{Sending, Tuning}
+use Rattle.link_trace.specs.Passes.{captured}
 
 -- all sendings and tunings, with the numbers of the profile and the lines of the trace
 pub record Scene : Type 0 where
@@ -11,22 +12,23 @@ pub record Scene : Type 0 where
   pub sendings : List Sending
   pub tunings : List Tuning
 
--- the key of a sending: the frame of its start, and the slot and counter bytes of its packet
-pub record Key : Type 0 where
-  pub frame : ℕ
-  pub slot : ℕ
-  pub counter : ℕ
+-- the key of a sending: the frame of its start, and the slot and counter of its packet
+abbrev pub frame_of : Numbers → Sending → ℕ
+frame_of p x = x.start / p.frame
 
-abbrev pub key_of : Numbers → Sending → Key
-key_of p x = record { frame = x.start / p.frame; slot = slice_index x.packet 1; counter = slice_index x.packet 2 }
+abbrev pub slot_of : Sending → ℕ
+slot_of x = slice_index x.packet 1
 
--- the link to v passes at the key of x
+abbrev pub counter_of : Sending → ℕ
+counter_of x = slice_index x.packet 2
+
+-- the link to v passes at the key
 abbrev pub Arrives : Scene → ℕ → Sending → Type 0
-Arrives a v x = let k = key_of a.numbers x in passes a.lines k.frame k.slot k.counter x.node v ≡ true
+Arrives a v x = passes a.lines (frame_of a.numbers x) (slot_of x) (counter_of x) x.node v ≡ true
 
--- the capture line at v for the key of x names this sender
+-- the capture line at v for the key names this sender
 abbrev pub Captures : Scene → ℕ → Sending → ℕ → Type 0
-Captures a v x u = let k = key_of a.numbers x in captured a.lines k.frame k.slot k.counter v ≡ Some u
+Captures a v x u = captured a.lines (frame_of a.numbers x) (slot_of x) (counter_of x) v ≡ Some u
 
 -- both are on the air at some tick
 pub record Meets (x y : Sending) : Type 0 where

@@ -1,0 +1,14 @@
+pub mod RivalLists
+pub mod Places
+pub mod Changes
+pub mod PlacedRivals
+pub mod Ending
+pub mod Settled
+pub mod Tunings
+pub mod Members
+pub mod Scenes
+pub mod Retuned
+pub mod OneCall
+pub mod AfterTuning
+pub mod AfterStarting
+pub mod AfterEnding

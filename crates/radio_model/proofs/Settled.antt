@@ -1,0 +1,53 @@
+-- Who hears a sending is settled when it ends.
+use Rattle.std.proofs.Common.{◌≡◌, ℕ, ◌<◌, ◌≤◌, ◌+◌, ◌↔◌, inl, inr, true, Some, Contains, refl, sym, ◌∙◌, ap, subst, arith}
+use Rattle.lwb_base.specs.Profile.{Numbers}
+use Rattle.link_trace.specs.Passes.{Lines, passes}
+use Rattle.link_trace.specs.Passes.{captured}
+use Rattle.radio_model.specs.OnAir.{Sending}
+use Rattle.radio_model.specs.Hearing.{Scene, Hears, Rival, Captured, Arrives, Captures, Alone, frame_of, slot_of, counter_of}
+use Rattle.radio_model.specs.Holding.{Agree}
+
+agree_back : (t : ℕ) (a b : Scene) → Agree t a b → Agree t b a
+agree_back t a b s = record {
+  numbers = sym s.numbers;
+  lines = sym s.lines;
+  sendings = λ y early. ((s.sendings y early).1, (s.sendings y early).0);
+  tuned = λ v channel k early. ((s.tuned v channel k early).1, (s.tuned v channel k early).0);
+}
+
+arrives_on : (t : ℕ) (a b : Scene) (v : ℕ) (y : Sending) → Agree t a b → Arrives a v y → Arrives b v y
+arrives_on t a b v y s is =
+    ap (λ (l : Lines). passes l (frame_of b.numbers y) (slot_of y) (counter_of y) y.node v) (sym s.lines)
+    ∙ ap (λ (p : Numbers). passes a.lines (frame_of p y) (slot_of y) (counter_of y) y.node v) (sym s.numbers) ∙ is
+
+captures_on : (t : ℕ) (a b : Scene) (v : ℕ) (x : Sending) (u : ℕ) → Agree t a b → Captures a v x u → Captures b v x u
+captures_on t a b v x u s is =
+    ap (λ (l : Lines). captured l (frame_of b.numbers x) (slot_of x) (counter_of x) v) (sym s.lines)
+    ∙ ap (λ (p : Numbers). captured a.lines (frame_of p x) (slot_of x) (counter_of x) v) (sym s.numbers) ∙ is
+
+rival_on : (a b : Scene) (v : ℕ) (x y : Sending) → Agree x.end a b → Rival a v x y → Rival b v x y
+rival_on a b v x y s r = record {
+  sent = (s.sendings y r.meets.after).0 r.sent;
+  channel = r.channel;
+  meets = r.meets;
+  arrives = arrives_on x.end a b v y s r.arrives;
+}
+
+hears_on : (a b : Scene) (v : ℕ) (x : Sending) → x.start < x.end → Agree x.end a b → Hears a v x → Hears b v x
+hears_on a b v x lasts s h =
+    let back = agree_back x.end a b s in
+    record {
+      sent = (s.sendings x lasts).0 h.sent;
+      tuned = λ k from until. (s.tuned v x.rank k until).0 (h.tuned k from until);
+      silent = λ y sent own meets. h.silent y ((s.sendings y meets.after).1 sent) own meets;
+      arrives = arrives_on x.end a b v x s h.arrives;
+      first = λ y rival same. h.first y (rival_on b a v x y back rival) same;
+      close = λ y rival same. subst (λ (p : Numbers). y.start ≤ x.start + p.delta) s.numbers (h.close y (rival_on b a v x y back rival) same);
+      chosen = elim h.chosen [
+        | inl alone ↦ inl (λ y rival. alone y (rival_on b a v x y back rival))
+        | inr c ↦ inr (record { winner = c.winner; rival = rival_on a b v x c.winner s c.rival; same = c.same; named = captures_on x.end a b v x c.winner.node s c.named })
+      ];
+    }
+
+pub settled : (a b : Scene) (v : ℕ) (x : Sending) → x.start < x.end → Agree x.end a b → Hears a v x ↔ Hears b v x
+settled a b v x lasts s = (hears_on a b v x lasts s, hears_on b a v x lasts (agree_back x.end a b s))

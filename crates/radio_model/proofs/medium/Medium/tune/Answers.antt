@@ -1,0 +1,22 @@
+use Rattle.std.proofs.Common.{ap, ◌∙◌}
+use Rattle.radio_model.specs.Stations.{MediumState, retuned, after}
+use Rattle.radio_model.proofs.Places.{after_is, after_medium, placed}
+use Rattle.radio_model.proofs.Changes.{retuned_keeps}
+use Rattle.radio_model.proofs.medium.Medium.tune.Goals as goal
+
+pub invariant_of-self : goal.invariant_of-self
+invariant_of-self c =
+    let m : MediumState = record { numbers = c.self.inside.profile; now = c.self.inside.now; stations = c.self.inside.stations.items } in
+    let old = c.index_mut-station.result.now in
+    let at = placed m.stations c.deref.result.now c.place_of-place.result c.args.node old c.deref.ensures.value c.place_of-place.ensures.below c.place_of-place.ensures.there c.index_mut-station.ensures.value in
+    after_medium m c.self.invariant (retuned c.args.rank c.args.t) (retuned_keeps c.args.rank c.args.t) c.args.node c.args.t c.place_of-place.result old c.tune.new.self at.0 c.index_mut-station.ensures.value at.1 c.tune.ensures
+
+pub returns : goal.returns
+returns c =
+    let m : MediumState = record { numbers = c.self.inside.profile; now = c.self.inside.now; stations = c.self.inside.stations.items } in
+    let old = c.index_mut-station.result.now in
+    let at = placed m.stations c.deref.result.now c.place_of-place.result c.args.node old c.deref.ensures.value c.place_of-place.ensures.below c.place_of-place.ensures.there c.index_mut-station.ensures.value in
+    record {
+      state = after_is m c.self.invariant (retuned c.args.rank c.args.t) (retuned_keeps c.args.rank c.args.t) c.args.node c.args.t c.place_of-place.result old c.tune.new.self at.0 c.index_mut-station.ensures.value at.1 c.tune.ensures
+          ∙ ap (after c.args.t c.args.node (retuned c.args.rank c.args.t)) c.self.view_is;
+    }

@@ -1,0 +1,6 @@
+pub mod OnAir
+pub mod Hearing
+pub mod Stations
+pub mod Pairs
+pub mod Meetings
+pub mod Holding

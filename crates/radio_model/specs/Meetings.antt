@@ -1,0 +1,88 @@
+-- What decides whether a sending is heard, as the medium works it out from what it keeps.
+use Rattle.std.specs.Prelude.{◌≡◌, ℕ, ◌+◌, ◌/◌, ◌<◌, List, Bool, true, false, not, ◌&&◌, ◌||◌, ◌==◌, nat_lt, nat_le, if◌then◌else◌, Option, Some, None, filter_map, length, slice_index}
+use Rattle.std.specs.List.{list_any, flat_map}
+use Rattle.std.specs.Str.{bytes_eq}
+use Rattle.lwb_base.specs.Profile.{Numbers}
+use Rattle.link_trace.specs.Passes.{Lines, passes}
+use Rattle.link_trace.specs.Masks.{IsMask}
+use Rattle.link_trace.specs.Passes.{captured}
+use Rattle.radio_model.specs.Stations.{on_air, overlaps, covers}
+use Rattle.radio_model.specs.declared.sending.Sending.{Sending}
+use Rattle.radio_model.specs.declared.station.Station.{Station}
+use Rattle.radio_model.specs.declared.rivals.Key.{Key}
+use Rattle.radio_model.specs.declared.rivals.Rival.{Rival}
+use Rattle.radio_model.specs.declared.rivals.Crowd.{Crowd}
+use Rattle.radio_model.specs.declared.rivals.Crowd.TheVariants.{Alone, Mixed, Spoiled}
+
+abbrev pub key_of : Numbers → Sending → Key
+key_of p y = record { frame = y.start / p.frame; slot = slice_index y.packet 1; counter = slice_index y.packet 2 }
+
+-- by start and then sender, x is y or comes before it, and y starts within the greatest displacement
+abbrev pub comes_in_time : Numbers → Sending → Sending → Bool
+comes_in_time p x y = (nat_lt x.start y.start || ((x.start == y.start) && nat_le x.node y.node)) && nat_le y.start (x.start + p.delta)
+
+-- a sending of this station, if it overlaps x on its channel
+abbrev pub rival_to : Numbers → Sending → Station → Sending → Option Rival
+rival_to p x st y =
+    if (y.rank == x.rank) && overlaps x y
+    then Some (record { place = st.place; node = st.node; key = key_of p y; same = bytes_eq y.packet x.packet; in_time = comes_in_time p x y })
+    else None
+
+abbrev pub rivals_in : Numbers → Sending → Station → List Rival
+rivals_in p x st = filter_map (rival_to p x st) (on_air st)
+
+abbrev pub rivals_to : Numbers → Sending → List Station → List Rival
+rivals_to p x sts = flat_map (rivals_in p x) sts
+
+-- the link from node u to v passes at the key
+abbrev pub passes_at : Lines → Key → ℕ → ℕ → Bool
+passes_at lines k u v = passes lines k.frame k.slot k.counter u v
+
+abbrev pub reaches : Lines → ℕ → Rival → Bool
+reaches lines v r = passes_at lines r.key r.node v
+
+-- the same packet comes to v earlier than x, or too late after it
+abbrev pub spoils : Lines → ℕ → Rival → Bool
+spoils lines v r = reaches lines v r && r.same && not r.in_time
+
+-- another packet comes to v
+abbrev pub differs : Lines → ℕ → Rival → Bool
+differs lines v r = reaches lines v r && not r.same
+
+-- the same packet comes to v from this node
+abbrev pub comes_from : Lines → ℕ → ℕ → Rival → Bool
+comes_from lines v u r = reaches lines v r && r.same && (r.node == u)
+
+abbrev pub crowd_of : Lines → ℕ → List Rival → Crowd
+crowd_of lines v rs = if list_any (spoils lines v) rs then Spoiled else (if list_any (differs lines v) rs then Mixed else Alone)
+
+abbrev pub is_chosen : Lines → ℕ → List Rival → Option ℕ → Bool
+is_chosen lines v rs None = false
+is_chosen lines v rs (Some u) = list_any (comes_from lines v u) rs
+
+abbrev pub is_clear : Lines → ℕ → Key → List Rival → Crowd → Bool
+is_clear lines v k rs Alone = true
+is_clear lines v k rs Mixed = is_chosen lines v rs (captured lines k.frame k.slot k.counter v)
+is_clear lines v k rs Spoiled = false
+
+-- the node of this station hears x, which has this key and ends now, from node u
+abbrev pub is_heard : Lines → ℕ → Sending → Key → List Rival → Station → Bool
+is_heard lines u x k rs st =
+    covers st x.rank x.start x.end && not (list_any (overlaps x) (on_air st)) && passes_at lines k u st.node
+    && is_clear lines st.node k rs (crowd_of lines st.node rs)
+
+abbrev pub heard_by : Lines → ℕ → Sending → Key → List Rival → Station → Option (ℕ × ℕ)
+heard_by lines u x k rs st = if is_heard lines u x k rs st then Some (st.node, u) else None
+
+-- all that hear x from node u, with that node
+abbrev pub hearers_to : Numbers → Lines → ℕ → Sending → List Station → List (ℕ × ℕ)
+hearers_to p lines u x sts = filter_map (heard_by lines u x (key_of p x) (rivals_to p x sts)) sts
+
+-- a place and a node that belong together
+pub record IsPlaced (nodes : List ℕ) (place node : ℕ) : Type 0 where
+  pub below : place < length nodes
+  pub there : slice_index nodes place ≡ node
+
+-- the mask of the nodes from which a link to v passes at the key
+abbrev pub IsMaskOf : Lines → List ℕ → Key → ℕ → ℕ → Type 0
+IsMaskOf lines nodes k v mask = IsMask (λ u. passes_at lines k u v) nodes mask

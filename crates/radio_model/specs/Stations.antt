@@ -1,0 +1,151 @@
+-- What the medium keeps of each node, and how calls change it.
+use Rattle.std.specs.Prelude.{◌≡◌, ℕ, ◌+◌, ◌<◌, ◌≤◌, ◌^◌, is_some, is_none, slice_index_or, Contains, All, find, List, [], ◌∷◌, ◌++◌, Bool, true, false, ◌&&◌, ◌||◌, ◌==◌, nat_lt, nat_le, if◌then◌else◌, Option, Some, None, map, length, option_to_list}
+use Rattle.circular_buffer.specs.Buffer.{Buffer, buffer, keep_last}
+use Rattle.lwb_base.specs.Profile.{Numbers, airtime, IsProfile}
+use Rattle.link_trace.specs.Masks.{AreNodes}
+use Rattle.radio_model.specs.declared.sending.Sending.{Sending}
+use Rattle.radio_model.specs.declared.station.Tuned.{Tuned}
+use Rattle.radio_model.specs.declared.station.Past.{Past}
+use Rattle.radio_model.specs.declared.station.Station.{Station}
+
+-- the medium: the numbers of its profile, the tick of its last call, and its nodes by ascending ids
+pub record MediumState : Type 0 where
+  pub numbers : Numbers
+  pub now : ℕ
+  pub stations : List Station
+
+abbrev pub node_of : Station → ℕ
+node_of st = st.node
+
+abbrev pub nodes_of : MediumState → List ℕ
+nodes_of m = map node_of m.stations
+
+abbrev pub is_of : ℕ → Station → Bool
+is_of v st = st.node == v
+
+abbrev pub station_of : MediumState → ℕ → Option Station
+station_of m v = find (is_of v) m.stations
+
+-- the node is tuned and does not send
+abbrev pub can_send : Option Station → Bool
+can_send None = false
+can_send (Some st) = is_some st.tuned && is_none st.sending
+
+abbrev pub sending_of : Option Station → Option Sending
+sending_of None = None
+sending_of (Some st) = st.sending
+
+-- no time falls, none is after the end of a sending that runs, and all are small
+pub record IsTime (m : MediumState) (t : ℕ) : Type 0 where
+  pub later : m.now ≤ t
+  pub small : t ≤ 2 ^ 46
+  pub running : (st : Station) (x : Sending) → Contains m.stations st → st.sending ≡ Some x → t ≤ x.end
+
+-- the node's sending ends at t, which is its start plus its packet's airtime
+pub record Ends (m : MediumState) (v t : ℕ) : Type 0 where
+  pub sending : Sending
+  pub runs : sending_of (station_of m v) ≡ Some sending
+  pub until : sending.end ≡ t
+  pub lasts : t ≡ sending.start + airtime m.numbers (length sending.packet)
+
+-- a node as it is at first
+abbrev pub fresh : ℕ → ℕ → Station
+fresh node place = record { node = node; place = place; tuned = None; last = None; sending = None; ended = buffer [] 13 }
+
+-- the nodes as they are at first, at places counted from here on
+abbrev pub stations_from : ℕ → List ℕ → List Station
+stations_from k [] = []
+stations_from k (v ∷ vs) = fresh v k ∷ stations_from (k + 1) vs
+
+abbrev pub first_state : Numbers → List ℕ → MediumState
+first_state p nodes = record { numbers = p; now = 0; stations = stations_from 0 nodes }
+
+-- the numbers of a profile, 1 to 64 ascending nodes at places counted from 0, and room for the last 13 sendings of each
+pub record IsMedium (m : MediumState) : Type 0 where
+  pub profile : IsProfile m.numbers
+  pub nodes : AreNodes (nodes_of m)
+  pub places : (k : ℕ) (d : Station) → k < length m.stations → (slice_index_or m.stations k d).place ≡ k
+  pub rooms : All (λ st. st.ended.capacity ≡ 13) m.stations
+
+-- what the end of a tuning at t leaves as the last one. An empty one leaves nothing
+abbrev pub last_at : Option Tuned → Option Past → ℕ → Option Past
+last_at None last t = last
+last_at (Some o) last t = if nat_lt o.since t then Some (record { rank = o.rank; since = o.since; until = t }) else last
+
+-- the last tuning was of this channel and ended at t
+abbrev pub meets_at : Option Past → ℕ → ℕ → Bool
+meets_at None rank t = false
+meets_at (Some p) rank t = (p.rank == rank) && (p.until == t)
+
+-- since when a tuning of this channel that begins at t lasts, with one that it meets counted as one
+abbrev pub since_with : Option Past → ℕ → ℕ → ℕ
+since_with None rank t = t
+since_with (Some p) rank t = if (p.rank == rank) && (p.until == t) then p.since else t
+
+abbrev pub is_tuned_to : Option Tuned → ℕ → Bool
+is_tuned_to None rank = false
+is_tuned_to (Some o) rank = o.rank == rank
+
+-- the station that is tuned to this channel from t on
+abbrev pub tuned_in : ℕ → ℕ → Station → Station
+tuned_in rank t st = record st {
+  tuned = Some (record { rank = rank; since = since_with st.last rank t });
+  last = if meets_at st.last rank t then None else st.last;
+}
+
+-- the station that is tuned to nothing from t on
+abbrev pub tuned_out : ℕ → Station → Station
+tuned_out t st = record st { tuned = None; last = last_at st.tuned st.last t }
+
+abbrev pub retuned : Option ℕ → ℕ → Station → Station
+retuned None t st = tuned_out t st
+retuned (Some rank) t st = if is_tuned_to st.tuned rank then st else tuned_in rank t (tuned_out t st)
+
+-- what the station sends if it begins to send at t. None where it is not tuned
+abbrev pub next_sending : Numbers → ℕ → List ℕ → ℕ → Option Tuned → Option Sending
+next_sending p t packet node None = None
+next_sending p t packet node (Some o) = Some (record { rank = o.rank; node = node; start = t; end = t + airtime p (length packet); packet = packet })
+
+-- what is sent goes on
+abbrev pub first_sending : Option Sending → Option Sending → Option Sending
+first_sending None next = next
+first_sending (Some x) next = Some x
+
+abbrev pub started : Numbers → ℕ → List ℕ → Station → Station
+started p t packet st = record st { sending = first_sending st.sending (next_sending p t packet st.node st.tuned) }
+
+-- the ended sendings with one more. Where there is no room the oldest one is forgotten
+abbrev pub with_ended : Buffer Sending → Option Sending → Buffer Sending
+with_ended b None = b
+with_ended b (Some x) = buffer (keep_last b.capacity (b.items ++ x ∷ [])) b.capacity
+
+-- the sending has ended
+abbrev pub finished : Station → Station
+finished st = record st { sending = None; ended = with_ended st.ended st.sending }
+
+-- the ended sendings that are kept, the oldest first, and what is sent
+abbrev pub on_air : Station → List Sending
+on_air st = st.ended.items ++ option_to_list st.sending
+
+abbrev pub changed_at : ℕ → (Station → Station) → Station → Station
+changed_at v change st = if st.node == v then change st else st
+
+-- the medium at t, where one node's station has changed
+abbrev pub after : ℕ → ℕ → (Station → Station) → MediumState → MediumState
+after t v change m = record m { now = t; stations = map (changed_at v change) m.stations }
+
+-- the channel's tuning in the tick before t goes back to the start or further
+abbrev pub goes_on : Option Tuned → ℕ → ℕ → Bool
+goes_on None rank start = false
+goes_on (Some o) rank start = (o.rank == rank) && nat_le o.since start
+
+abbrev pub went_until : Option Past → ℕ → ℕ → ℕ → Bool
+went_until None rank start t = false
+went_until (Some p) rank start t = (p.rank == rank) && nat_le p.since start && nat_le t p.until
+
+abbrev pub covers : Station → ℕ → ℕ → ℕ → Bool
+covers st rank start t = goes_on st.tuned rank start || went_until st.last rank start t
+
+-- both are on the air at some tick
+abbrev pub overlaps : Sending → Sending → Bool
+overlaps x y = nat_lt x.start y.end && nat_lt y.start x.end

@@ -1,0 +1,78 @@
+ghost use Rattle.std.specs.Prelude.{◌≡◌, ◌+◌, ◌≤◌, ◌<◌, ◌^◌, ℕ, List, [], ◌∷◌, ◌++◌, length, slice_get};
+
+use arrayvec::ArrayVec;
+use lwb_base::NodeId;
+use std::marker::Model;
+
+/// One who hears, and the sender.
+#[derive(Clone, Copy)]
+struct Pair {
+    hearer: NodeId,
+    sender: NodeId,
+}
+
+impl Default for Pair {
+    fn default() -> Pair {
+        let first = NodeId::new(1).unwrap();
+        Pair {
+            hearer: first,
+            sender: first,
+        }
+    }
+}
+
+/// Who hears one sending: pairs of a hearer and the sender, at most 64, by hearer ascending. Contracts see the list.
+#[derive(Drop)]
+pub struct Hearers {
+    pairs: ArrayVec<Pair, 64>,
+}
+
+impl Model for Hearers {
+    ghost use Rattle.std.specs.Prelude.{ℕ, List, map};
+    ghost use Rattle.radio_model.specs.declared.hearers.Pair.{Pair};
+    ghost use Rattle.radio_model.specs.Pairs.{pair_in};
+
+    ghost Value = { List (ℕ × ℕ) };
+
+    ghost view = { λ h. map pair_in h.pairs.items };
+}
+
+impl Hearers {
+    /// Nobody hears.
+    pub(crate) fn none() -> Hearers
+        ensures { result ≡ [] }
+    {
+        Hearers {
+            pairs: ArrayVec::new(),
+        }
+    }
+
+    /// One more hears.
+    pub(crate) fn push(&mut self, hearer: NodeId, sender: NodeId)
+        requires { length self.old < 64 }
+        ensures { self.new ≡ self.old ++ (hearer, sender) ∷ [] }
+    {
+        self.pairs.push(Pair { hearer, sender });
+    }
+
+    /// How many hear.
+    pub fn count(&self) -> u8
+        ensures value { result ≡ length self.now }
+        ensures range { result ≤ 64 }
+    {
+        self.pairs.len() as u8
+    }
+
+    /// The hearer and the sender of the pair at place i, counted from 0. None comes exactly where i is not below the
+    /// count.
+    pub fn at(&self, i: usize) -> Option<(NodeId, NodeId)>
+        ensures { result ≡ slice_get self.now i }
+    {
+        let pairs = self.pairs.as_slice();
+        if i >= pairs.len() {
+            return None;
+        }
+        let pair = pairs[i];
+        Some((pair.hearer, pair.sender))
+    }
+}

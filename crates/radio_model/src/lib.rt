@@ -1,0 +1,12 @@
+//! Who hears what on the air: the medium that all nodes share.
+#![tactic(auto)]
+
+mod hearers;
+mod listeners;
+mod medium;
+mod rivals;
+mod sending;
+mod station;
+
+pub use hearers::Hearers;
+pub use medium::Medium;

@@ -1,0 +1,68 @@
+ghost use Rattle.std.specs.Prelude.{◌≡◌, ◌≤◌, ◌<◌, ◌^◌, All, length, map, ◌++◌, option_to_list};
+ghost use Rattle.radio_model.specs.Stations.{node_of};
+ghost use Rattle.radio_model.specs.Meetings.{key_of, is_heard, hearers_to, IsPlaced, rivals_to};
+
+use crate::hearers::Hearers;
+use crate::rivals::{Crowd, Key, Rival, crowd_at, has_bit, is_chosen, mask_of, rivals_of};
+use crate::sending::Sending;
+use crate::station::Station;
+use link_trace::Links;
+use lwb_base::Profile;
+
+/// Who hears x, the sending of the station `from`, now that it ends.
+pub fn listeners<M: Links>(
+    links: &M,
+    profile: &Profile,
+    stations: &[Station],
+    from: &Station,
+    x: &Sending,
+) -> Hearers
+    requires start { x.now.start ≤ 2 ^ 46 }
+    requires end { x.now.end ≤ 2 ^ 46 }
+    requires few { length stations.now ≤ 64 }
+    requires kept { All (λ st. st.ended.capacity ≡ 13) stations.now }
+    requires seal { (M.nodes links.now) ≡ map node_of stations.now }
+    requires places { All (λ st. IsPlaced (M.nodes links.now) st.place st.node) stations.now }
+    requires rivals { All (λ r. IsPlaced (M.nodes links.now) r.place r.node) (rivals_to profile.now x.now stations.now) }
+    requires from { IsPlaced (M.nodes links.now) from.now.place from.now.node }
+    ensures { result ≡ hearers_to profile.now (M.lines links.now) from.now.node x.now stations.now }
+{
+    let rivals = rivals_of(profile, stations, x);
+    let key = Key::of(profile, x);
+    let mut hearers = Hearers::none();
+    for at in stations {
+        if hears(links, rivals.as_slice(), at, from, x, key) {
+            hearers.push(at.node, from.node);
+        }
+    }
+    hearers
+}
+
+// Whether the node at `at` hears x, the sending of the station `from`, now that it ends.
+fn hears<M: Links>(
+    links: &M,
+    rivals: &[Rival],
+    at: &Station,
+    from: &Station,
+    x: &Sending,
+    key: Key,
+) -> bool
+    requires few { length (M.nodes links.now) ≤ 64 }
+    requires rivals { All (λ r. IsPlaced (M.nodes links.now) r.place r.node) rivals.now }
+    requires at { IsPlaced (M.nodes links.now) at.now.place at.now.node }
+    requires from { IsPlaced (M.nodes links.now) from.now.place from.now.node }
+    ensures { result ≡ is_heard (M.lines links.now) from.now.node x.now key rivals.now at.now }
+{
+    if !at.was_tuned(x.rank, x.start, x.end) || !at.is_quiet(x) {
+        return false;
+    }
+    let mask = mask_of(links, key, at);
+    if !has_bit(mask, from.place) {
+        return false;
+    }
+    match crowd_at(links, rivals, at, key, mask) {
+        Crowd::Alone => true,
+        Crowd::Mixed => is_chosen(links, rivals, at, key, mask),
+        Crowd::Spoiled => false,
+    }
+}

@@ -1,0 +1,149 @@
+ghost use Rattle.std.specs.Prelude.{◌≡◌, ◌≤◌, ◌<◌, ◌^◌, ◌∷◌, [], ℕ, IfOk, IfSome, IsSomeAnd, All, Contains, length, map, slice_index, slice_index_or, Some};
+ghost use Rattle.std.specs.List.{HoldsAt};
+ghost use Rattle.lwb_base.specs.Profile.{Numbers};
+ghost use Rattle.link_trace.specs.Masks.{AreNodes};
+ghost use Rattle.radio_model.specs.Stations.{MediumState, node_of, nodes_of, station_of, can_send, sending_of, retuned, started, finished, after, first_state, stations_from, IsTime, Ends};
+ghost use Rattle.radio_model.specs.Meetings.{hearers_to, IsPlaced};
+ghost use Rattle.radio_model.specs.declared.sending.Sending.{Sending};
+ghost use Rattle.radio_model.specs.declared.station.Station.{Station};
+
+use crate::hearers::Hearers;
+use crate::listeners::listeners;
+use crate::station::Station;
+use link_trace::Links;
+use lwb_base::{Memory, NodeId, Packet, Profile, Rank};
+use std::alloc::Global;
+use std::marker::Model;
+
+/// The air that all nodes share. It keeps, for each node, what it is tuned to and sends now, the tuning that ended
+/// last, and the last ended sendings, which are all that can overlap one that still runs. Contracts see that.
+///
+/// Times are true ticks of 1/64 µs, at most 2^46. They never fall, and none is after the end of a sending that runs.
+#[derive(Drop)]
+pub struct Medium {
+    profile: Profile,
+    now: u64,
+    stations: Vec<Station>,
+}
+
+impl Model for Medium {
+    ghost use Rattle.radio_model.specs.Stations.{MediumState, IsMedium};
+
+    ghost Value = { MediumState };
+
+    ghost view = { λ m. record { numbers = m.profile; now = m.now; stations = m.stations.items } };
+
+    ghost invariant = { λ m. IsMedium (record { numbers = m.profile; now = m.now; stations = m.stations.items }) };
+}
+
+impl Medium {
+    /// A medium of these nodes, 1 to 64 ascending ids, that are tuned to nothing and send nothing. No later call takes
+    /// memory.
+    pub fn new(alloc: Global, profile: &Profile, nodes: &[NodeId]) -> Result<Medium, Memory>
+        requires { AreNodes nodes.now }
+        ensures { IfOk result (λ m. m ≡ first_state profile.now nodes.now) }
+    {
+        let _made = profile.contend();
+        let stations = new_stations(alloc, nodes)?;
+        Ok(Medium {
+            profile: *profile,
+            now: 0,
+            stations,
+        })
+    }
+
+    /// The node is tuned to that channel from t on, or to nothing.
+    pub fn tune(&mut self, node: NodeId, rank: Option<Rank>, t: u64)
+        requires node { Contains (nodes_of self.old) node }
+        requires time { IsTime self.old t }
+        ensures state { self.new ≡ after t node (retuned rank t) self.old }
+    {
+        let place = place_of(&self.stations, node);
+        let station = &mut self.stations[place];
+        station.tune(rank, t);
+        self.now = t;
+    }
+
+    /// The node begins to send at t, for the packet's airtime. False comes exactly where it is not tuned or already
+    /// sends, and then nothing changes but the time.
+    pub fn start(&mut self, node: NodeId, t: u64, packet: &Packet) -> bool
+        requires node { Contains (nodes_of self.old) node }
+        requires time { IsTime self.old t }
+        ensures value { result ≡ can_send (station_of self.old node) }
+        ensures state { self.new ≡ after t node (started self.old.numbers t packet.now) self.old }
+    {
+        let place = place_of(&self.stations, node);
+        let station = &mut self.stations[place];
+        let starts = station.start(&self.profile, t, packet);
+        self.now = t;
+        starts
+    }
+
+    /// The node's sending ends at t: who hears it now, one whose tuning ends at this very tick too. Which links pass
+    /// is asked of `links`, whose seal has the nodes of the medium.
+    pub fn end<M: Links>(&mut self, links: &M, node: NodeId, t: u64) -> Hearers
+        requires node { Contains (nodes_of self.old) node }
+        requires time { IsTime self.old t }
+        requires sends { Ends self.old node t }
+        requires seal { (M.nodes links.now) ≡ nodes_of self.old }
+        ensures state { self.new ≡ after t node finished self.old }
+        ensures hearers { IfSome (sending_of (station_of self.old node)) (λ x. result ≡ hearers_to self.old.numbers (M.lines links.now) node x self.old.stations) }
+    {
+        let place = place_of(&self.stations, node);
+        let hearers = listeners_at(links, &self.profile, &self.stations, place);
+        let station = &mut self.stations[place];
+        station.finish();
+        self.now = t;
+        hearers
+    }
+}
+
+// Who hears the sending of the station at that place, now that it ends.
+fn listeners_at<M: Links>(
+    links: &M,
+    profile: &Profile,
+    stations: &[Station],
+    place: usize,
+) -> Hearers
+    requires place { place < length stations.now }
+    requires sends { (d : Station) → IsSomeAnd (slice_index_or stations.now place d).sending (λ x. (x.start ≤ 2 ^ 46) × (x.end ≤ 2 ^ 46)) }
+    requires few { length stations.now ≤ 64 }
+    requires kept { All (λ st. st.ended.capacity ≡ 13) stations.now }
+    requires seal { (M.nodes links.now) ≡ map node_of stations.now }
+    requires places { All (λ st. IsPlaced (M.nodes links.now) st.place st.node) stations.now }
+    ensures { (d : Station) → IfSome (slice_index_or stations.now place d).sending (λ x. result ≡ hearers_to profile.now (M.lines links.now) (slice_index_or stations.now place d).node x stations.now) }
+{
+    let from = &stations[place];
+    match &from.sending {
+        Some(x) => listeners(links, profile, stations, from, x),
+        None => unreachable!(),
+    }
+}
+
+fn new_stations(alloc: Global, nodes: &[NodeId]) -> Result<Vec<Station>, Memory>
+    requires { length nodes.now ≤ 64 }
+    ensures { IfOk result (λ s. s.items ≡ stations_from 0 nodes.now) }
+{
+    let mut stations = Vec::new(alloc);
+    for (i, node) in nodes.iter().enumerate() {
+        let station = Station::new(alloc, *node, i as u8)?;
+        if stations.push(station).is_err() {
+            return Err(Memory);
+        }
+    }
+    Ok(stations)
+}
+
+// The place of the node.
+fn place_of(stations: &[Station], node: NodeId) -> usize
+    requires { Contains (map node_of stations.now) node }
+    ensures below { result < length stations.now }
+    ensures there { (d : Station) → (slice_index_or stations.now result d).node ≡ node }
+{
+    for (i, station) in stations.iter().enumerate() {
+        if station.node == node {
+            return i;
+        }
+    }
+    unreachable!()
+}

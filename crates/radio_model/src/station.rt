@@ -1,0 +1,187 @@
+ghost use Rattle.std.specs.Prelude.{◌≡◌, ◌≤◌, ◌+◌, ◌<◌, ◌^◌, [], ◌&&◌, not, IfOk, length, is_some, is_none, None};
+ghost use Rattle.std.specs.List.{list_any};
+ghost use Rattle.circular_buffer.specs.Buffer.{buffer};
+ghost use Rattle.lwb_base.specs.Profile.{airtime, Numbers};
+ghost use Rattle.radio_model.specs.Stations.{tuned_in, tuned_out, retuned, is_tuned_to, started, finished, on_air, covers, overlaps};
+
+use crate::sending::Sending;
+use circular_buffer::HeapCircularBuffer;
+use lwb_base::{Memory, NodeId, Packet, Profile, Rank};
+use std::alloc::Global;
+
+/// So many ended sendings of one node are kept. The longest packet is on the air for less than 13 of the shortest, so
+/// one that ended before the last 13 overlaps none that still runs.
+pub const KEPT: usize = 13;
+
+/// Tuned to the channel of a rank since a tick.
+#[derive(Clone, Copy)]
+pub struct Tuned {
+    pub rank: Rank,
+    pub since: u64,
+}
+
+/// Was tuned to the channel of a rank, from one tick until another.
+#[derive(Clone, Copy)]
+pub struct Past {
+    pub rank: Rank,
+    pub since: u64,
+    pub until: u64,
+}
+
+/// What is kept of one node: its place among the nodes, its tuning, the tuning that ended last, what it sends, and
+/// its last ended sendings, the oldest first.
+#[derive(Drop)]
+pub struct Station {
+    pub node: NodeId,
+    pub place: u8,
+    pub tuned: Option<Tuned>,
+    pub last: Option<Past>,
+    pub sending: Option<Sending>,
+    pub ended: HeapCircularBuffer<Sending>,
+}
+
+impl Station {
+    /// A node that is tuned to nothing and sends nothing.
+    pub fn new(alloc: Global, node: NodeId, place: u8) -> Result<Station, Memory>
+        ensures { IfOk result (λ st. st ≡ record { node = node; place = place; tuned = None; last = None; sending = None; ended = buffer [] 13 }) }
+    {
+        let Ok(ended) = HeapCircularBuffer::with_capacity(alloc, KEPT) else {
+            return Err(Memory);
+        };
+        Ok(Station {
+            node,
+            place,
+            tuned: None,
+            last: None,
+            sending: None,
+            ended,
+        })
+    }
+
+    /// It is tuned to that channel from t on, or to nothing.
+    pub fn tune(&mut self, rank: Option<Rank>, t: u64)
+        ensures { self.new ≡ retuned rank t self.old }
+    {
+        match rank {
+            None => self.tune_out(t),
+            Some(rank) => {
+                if !self.is_tuned_to(rank) {
+                    self.tune_out(t);
+                    self.tune_in(rank, t);
+                }
+            }
+        }
+    }
+
+    fn is_tuned_to(&self, rank: Rank) -> bool
+        ensures { result ≡ is_tuned_to self.now.tuned rank }
+    {
+        match self.tuned {
+            Some(tuned) => tuned.rank == rank,
+            None => false,
+        }
+    }
+
+    fn tune_out(&mut self, t: u64)
+        ensures { self.new ≡ tuned_out t self.old }
+    {
+        if let Some(tuned) = self.tuned {
+            if tuned.since < t {
+                self.last = Some(Past {
+                    rank: tuned.rank,
+                    since: tuned.since,
+                    until: t,
+                });
+            }
+        }
+        self.tuned = None;
+    }
+
+    // A tuning that meets the last one of the same channel is one with it.
+    fn tune_in(&mut self, rank: Rank, t: u64)
+        ensures { self.new ≡ tuned_in rank t self.old }
+    {
+        let mut since = t;
+        if let Some(last) = self.last {
+            if last.rank == rank && last.until == t {
+                since = last.since;
+                self.last = None;
+            }
+        }
+        self.tuned = Some(Tuned { rank, since });
+    }
+
+    /// It begins to send, until `end`. False comes exactly where it is not tuned or already sends, and then nothing
+    /// changes.
+    pub fn start(&mut self, profile: &Profile, t: u64, packet: &Packet) -> bool
+        requires { t ≤ 2 ^ 46 }
+        ensures value { result ≡ (is_some self.old.tuned && is_none self.old.sending) }
+        ensures state { self.new ≡ started profile.now t packet.now self.old }
+    {
+        let Some(tuned) = self.tuned else {
+            return false;
+        };
+        if self.sending.is_some() {
+            return false;
+        }
+        let _made = profile.contend();
+        let end = t + profile.airtime(packet.length());
+        let packet = Packet::new(packet.bytes()).unwrap();
+        self.sending = Some(Sending {
+            rank: tuned.rank,
+            node: self.node,
+            start: t,
+            end,
+            packet,
+        });
+        true
+    }
+
+    /// What it sends ends.
+    pub fn finish(&mut self)
+        ensures { self.new ≡ finished self.old }
+    {
+        if let Some(x) = self.sending.take() {
+            let _forgotten = self.ended.push_back(x);
+        }
+    }
+
+    /// Whether it was tuned to that channel from `start` to t.
+    pub fn was_tuned(&self, rank: Rank, start: u64, t: u64) -> bool
+        ensures { result ≡ covers self.now rank start t }
+    {
+        let goes_on = match self.tuned {
+            Some(tuned) => tuned.rank == rank && tuned.since <= start,
+            None => false,
+        };
+        let went_until_now = match self.last {
+            Some(last) => last.rank == rank && last.since <= start && t <= last.until,
+            None => false,
+        };
+        goes_on || went_until_now
+    }
+
+    fn sent_over(&self, x: &Sending) -> bool
+        ensures { result ≡ list_any (overlaps x.now) self.now.ended.items }
+    {
+        self.ended.iter().any(|y| overlap(x, y))
+    }
+
+    /// Whether no sending of its own overlaps x.
+    pub fn is_quiet(&self, x: &Sending) -> bool
+        ensures { result ≡ not (list_any (overlaps x.now) (on_air self.now)) }
+    {
+        let sends = match &self.sending {
+            Some(y) => overlap(x, y),
+            None => false,
+        };
+        !sends && !self.sent_over(x)
+    }
+}
+
+/// Whether both are on the air at some tick.
+pub fn overlap(x: &Sending, y: &Sending) -> bool
+    ensures { result ≡ overlaps x.now y.now }
+{
+    x.start < y.end && y.start < x.end
+}
