@@ -15,3 +15,6 @@ pub mod AfterEnding
 pub mod RivalFacts
 pub mod Heard
 pub mod HearersInOrder
+pub mod AtFirst
+pub mod SameHistory
+pub mod Named

@@ -2,6 +2,7 @@
 #![tactic(auto)]
 
 mod hearers;
+pub mod laws;
 mod listeners;
 mod medium;
 mod rivals;
