@@ -47,7 +47,7 @@ module _ (p : Numbers) (t : ℕ) (packet : List ℕ) (short : 3 ≤ length packe
   orderly_started : (now : ℕ) (st : Station) → now ≤ t → IsOrderly p now st → IsOrderly p t (started p t packet st)
   orderly_started now st later is = record {
     own = λ y there. elim (Contains-append_cases (on_air st) (option_to_list (next st)) y (subst (λ (l : List Sending). Contains l y) (air_more st) there)) [
-      | inl old ↦ is.own y old
+      inl old ↦ is.own y old
       | inr new ↦ (next_is st.node st.sending st.tuned y (in_option (next st) y new)).1
     ];
     in_turn = subst (InTurn 0) (sym (air_more st)) (turn (next st) refl);
@@ -98,8 +98,8 @@ module _ (m : MediumState) (is : IsMedium m) (a : Scene) (h : Holds m a) (v : �
         station = changed_at v change w.0;
         there = is_there m is change (started_keeps m.numbers t packet) v t w.0 w.1;
         kept = subst (λ (s : Station). Contains (on_air s) y) (sym (at_v m is change (started_keeps m.numbers t packet) v t w.0 w.2))
-            (subst (λ (l : List Sending). Contains l y) (sym (air_more m.numbers t packet short long w.0))
-            (Contains-append_right (on_air w.0) (option_to_list (next m.numbers t packet short long w.0)) y (of_option (next m.numbers t packet short long w.0) y (sym (new_of w.0 w.1 w.2) ∙ same))));
+        (subst (λ (l : List Sending). Contains l y) (sym (air_more m.numbers t packet short long w.0))
+          (Contains-append_right (on_air w.0) (option_to_list (next m.numbers t packet short long w.0)) y (of_option (next m.numbers t packet short long w.0) y (sym (new_of w.0 w.1 w.2) ∙ same))));
       }
 
   abbrev sends : Station → Type 0
@@ -111,7 +111,7 @@ module _ (m : MediumState) (is : IsMedium m) (a : Scene) (h : Holds m a) (v : �
   sent_new : (st : Station) → Contains m.stations st → st.node ≡ v → sends (change st)
   sent_new st there node y kept =
       elim (Contains-append_cases (on_air st) (option_to_list (next m.numbers t packet short long st)) y (subst (λ (l : List Sending). Contains l y) (air_more m.numbers t packet short long st) kept)) [
-        | inl old ↦ sent_old st there y old
+        inl old ↦ sent_old st there y old
         | inr now ↦ Contains-append_right a.sendings (option_to_list new) y (subst (λ (o : Option Sending). Contains (option_to_list o) y) (sym (new_of st there node)) now)
       ]
 
@@ -121,11 +121,11 @@ module _ (m : MediumState) (is : IsMedium m) (a : Scene) (h : Holds m a) (v : �
       record {
         numbers = h.numbers;
         orderly = each_after m is change keeps v t (IsOrderly m.numbers t)
-            (λ st there node. orderly_started m.numbers t packet short long m.now st later (h.orderly st there))
-            (λ st there other. orderly_later m.numbers m.now t st st later (h.orderly st there) refl refl refl (order_later m.now t st.tuned st.last later (h.orderly st there).tunings));
+        (λ st there node. orderly_started m.numbers t packet short long m.now st later (h.orderly st there))
+        (λ st there other. orderly_later m.numbers m.now t st st later (h.orderly st there) refl refl refl (order_later m.now t st.tuned st.last later (h.orderly st there).tunings));
         known = λ y there. elim (Contains-append_cases a.sendings (option_to_list new) y there) [
-          | inl old ↦ elim (h.known y old) [
-            | inl kept ↦ inl (record { station = changed_at v change kept.station; there = is_there m is change keeps v t kept.station kept.there; kept = air_grows kept.station y kept.kept })
+          inl old ↦ elim (h.known y old) [
+            inl kept ↦ inl (record { station = changed_at v change kept.station; there = is_there m is change keeps v t kept.station kept.there; kept = air_grows kept.station y kept.kept })
             | inr over ↦ inr (omega arith)
           ]
           | inr now ↦ inl (known_new y (in_option new y now))
@@ -133,5 +133,5 @@ module _ (m : MediumState) (is : IsMedium m) (a : Scene) (h : Holds m a) (v : �
         sent = λ y kept. each_after m is change keeps v t sends sent_new (λ st there other. sent_old st there) kept.station kept.there y kept.kept;
         past = λ k there. let by = h.past k there in omega arith;
         tuned = λ st there. right_by (after t v change m) (record a { sendings = a.sendings ++ option_to_list new }) (ascend_after m is change keeps v t) st there t
-            (each_after m is change keeps v t now_tells (λ s old node. still s old) (λ s old other. still s old) st there);
+        (each_after m is change keeps v t now_tells (λ s old node. still s old) (λ s old other. still s old) st there);
       }

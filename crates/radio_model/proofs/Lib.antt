@@ -12,3 +12,9 @@ pub mod OneCall
 pub mod AfterTuning
 pub mod AfterStarting
 pub mod AfterEnding
+pub mod RivalFacts
+pub mod Heard
+pub mod HearersInOrder
+pub mod AtFirst
+pub mod SameHistory
+pub mod Named

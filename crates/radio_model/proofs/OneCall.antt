@@ -27,13 +27,13 @@ module _ (m : MediumState) (a : Scene) (ascend : AllPairs (λ a b. a < b) (map n
   pub tells_by : (now : ℕ) → Tuned_right now → Tells (Lit a st.node) st.tuned st.last now
   tells_by now right c s t later early = (
     λ all. (right c s t later early).0 (λ k low high. (stands m a st t c k ascend there high).1 (all k low high)),
-    λ is k low high. (stands m a st t c k ascend there high).0 ((right c s t later early).1 is k low high),
+    λ is k low high. (stands m a st t c k ascend there high).0 ((right c s t later early).1 is k low high)
   )
 
   pub right_by : (now : ℕ) → Tells (Lit a st.node) st.tuned st.last now → Tuned_right now
   right_by now tells c s t later early = (
     λ all. (tells c s t later early).0 (λ k low high. (stands m a st t c k ascend there high).0 (all k low high)),
-    λ is k low high. (stands m a st t c k ascend there high).1 ((tells c s t later early).1 is k low high),
+    λ is k low high. (stands m a st t c k ascend there high).1 ((tells c s t later early).1 is k low high)
   )
 
 pub past_lit : (m : MediumState) (a : Scene) → Holds m a → (v c k : ℕ) → Lit a v c k → k < m.now

@@ -54,17 +54,17 @@ order_on r t (Some q) order = by_test ((q.rank == r) && (q.until == t)) refl
       order.0,
       order.1,
       λ same.
-          let by = order.1 in
-          elim (below_or_at q.until t by) [
-            | inl less ↦ less
-            | inr at ↦ absurd (both_ways ((q.rank == r) && (q.until == t)) is (and_from (q.rank == r) (q.until == t) (eq-eqb q.rank r same) (eq-eqb q.until t at)))
-          ],
+      let by = order.1 in
+      elim (below_or_at q.until t by) [
+        inl less ↦ less
+        | inr at ↦ absurd (both_ways ((q.rank == r) && (q.until == t)) is (and_from (q.rank == r) (q.until == t) (eq-eqb q.rank r same) (eq-eqb q.until t at)))
+      ]
     )
 
 pub tells_same : (P P' : ℕ → ℕ → Type 0) (tuned : Option Tuned) (last : Option Past) (now : ℕ) → ((c k : ℕ) → P c k ↔ P' c k) → Tells P tuned last now → Tells P' tuned last now
 tells_same P P' tuned last now same tells c s t later early = (
   λ all. (tells c s t later early).0 (λ k low high. elim (all k low high) [ inl p ↦ inl ((same c k).1 p) | inr goes ↦ inr goes ]),
-  λ is k low high. elim ((tells c s t later early).1 is k low high) [ inl p ↦ inl ((same c k).0 p) | inr goes ↦ inr goes ],
+  λ is k low high. elim ((tells c s t later early).1 is k low high) [ inl p ↦ inl ((same c k).0 p) | inr goes ↦ inr goes ]
 )
 
 tells_on : (P : ℕ → ℕ → Type 0) (r t : ℕ) (last : Option Past) → ((c k : ℕ) → P c k → k < t) → IsOrder t None last → Tells P None last t
@@ -79,9 +79,9 @@ tells_on P r t (Some q) past order tells = by_test ((q.rank == r) && (q.until ==
     by_test false is =
         on_fresh P r t past (Some q) tells (over_by t None (Some q) order)
         (λ s went.
-        let by = order.1 in
-        let from = went.2 in
-        both_ways ((q.rank == r) && (q.until == t)) is (and_from (q.rank == r) (q.until == t) (eq-eqb q.rank r went.0) (eq-eqb q.until t (omega arith))))
+          let by = order.1 in
+          let from = went.2 in
+          both_ways ((q.rank == r) && (q.until == t)) is (and_from (q.rank == r) (q.until == t) (eq-eqb q.rank r went.0) (eq-eqb q.until t (omega arith))))
 
 -- what is told after a call at t
 pub record Told (a : Scene) (v t : ℕ) (tuned : Option Tuned) (last : Option Past) : Type 0 where
@@ -99,15 +99,15 @@ module _ (a : Scene) (v now t : ℕ) (later : now ≤ t) (past : (c k : ℕ) →
       let closes = closes_out a v t o in
       record {
         tells = cond_both (nat_lt o.since t) (Some (record { rank = o.rank; since = o.since; until = t })) last (λ (l : Option Past). Tells P' None l t)
-            (λ is. off_late (Lit a v) P' o last now t later (began_by now o last order) (λ c s. before_by now o last order c s t) (over_by now (Some o) last order) tells past closes (ltb-true o.since t is))
-            (λ not. off_empty (Lit a v) P' o last now t later (began_by now o last order) (λ c s. before_by now o last order c s t) (over_by now (Some o) last order) tells past closes (ltb-false o.since t not));
+        (λ is. off_late (Lit a v) P' o last now t later (began_by now o last order) (λ c s. before_by now o last order c s t) (over_by now (Some o) last order) tells past closes (ltb-true o.since t is))
+        (λ not. off_empty (Lit a v) P' o last now t later (began_by now o last order) (λ c s. before_by now o last order c s t) (over_by now (Some o) last order) tells past closes (ltb-false o.since t not));
         order = order_off now t (Some o) last later order;
       }
 
   past_out : (o : Option Tuning) → ((y : Tuning) → o ≡ Some y → y.end ≤ t) → (c k : ℕ) → Lit (with_tuning a o) v c k → k < t
   past_out o by c k is =
       elim (lit_apart a o v c k is) [
-        | inl ended ↦ let early = past c k ended in omega arith
+        inl ended ↦ let early = past c k ended in omega arith
         | inr new ↦ let end = by new.0 new.1 in let until = new.5 in omega arith
       ]
 
@@ -121,8 +121,8 @@ module _ (a : Scene) (v now t : ℕ) (later : now ≤ t) (past : (c k : ℕ) →
         order = order_later now t st.tuned st.last later order;
       }))
       (λ not.
-      let out = told_out st.tuned st.last order tells in
-      subst (λ (e : Option Tuning). Told (with_tuning a e) v t (tuned_in r t (tuned_out t st)).tuned (tuned_in r t (tuned_out t st)).last) (sym (closed_other v r t st.tuned not)) (record {
-        tells = tells_on (Lit (with_tuning a (closed v None t st.tuned)) v) r t (last_at st.tuned st.last t) (past_out (closed v None t st.tuned) (λ y is. omega (arith, (closed_is v None t st.tuned y is).end))) out.order out.tells;
-        order = order_on r t (last_at st.tuned st.last t) out.order;
-      }))
+        let out = told_out st.tuned st.last order tells in
+        subst (λ (e : Option Tuning). Told (with_tuning a e) v t (tuned_in r t (tuned_out t st)).tuned (tuned_in r t (tuned_out t st)).last) (sym (closed_other v r t st.tuned not)) (record {
+          tells = tells_on (Lit (with_tuning a (closed v None t st.tuned)) v) r t (last_at st.tuned st.last t) (past_out (closed v None t st.tuned) (λ y is. omega (arith, (closed_is v None t st.tuned y is).end))) out.order out.tells;
+          order = order_on r t (last_at st.tuned st.last t) out.order;
+        }))

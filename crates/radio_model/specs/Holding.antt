@@ -104,3 +104,10 @@ pub record Agree (t : ℕ) (a b : Scene) : Type 0 where
   pub lines : a.lines ≡ b.lines
   pub sendings : (y : Sending) → y.start < t → Contains a.sendings y ↔ Contains b.sendings y
   pub tuned : (v channel k : ℕ) → k < t → IsTuned a v channel k ↔ IsTuned b v channel k
+
+-- the same sendings up to now, and the same ended tunings, however they are split
+pub record SameHistory (now : ℕ) (a b : Scene) : Type 0 where
+  pub numbers : a.numbers ≡ b.numbers
+  pub sendings : (y : Sending) → Contains a.sendings y ↔ Contains b.sendings y
+  pub tuned : (v channel k : ℕ) → IsTuned a v channel k ↔ IsTuned b v channel k
+  pub past : (k : Tuning) → Contains b.tunings k → k.end ≤ now

@@ -2,6 +2,7 @@
 #![tactic(auto)]
 
 mod hearers;
+pub mod laws;
 mod listeners;
 mod medium;
 mod rivals;
@@ -10,3 +11,4 @@ mod station;
 
 pub use hearers::Hearers;
 pub use medium::Medium;
+pub use sending::Sending;

@@ -1,16 +1,19 @@
-ghost use Rattle.std.specs.Prelude.{◌≡◌, ◌≤◌, ◌<◌, ◌^◌, ◌∷◌, [], ℕ, IfOk, IfSome, IsSomeAnd, All, Contains, length, map, slice_index, slice_index_or, Some};
+ghost use Rattle.std.specs.Prelude.{◌≡◌, ◌≤◌, ◌<◌, ◌^◌, ◌∷◌, [], ℕ, IfOk, IfSome, IsSomeAnd, All, AllPairs, Contains, ◌↔◌, length, map, slice_index, slice_index_or, Some};
 ghost use Rattle.std.specs.List.{HoldsAt};
 ghost use Rattle.lwb_base.specs.Profile.{Numbers};
 ghost use Rattle.link_trace.specs.Masks.{AreNodes};
-ghost use Rattle.radio_model.specs.Stations.{MediumState, node_of, nodes_of, station_of, can_send, sending_of, retuned, started, finished, after, first_state, stations_from, IsTime, Ends};
+ghost use Rattle.link_trace.specs.Passes.{Lines};
+ghost use Rattle.radio_model.specs.Hearing.{Scene, Hears};
+ghost use Rattle.radio_model.specs.Holding.{Holds, nothing_yet, after_tuning, after_starting, as_it_stands};
+ghost use Rattle.radio_model.specs.Stations.{MediumState, node_of, nodes_of, station_of, can_send, sending_of, retuned, started, finished, after, first_state, stations_from, IsTime, IsMedium, Ends};
 ghost use Rattle.radio_model.specs.Meetings.{hearers_to, IsPlaced};
 ghost use Rattle.radio_model.specs.declared.sending.Sending.{Sending};
 ghost use Rattle.radio_model.specs.declared.station.Station.{Station};
 
 use crate::hearers::Hearers;
+use link_trace::Links;
 use crate::listeners::listeners;
 use crate::station::Station;
-use link_trace::Links;
 use lwb_base::{Memory, NodeId, Packet, Profile, Rank};
 use std::alloc::Global;
 use std::marker::Model;
@@ -22,7 +25,7 @@ use std::marker::Model;
 #[derive(Drop)]
 pub struct Medium {
     profile: Profile,
-    now: u64,
+    time: u64,
     stations: Vec<Station>,
 }
 
@@ -31,9 +34,9 @@ impl Model for Medium {
 
     ghost Value = { MediumState };
 
-    ghost view = { λ m. record { numbers = m.profile; now = m.now; stations = m.stations.items } };
+    ghost view = { λ m. record { numbers = m.profile; now = m.time; stations = m.stations.items } };
 
-    ghost invariant = { λ m. IsMedium (record { numbers = m.profile; now = m.now; stations = m.stations.items }) };
+    ghost invariant = { λ m. IsMedium (record { numbers = m.profile; now = m.time; stations = m.stations.items }) };
 }
 
 impl Medium {
@@ -41,13 +44,14 @@ impl Medium {
     /// memory.
     pub fn new(alloc: Global, profile: &Profile, nodes: &[NodeId]) -> Result<Medium, Memory>
         requires { AreNodes nodes.now }
-        ensures { IfOk result (λ m. m ≡ first_state profile.now nodes.now) }
+        ensures state { IfOk result (λ m. m ≡ first_state profile.now nodes.now) }
+        ensures holds { IfOk result (λ m. (lines : Lines) → Holds m (nothing_yet profile.now lines)) }
     {
         let _made = profile.contend();
         let stations = new_stations(alloc, nodes)?;
         Ok(Medium {
             profile: *profile,
-            now: 0,
+            time: 0,
             stations,
         })
     }
@@ -57,11 +61,12 @@ impl Medium {
         requires node { Contains (nodes_of self.old) node }
         requires time { IsTime self.old t }
         ensures state { self.new ≡ after t node (retuned rank t) self.old }
+        ensures holds { (a : Scene) → Holds self.old a → Holds self.new (after_tuning self.old node rank t a) }
     {
         let place = place_of(&self.stations, node);
         let station = &mut self.stations[place];
         station.tune(rank, t);
-        self.now = t;
+        self.time = t;
     }
 
     /// The node begins to send at t, for the packet's airtime. False comes exactly where it is not tuned or already
@@ -71,11 +76,14 @@ impl Medium {
         requires time { IsTime self.old t }
         ensures value { result ≡ can_send (station_of self.old node) }
         ensures state { self.new ≡ after t node (started self.old.numbers t packet.now) self.old }
+        ensures holds { (a : Scene) → Holds self.old a
+            → Holds self.new (after_starting self.old node t packet.now a) }
     {
+        let _length = packet.length();
         let place = place_of(&self.stations, node);
         let station = &mut self.stations[place];
         let starts = station.start(&self.profile, t, packet);
-        self.now = t;
+        self.time = t;
         starts
     }
 
@@ -85,16 +93,35 @@ impl Medium {
         requires node { Contains (nodes_of self.old) node }
         requires time { IsTime self.old t }
         requires sends { Ends self.old node t }
-        requires seal { (M.nodes links.now) ≡ nodes_of self.old }
+        requires seal { M.nodes links.now ≡ nodes_of self.old }
         ensures state { self.new ≡ after t node finished self.old }
-        ensures hearers { IfSome (sending_of (station_of self.old node)) (λ x. result ≡ hearers_to self.old.numbers (M.lines links.now) node x self.old.stations) }
+        ensures holds { (a : Scene) → Holds self.old a → Holds self.new a }
+        ensures hearers { (a : Scene) (x : Sending) → Holds self.old a → a.lines ≡ M.lines links.now
+            → sending_of (station_of self.old node) ≡ Some x → (v : ℕ) → Contains result (v, node)
+            ↔ (Contains (nodes_of self.old) v × Hears (as_it_stands self.old t a) v x) }
+        ensures sender { All (λ p. p.1 ≡ node) result }
+        ensures ascending { AllPairs (λ p q. p.0 < q.0) result }
     {
+        let hearers = self.hearers(links, node, t);
         let place = place_of(&self.stations, node);
-        let hearers = listeners_at(links, &self.profile, &self.stations, place);
         let station = &mut self.stations[place];
         station.finish();
-        self.now = t;
+        self.time = t;
         hearers
+    }
+
+    // Who hears the node's sending, which ends at t, as it is worked out from what is kept.
+    fn hearers<M: Links>(&self, links: &M, node: NodeId, t: u64) -> Hearers
+        requires node { Contains (nodes_of self.now) node }
+        requires small { t ≤ 2 ^ 46 }
+        requires sends { Ends self.now node t }
+        requires seal { M.nodes links.now ≡ nodes_of self.now }
+        ensures list { IfSome (sending_of (station_of self.now node)) (λ x. result
+            ≡ hearers_to self.now.numbers (M.lines links.now) node x self.now.stations) }
+        ensures kept { IsMedium self.now }
+    {
+        let place = place_of(&self.stations, node);
+        listeners_at(links, &self.profile, &self.stations, place)
     }
 }
 
@@ -109,7 +136,7 @@ fn listeners_at<M: Links>(
     requires sends { (d : Station) → IsSomeAnd (slice_index_or stations.now place d).sending (λ x. (x.start ≤ 2 ^ 46) × (x.end ≤ 2 ^ 46)) }
     requires few { length stations.now ≤ 64 }
     requires kept { All (λ st. st.ended.capacity ≡ 13) stations.now }
-    requires seal { (M.nodes links.now) ≡ map node_of stations.now }
+    requires seal { M.nodes links.now ≡ map node_of stations.now }
     requires places { All (λ st. IsPlaced (M.nodes links.now) st.place st.node) stations.now }
     ensures { (d : Station) → IfSome (slice_index_or stations.now place d).sending (λ x. result ≡ hearers_to profile.now (M.lines links.now) (slice_index_or stations.now place d).node x stations.now) }
 {

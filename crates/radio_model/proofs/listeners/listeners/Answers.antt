@@ -19,7 +19,7 @@ loop-at-preserved g c =
     c.hears.ensures ∙ ap (λ (k : _). is_heard lines u x k c.as_slice.result.now at) c.of-key.ensures ∙ ap (λ (l : _). is_heard lines u x key l at) (c.as_slice.ensures.value ∙ c.rivals_of-rivals.ensures) in
     let added : c.if-hears.hearers ≡ (if c.hears.result then c.loop-at.hearers ++ (at.node, u) ∷ [] else c.loop-at.hearers) =
     elim c.if-hears.branch [
-      | then-hears w ↦ w.hearers-is ∙ w.push.ensures ∙ sym (cond-true _ _ _ w.if-hears.true)
+      then-hears w ↦ w.hearers-is ∙ w.push.ensures ∙ sym (cond-true _ _ _ w.if-hears.true)
       | else-hears w ↦ w.hearers-is ∙ sym (cond-false _ _ _ w.if-hears.false)
     ] in
     record {

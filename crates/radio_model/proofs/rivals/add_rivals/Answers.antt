@@ -8,8 +8,8 @@ loop-i-preserved c =
     let f = rival_to c.args.profile.now c.args.x.now c.args.station.now in
     record {
       items = adds_kept f c.args.station.now.ended.items c.loop-i.i c.ended_at-y.result.now c.args.rivals.now.items c.push_some.new.rivals.items c.loop-i.rivals.items
-          (omega arith) c.ended_at-y.ensures c.loop-i.invariant.items
-          (c.push_some.ensures.items ∙ ap (λ (o : _). c.loop-i.rivals.items ++ option_to_list o) c.rival_to.ensures);
+      (omega arith) c.ended_at-y.ensures c.loop-i.invariant.items
+      (c.push_some.ensures.items ∙ ap (λ (o : _). c.loop-i.rivals.items ++ option_to_list o) c.rival_to.ensures);
       few = omega arith;
       within = c.loop-i.invariant.within;
       room = c.loop-i.invariant.room;

@@ -1,33 +1,25 @@
 use Rattle.std.proofs.Common.{ℕ, List, ◌≡◌, ◌∙◌, ap, subst, sym, arith, length, get_or, IfSome, IsSomeAnd, ◌≤◌, ◌^◌}
-use Rattle.radio_model.specs.Stations.{MediumState, finished, after, node_of, station_of, sending_of, Ends}
+use Rattle.radio_model.specs.Stations.{MediumState, IsMedium, finished, after, node_of, station_of, sending_of, Ends}
 use Rattle.radio_model.specs.Meetings.{hearers_to}
 use Rattle.radio_model.specs.declared.station.Station.{Station}
 use Rattle.radio_model.proofs.Places.{after_is, after_medium, placed, same_at}
+use Rattle.radio_model.specs.Holding.{Holds}
+use Rattle.radio_model.proofs.AfterEnding.{holds_after_ending}
+use Rattle.radio_model.proofs.Named.{names_who_hears, names_one_sender, names_in_order}
 use Rattle.radio_model.proofs.Changes.{finished_keeps}
 use Rattle.radio_model.proofs.Ending.{runs_there, hearers_there}
 use Rattle.radio_model.proofs.medium.Medium.end.Goals as goal
 
-pub listeners_at-hearers-requires-clause-sends : goal.listeners_at-hearers-requires-clause-sends
-listeners_at-hearers-requires-clause-sends g c =
-    λ d.
-    let m : MediumState = record { numbers = c.self.inside.profile; now = c.self.inside.now; stations = c.self.inside.stations.items } in
-    let i = c.place_of-place.result in
-    let at = placed m.stations c.deref.result.now i c.args.node (get_or m.stations i d) c.deref.ensures.value c.place_of-place.ensures.below c.place_of-place.ensures.there
-    (same_at m.stations i d (get_or m.stations i d) (omega (arith, ap length c.deref.ensures.value, c.place_of-place.ensures.below))) in
-    let ends : Ends m c.args.node c.args.t = subst (λ (s : MediumState). Ends s c.args.node c.args.t) (sym c.self.view_is) c.requires.sends in
-    subst (λ (l : List Station). IsSomeAnd (get_or l i d).sending (λ x. (x.start ≤ 2 ^ 46) × (x.end ≤ 2 ^ 46))) (sym c.deref-2.ensures.value)
-    (runs_there m c.self.invariant.nodes.ascending c.args.node i d at.0 at.1 c.args.t c.requires.time.small ends)
-
 pub invariant_of-self : goal.invariant_of-self
 invariant_of-self g c =
-    let m : MediumState = record { numbers = c.self.inside.profile; now = c.self.inside.now; stations = c.self.inside.stations.items } in
+    let m : MediumState = record { numbers = c.self.inside.profile; now = c.self.inside.time; stations = c.self.inside.stations.items } in
     let old = c.index_mut-station.result.now in
     let at = placed m.stations c.deref.result.now c.place_of-place.result c.args.node old c.deref.ensures.value c.place_of-place.ensures.below c.place_of-place.ensures.there c.index_mut-station.ensures.value in
     after_medium m c.self.invariant finished finished_keeps c.args.node c.args.t c.place_of-place.result old c.finish.new.self at.0 c.index_mut-station.ensures.value at.1 c.finish.ensures
 
 pub returns-clause-state : goal.returns-clause-state
 returns-clause-state g c =
-    let m : MediumState = record { numbers = c.self.inside.profile; now = c.self.inside.now; stations = c.self.inside.stations.items } in
+    let m : MediumState = record { numbers = c.self.inside.profile; now = c.self.inside.time; stations = c.self.inside.stations.items } in
     let old = c.index_mut-station.result.now in
     let at = placed m.stations c.deref.result.now c.place_of-place.result c.args.node old c.deref.ensures.value c.place_of-place.ensures.below c.place_of-place.ensures.there c.index_mut-station.ensures.value in
     after_is m c.self.invariant finished finished_keeps c.args.node c.args.t c.place_of-place.result old c.finish.new.self at.0 c.index_mut-station.ensures.value at.1 c.finish.ensures
@@ -35,13 +27,21 @@ returns-clause-state g c =
 
 pub returns-clause-hearers : goal.returns-clause-hearers
 returns-clause-hearers g c =
-    let m : MediumState = record { numbers = c.self.inside.profile; now = c.self.inside.now; stations = c.self.inside.stations.items } in
-    let i = c.place_of-place.result in
-    let old = c.index_mut-station.result.now in
-    let lines = (g.M.Links.lines c.args.links.now) in
-    let heard = c.listeners_at-hearers.result in
-    let at = placed m.stations c.deref.result.now i c.args.node old c.deref.ensures.value c.place_of-place.ensures.below c.place_of-place.ensures.there c.index_mut-station.ensures.value in
-    let node : (get_or m.stations i old).node ≡ c.args.node = ap node_of (sym c.index_mut-station.ensures.value) ∙ at.1 in
-    subst (λ (s : MediumState). IfSome (sending_of (station_of s c.args.node)) (λ x. heard ≡ hearers_to s.numbers lines c.args.node x s.stations)) c.self.view_is
-    (hearers_there m c.self.invariant.nodes.ascending c.args.node i old at.0 node lines heard
-    (subst (λ (l : List Station). IfSome (get_or l i old).sending (λ x. heard ≡ hearers_to m.numbers lines (get_or l i old).node x l)) c.deref-2.ensures.value (c.listeners_at-hearers.ensures old)))
+    names_who_hears c.args.self.now c.hearers-hearers.ensures.kept c.args.node c.args.t c.requires.sends (g.M.Links.lines c.args.links.now) c.hearers-hearers.result c.hearers-hearers.ensures.list
+    c.requires.node c.requires.time.later
+
+pub returns-clause-sender : goal.returns-clause-sender
+returns-clause-sender g c =
+    names_one_sender c.args.self.now c.hearers-hearers.ensures.kept c.args.node c.args.t c.requires.sends (g.M.Links.lines c.args.links.now) c.hearers-hearers.result c.hearers-hearers.ensures.list
+
+pub returns-clause-ascending : goal.returns-clause-ascending
+returns-clause-ascending g c =
+    names_in_order c.args.self.now c.hearers-hearers.ensures.kept c.args.node c.args.t c.requires.sends (g.M.Links.lines c.args.links.now) c.hearers-hearers.result c.hearers-hearers.ensures.list
+
+pub returns-clause-holds : goal.returns-clause-holds
+returns-clause-holds g c =
+    λ a h.
+    let m = c.args.self.now in
+    let is : IsMedium m = subst IsMedium c.self.view_is c.self.invariant in
+    subst (λ (s : MediumState). Holds s a) (sym (returns-clause-state g c))
+    (holds_after_ending m is a h c.args.node c.args.t c.requires.time.later c.requires.sends)

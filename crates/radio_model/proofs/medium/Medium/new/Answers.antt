@@ -1,6 +1,8 @@
 use Rattle.std.proofs.Common.{subst, sym, List}
 use Rattle.radio_model.specs.Stations.{IsMedium}
 use Rattle.radio_model.specs.declared.station.Station.{Station}
+use Rattle.radio_model.specs.Holding.{Holds, nothing_yet}
+use Rattle.radio_model.proofs.AtFirst.{holds_at_first}
 use Rattle.radio_model.proofs.Places.{first_is_medium}
 use Rattle.radio_model.proofs.medium.Medium.new.Goals as goal
 
@@ -8,3 +10,9 @@ pub invariant_of-result : goal.invariant_of-result
 invariant_of-result c =
     subst (λ (xs : List Station). IsMedium (record { numbers = c.args.profile.now; now = 0; stations = xs })) (sym c.in_ok-stations.ensures)
     (first_is_medium c.args.profile.now c.args.nodes.now c.contend-made.ensures.made c.requires)
+
+pub returns-clause-holds : goal.returns-clause-holds
+returns-clause-holds c =
+    λ lines.
+    subst (λ (xs : List Station). Holds (record { numbers = c.args.profile.now; now = 0; stations = xs }) (nothing_yet c.args.profile.now lines)) (sym c.in_ok-stations.ensures)
+    (holds_at_first c.args.profile.now c.args.nodes.now c.contend-made.ensures.made c.requires lines)
