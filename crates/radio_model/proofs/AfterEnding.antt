@@ -1,21 +1,21 @@
 -- What the medium holds after a sending ends.
-use Rattle.std.proofs.Common.{◌≡◌, ◌≢◌, ℕ, zero, suc, ◌+◌, ◌-◌, ◌*◌, ◌<◌, ◌≤◌, ◌↔◌, ◌⊎◌, inl, inr, List, [], ◌∷◌, ◌++◌, length, drop, get_or, Bool, true, false, ◌==◌, Option, Some, None, option_to_list, refl, sym, ◌∙◌, ap, subst, arith, Contains, append-nil, length-append, All}
+use Rattle.std.proofs.Common.{◌≡◌, ℕ, zero, suc, ◌+◌, ◌-◌, ◌*◌, ◌≤◌, ◌⊎◌, inl, inr, List, [], ◌∷◌, ◌++◌, length, drop, ◌==◌, Option, Some, None, option_to_list, refl, sym, ◌∙◌, ap, subst, arith, Contains, append-nil, length-append}
 use Rattle.std.proofs.lemmas.Bool.{cond_both, cases_lt, eqb-true}
 use Rattle.std.proofs.Math.Nat.{mul-le-mul_right}
-use Rattle.std.proofs.lemmas.List.Elements.{Contains-append_cases, Contains-append_left, Contains-append_right, All-contains}
+use Rattle.std.proofs.lemmas.List.Elements.{Contains-append_cases, All-contains}
 use Rattle.circular_buffer.specs.Buffer.{Buffer, keep_last}
-use Rattle.lwb_base.specs.Profile.{Numbers, airtime}
-use Rattle.radio_model.specs.OnAir.{Sending, Tuning}
+use Rattle.lwb_base.specs.Profile.{Numbers}
+use Rattle.radio_model.specs.OnAir.{Sending}
 use Rattle.radio_model.specs.Hearing.{Scene}
 use Rattle.radio_model.specs.Stations.{MediumState, IsMedium, station_of, sending_of, on_air, finished, with_ended, after, changed_at, Ends}
-use Rattle.radio_model.specs.Holding.{Holds, IsKept, IsOrderly, IsOwn, InTurn, longest, shortest}
+use Rattle.radio_model.specs.Holding.{Holds, IsOrderly, IsOwn, InTurn, longest, shortest}
 use Rattle.radio_model.specs.declared.station.Station.{Station}
-use Rattle.radio_model.proofs.Members.{in_option, not_in_none, in_head, in_tail, in_either}
+use Rattle.radio_model.proofs.Members.{not_in_none, in_head, in_tail, in_either}
 use Rattle.radio_model.proofs.Changes.{finished_keeps}
 use Rattle.radio_model.proofs.Tunings.{Tells, tells_later}
 use Rattle.radio_model.proofs.Scenes.{Lit}
 use Rattle.radio_model.proofs.Retuned.{order_later}
-use Rattle.radio_model.proofs.OneCall.{found_member, tells_by, right_by, each_after, ascend_after, is_there, at_v}
+use Rattle.radio_model.proofs.OneCall.{found_member, tells_by, right_by, each_after, ascend_after, is_there}
 use Rattle.radio_model.proofs.AfterTuning.{orderly_later}
 
 -- how many are forgotten
@@ -60,16 +60,16 @@ module _ (s : ℕ) where
   kept_or_over (suc k) from [] x y turn lasting there few = absurd (omega arith)
   kept_or_over (suc k) from (z ∷ ys) x y turn lasting there few =
       elim (in_either (ys ++ x ∷ []) z y there) [
-        inl is ↦
-        inr (subst (λ (w : Sending). w.end + (length (z ∷ ys) + 1 - suc k) * s ≤ x.end) is
-          (let all = ends_after z.end ys x turn.1 (λ w in_it. lasting w (in_tail (ys ++ x ∷ []) z w in_it)) in
+        | inl is ↦
+            inr (subst (λ (w : Sending). w.end + (length (z ∷ ys) + 1 - suc k) * s ≤ x.end) is
+            (let all = ends_after z.end ys x turn.1 (λ w in_it. lasting w (in_tail (ys ++ x ∷ []) z w in_it)) in
             let fewer : (length (z ∷ ys) + 1 - suc k) * s ≤ (length ys + 1) * s = mul-le-mul_right s (omega arith) in
             omega arith))
         | inr rest ↦
-        elim (kept_or_over k z.end ys x y turn.1 (λ w in_it. lasting w (in_tail (ys ++ x ∷ []) z w in_it)) rest (omega arith)) [
-          inl kept ↦ inl kept
-          | inr over ↦ inr (subst (λ (n : ℕ). y.end + n * s ≤ x.end) (omega arith) over)
-        ]
+            elim (kept_or_over k z.end ys x y turn.1 (λ w in_it. lasting w (in_tail (ys ++ x ∷ []) z w in_it)) rest (omega arith)) [
+              | inl kept ↦ inl kept
+              | inr over ↦ inr (subst (λ (n : ℕ). y.end + n * s ≤ x.end) (omega arith) over)
+            ]
       ]
 
 lasts_least : (p : Numbers) (v : ℕ) (y : Sending) → IsOwn p v y → y.start + shortest p ≤ y.end
@@ -92,17 +92,17 @@ module _ (p : Numbers) (now t : ℕ) (st : Station) (room : st.ended.capacity �
       let long : length (st.ended.items ++ x ∷ []) ≡ length st.ended.items + 1 = length-append st.ended.items (x ∷ []) in
       let end = ends x same in
       elim (cases_lt (length st.ended.items) 13) [
-        inl few ↦
-        let none : k ≡ 0 = omega arith in
-        inl (subst (λ (l : List Sending). Contains l y) (sym (air_less st.ended (Some x))) (subst (λ (n : ℕ). Contains (drop n (st.ended.items ++ x ∷ [])) y) (sym none) in_it))
+        | inl few ↦
+            let none : k ≡ 0 = omega arith in
+            inl (subst (λ (l : List Sending). Contains l y) (sym (air_less st.ended (Some x))) (subst (λ (n : ℕ). Contains (drop n (st.ended.items ++ x ∷ [])) y) (sym none) in_it))
         | inr full ↦
-        elim (kept_or_over (shortest p) k 0 st.ended.items x y turn lasting in_it (omega arith)) [
-          inl kept ↦ inl (subst (λ (l : List Sending). Contains l y) (sym (air_less st.ended (Some x))) kept)
-          | inr over ↦
-          let thirteen : length st.ended.items + 1 - k ≡ 13 = omega arith in
-          let by : y.end + 13 * shortest p ≤ x.end = subst (λ (n : ℕ). y.end + n * shortest p ≤ x.end) thirteen over in
-          inr (omega arith)
-        ]
+            elim (kept_or_over (shortest p) k 0 st.ended.items x y turn lasting in_it (omega arith)) [
+              | inl kept ↦ inl (subst (λ (l : List Sending). Contains l y) (sym (air_less st.ended (Some x))) kept)
+              | inr over ↦
+                  let thirteen : length st.ended.items + 1 - k ≡ 13 = omega arith in
+                  let by : y.end + 13 * shortest p ≤ x.end = subst (λ (n : ℕ). y.end + n * shortest p ≤ x.end) thirteen over in
+                  inr (omega arith)
+            ]
       ]
 
   pub kept_finished : (y : Sending) → Contains (on_air st) y → Contains (on_air (finished st)) y ⊎ (y.end + longest p ≤ t)
@@ -115,9 +115,9 @@ module _ (p : Numbers) (now t : ℕ) (st : Station) (room : st.ended.capacity �
   over_by_now None same later y there = let by = is.over y there in omega arith
   over_by_now (Some x) same later y there =
       elim (Contains-append_cases st.ended.items (x ∷ []) y (in_drop (length (st.ended.items ++ x ∷ []) - st.ended.capacity) (st.ended.items ++ x ∷ []) y there)) [
-        inl old ↦ let by = is.over y old in omega arith
+        | inl old ↦ let by = is.over y old in omega arith
         | inr new ↦ elim (in_either [] x y new) [
-          inl at ↦ omega (arith, ap (λ (z : Sending). z.end) at, ends x same)
+          | inl at ↦ omega (arith, ap (λ (z : Sending). z.end) at, ends x same)
           | inr none ↦ absurd (not_in_none y none)
         ]
       ]
@@ -166,19 +166,19 @@ module _ (m : MediumState) (is : IsMedium m) (a : Scene) (h : Holds m a) (v t : 
   holds_after_ending = record {
     numbers = h.numbers;
     orderly = each_after m is finished finished_keeps v t (IsOrderly m.numbers t)
-    (λ st there node. orderly_finished m.numbers m.now t st (room_of st there) (h.orderly st there) (ends_of st there node) later)
-    (λ st there other. orderly_later m.numbers m.now t st st later (h.orderly st there) refl refl refl (order_later m.now t st.tuned st.last later (h.orderly st there).tunings));
+        (λ st there node. orderly_finished m.numbers m.now t st (room_of st there) (h.orderly st there) (ends_of st there node) later)
+        (λ st there other. orderly_later m.numbers m.now t st st later (h.orderly st there) refl refl refl (order_later m.now t st.tuned st.last later (h.orderly st there).tunings));
     known = λ y there. elim (h.known y there) [
-      inl kept ↦ elim (stays kept.station kept.there y kept.kept) [
-        inl on ↦ inl (record { station = changed_at v finished kept.station; there = is_there m is finished finished_keeps v t kept.station kept.there; kept = on })
+      | inl kept ↦ elim (stays kept.station kept.there y kept.kept) [
+        | inl on ↦ inl (record { station = changed_at v finished kept.station; there = is_there m is finished finished_keeps v t kept.station kept.there; kept = on })
         | inr over ↦ inr over
       ]
       | inr over ↦ inr (omega arith)
     ];
     sent = λ y kept. each_after m is finished finished_keeps v t held
-    (λ st there node z on. held_old st there z (air_back m.numbers m.now t st (room_of st there) (h.orderly st there) (ends_of st there node) z on))
-    (λ st there other. held_old st there) kept.station kept.there y kept.kept;
+        (λ st there node z on. held_old st there z (air_back m.numbers m.now t st (room_of st there) (h.orderly st there) (ends_of st there node) z on))
+        (λ st there other. held_old st there) kept.station kept.there y kept.kept;
     past = λ k there. let by = h.past k there in omega arith;
     tuned = λ st there. right_by (after t v finished m) a (ascend_after m is finished finished_keeps v t) st there t
-    (each_after m is finished finished_keeps v t now_tells (λ s old node. still s old) (λ s old other. still s old) st there);
+        (each_after m is finished finished_keeps v t now_tells (λ s old node. still s old) (λ s old other. still s old) st there);
   }

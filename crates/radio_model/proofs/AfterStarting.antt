@@ -1,21 +1,20 @@
 -- What the medium holds after a sending begins.
-use Rattle.std.proofs.Common.{◌≡◌, ◌≢◌, ℕ, ◌+◌, ◌*◌, ◌<◌, ◌≤◌, ◌↔◌, ◌⊎◌, inl, inr, List, [], ◌∷◌, ◌++◌, length, Bool, true, false, if◌then◌else◌, ◌==◌, Option, Some, None, is_none, option_to_list, refl, sym, ◌∙◌, ap, subst, arith, Contains, append-nil, append_assoc}
+use Rattle.std.proofs.Common.{◌≡◌, ℕ, ◌+◌, ◌≤◌, inl, inr, List, [], ◌∷◌, ◌++◌, length, if◌then◌else◌, ◌==◌, Option, Some, None, is_none, option_to_list, refl, sym, ◌∙◌, ap, subst, arith, Contains, append-nil}
 use Rattle.std.proofs.lemmas.List.Elements.{Contains-append_cases, Contains-append_left, Contains-append_right}
 use Rattle.std.proofs.lemmas.Bool.{cond_both}
 use Rattle.lwb_base.specs.Profile.{Numbers, airtime}
-use Rattle.radio_model.specs.OnAir.{Sending, Tuning}
+use Rattle.radio_model.specs.OnAir.{Sending}
 use Rattle.radio_model.specs.Hearing.{Scene}
 use Rattle.radio_model.specs.Stations.{MediumState, IsMedium, nodes_of, node_of, station_of, on_air, started, first_sending, next_sending, after, changed_at}
-use Rattle.radio_model.specs.Holding.{Holds, IsKept, IsOrderly, IsOwn, IsOrder, InTurn, begun, after_starting, longest}
+use Rattle.radio_model.specs.Holding.{Holds, IsKept, IsOrderly, IsOwn, InTurn, begun, after_starting}
 use Rattle.radio_model.specs.declared.station.Tuned.{Tuned}
 use Rattle.radio_model.specs.declared.station.Station.{Station}
-use Rattle.radio_model.proofs.Members.{in_option, of_option, from_map, not_in_none, in_head, in_tail, in_either}
+use Rattle.radio_model.proofs.Members.{in_option, of_option, from_map, in_head, in_tail}
 use Rattle.radio_model.proofs.Changes.{started_keeps}
-use Rattle.radio_model.proofs.Places.{one_station}
 use Rattle.radio_model.proofs.Tunings.{Tells, tells_later}
 use Rattle.radio_model.proofs.Scenes.{Lit}
 use Rattle.radio_model.proofs.Retuned.{order_later, tells_same}
-use Rattle.radio_model.proofs.OneCall.{found_member, lit_moves, tells_by, right_by, each_after, ascend_after, was, is_there, at_v}
+use Rattle.radio_model.proofs.OneCall.{found_member, lit_moves, tells_by, right_by, each_after, ascend_after, is_there, at_v}
 use Rattle.radio_model.proofs.AfterTuning.{orderly_later}
 
 with_next : (ys : List Sending) (s n : Option Sending) → ys ++ option_to_list (first_sending s n) ≡ (ys ++ option_to_list s) ++ option_to_list (if is_none s then n else None)
@@ -47,7 +46,7 @@ module _ (p : Numbers) (t : ℕ) (packet : List ℕ) (short : 3 ≤ length packe
   orderly_started : (now : ℕ) (st : Station) → now ≤ t → IsOrderly p now st → IsOrderly p t (started p t packet st)
   orderly_started now st later is = record {
     own = λ y there. elim (Contains-append_cases (on_air st) (option_to_list (next st)) y (subst (λ (l : List Sending). Contains l y) (air_more st) there)) [
-      inl old ↦ is.own y old
+      | inl old ↦ is.own y old
       | inr new ↦ (next_is st.node st.sending st.tuned y (in_option (next st) y new)).1
     ];
     in_turn = subst (InTurn 0) (sym (air_more st)) (turn (next st) refl);
@@ -98,8 +97,8 @@ module _ (m : MediumState) (is : IsMedium m) (a : Scene) (h : Holds m a) (v : �
         station = changed_at v change w.0;
         there = is_there m is change (started_keeps m.numbers t packet) v t w.0 w.1;
         kept = subst (λ (s : Station). Contains (on_air s) y) (sym (at_v m is change (started_keeps m.numbers t packet) v t w.0 w.2))
-        (subst (λ (l : List Sending). Contains l y) (sym (air_more m.numbers t packet short long w.0))
-          (Contains-append_right (on_air w.0) (option_to_list (next m.numbers t packet short long w.0)) y (of_option (next m.numbers t packet short long w.0) y (sym (new_of w.0 w.1 w.2) ∙ same))));
+            (subst (λ (l : List Sending). Contains l y) (sym (air_more m.numbers t packet short long w.0))
+            (Contains-append_right (on_air w.0) (option_to_list (next m.numbers t packet short long w.0)) y (of_option (next m.numbers t packet short long w.0) y (sym (new_of w.0 w.1 w.2) ∙ same))));
       }
 
   abbrev sends : Station → Type 0
@@ -111,7 +110,7 @@ module _ (m : MediumState) (is : IsMedium m) (a : Scene) (h : Holds m a) (v : �
   sent_new : (st : Station) → Contains m.stations st → st.node ≡ v → sends (change st)
   sent_new st there node y kept =
       elim (Contains-append_cases (on_air st) (option_to_list (next m.numbers t packet short long st)) y (subst (λ (l : List Sending). Contains l y) (air_more m.numbers t packet short long st) kept)) [
-        inl old ↦ sent_old st there y old
+        | inl old ↦ sent_old st there y old
         | inr now ↦ Contains-append_right a.sendings (option_to_list new) y (subst (λ (o : Option Sending). Contains (option_to_list o) y) (sym (new_of st there node)) now)
       ]
 
@@ -121,11 +120,11 @@ module _ (m : MediumState) (is : IsMedium m) (a : Scene) (h : Holds m a) (v : �
       record {
         numbers = h.numbers;
         orderly = each_after m is change keeps v t (IsOrderly m.numbers t)
-        (λ st there node. orderly_started m.numbers t packet short long m.now st later (h.orderly st there))
-        (λ st there other. orderly_later m.numbers m.now t st st later (h.orderly st there) refl refl refl (order_later m.now t st.tuned st.last later (h.orderly st there).tunings));
+            (λ st there node. orderly_started m.numbers t packet short long m.now st later (h.orderly st there))
+            (λ st there other. orderly_later m.numbers m.now t st st later (h.orderly st there) refl refl refl (order_later m.now t st.tuned st.last later (h.orderly st there).tunings));
         known = λ y there. elim (Contains-append_cases a.sendings (option_to_list new) y there) [
-          inl old ↦ elim (h.known y old) [
-            inl kept ↦ inl (record { station = changed_at v change kept.station; there = is_there m is change keeps v t kept.station kept.there; kept = air_grows kept.station y kept.kept })
+          | inl old ↦ elim (h.known y old) [
+            | inl kept ↦ inl (record { station = changed_at v change kept.station; there = is_there m is change keeps v t kept.station kept.there; kept = air_grows kept.station y kept.kept })
             | inr over ↦ inr (omega arith)
           ]
           | inr now ↦ inl (known_new y (in_option new y now))
@@ -133,5 +132,5 @@ module _ (m : MediumState) (is : IsMedium m) (a : Scene) (h : Holds m a) (v : �
         sent = λ y kept. each_after m is change keeps v t sends sent_new (λ st there other. sent_old st there) kept.station kept.there y kept.kept;
         past = λ k there. let by = h.past k there in omega arith;
         tuned = λ st there. right_by (after t v change m) (record a { sendings = a.sendings ++ option_to_list new }) (ascend_after m is change keeps v t) st there t
-        (each_after m is change keeps v t now_tells (λ s old node. still s old) (λ s old other. still s old) st there);
+            (each_after m is change keeps v t now_tells (λ s old node. still s old) (λ s old other. still s old) st there);
       }

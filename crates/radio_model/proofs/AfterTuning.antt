@@ -1,18 +1,18 @@
 -- What the medium holds after a node is tuned.
-use Rattle.std.proofs.Common.{◌≡◌, ◌≢◌, ℕ, ◌+◌, ◌<◌, ◌≤◌, ◌↔◌, ◌⊎◌, inl, inr, List, ◌++◌, Bool, true, false, Option, Some, None, option_to_list, refl, sym, ◌∙◌, ap, subst, arith, Contains}
+use Rattle.std.proofs.Common.{◌≡◌, ◌≢◌, ℕ, ◌≤◌, inl, inr, List, Option, Some, None, option_to_list, refl, sym, ◌∙◌, ap, subst, arith, Contains}
 use Rattle.std.proofs.lemmas.Bool.{cond_both}
 use Rattle.std.proofs.lemmas.List.Elements.{Contains-append_cases}
 use Rattle.lwb_base.specs.Profile.{Numbers}
 use Rattle.radio_model.specs.OnAir.{Sending, Tuning}
 use Rattle.radio_model.specs.Hearing.{Scene}
 use Rattle.radio_model.specs.Stations.{MediumState, IsMedium, station_of, on_air, is_tuned_to, retuned, tuned_in, tuned_out, after}
-use Rattle.radio_model.specs.Holding.{Holds, IsOrderly, IsOrder, InTurn, closed, tuned_of, after_tuning, longest}
+use Rattle.radio_model.specs.Holding.{Holds, IsOrderly, IsOrder, InTurn, closed, tuned_of, after_tuning}
 use Rattle.radio_model.specs.declared.station.Station.{Station}
 use Rattle.radio_model.proofs.Members.{in_option}
 use Rattle.radio_model.proofs.Changes.{retuned_keeps}
 use Rattle.radio_model.proofs.Tunings.{Tells, tells_later}
 use Rattle.radio_model.proofs.Scenes.{Lit, with_tuning, lit_other, closed_is}
-use Rattle.radio_model.proofs.Retuned.{Told, told_after, order_later, tells_same}
+use Rattle.radio_model.proofs.Retuned.{told_after, order_later, tells_same}
 use Rattle.radio_model.proofs.OneCall.{found_member, tells_by, right_by, past_lit, each_after, ascend_after, kept_on, kept_back}
 
 pub same_air : (rank : Option ℕ) (t : ℕ) (st : Station) → on_air (retuned rank t st) ≡ on_air st
@@ -47,19 +47,18 @@ module _ (m : MediumState) (is : IsMedium m) (a : Scene) (h : Holds m a) (v : �
       let at : ending ≡ closed v rank t st.tuned = ap (λ (o : Option Station). closed v rank t (tuned_of o)) (ap (station_of m) (sym node) ∙ found_member m.stations st is.nodes.ascending there) in
       let old : Tells (Lit a v) st.tuned st.last m.now = subst (λ (n : ℕ). Tells (Lit a n) st.tuned st.last m.now) node (tells_by m a is.nodes.ascending st there m.now (h.tuned st there)) in
       let told = told_after a v m.now t later (λ c k. past_lit m a h v c k) rank st (h.orderly st there).tunings old in
-      let kept : (change st).node ≡ v = (retuned_keeps rank t).node st ∙ node in
-      (
+      let kept : (change st).node ≡ v = (retuned_keeps rank t).node st ∙ node in (
         subst (λ (n : ℕ). Tells (Lit (with_tuning a ending) n) (change st).tuned (change st).last t) (sym kept)
-        (subst (λ (e : Option Tuning). Tells (Lit (with_tuning a e) v) (change st).tuned (change st).last t) (sym at) told.tells),
-        told.order
+            (subst (λ (e : Option Tuning). Tells (Lit (with_tuning a e) v) (change st).tuned (change st).last t) (sym at) told.tells),
+        told.order,
       )
 
   elsewhere : (st : Station) → Contains m.stations st → st.node ≢ v → now_told st
   elsewhere st there other = (
     tells_same (Lit a st.node) (Lit (with_tuning a ending) st.node) st.tuned st.last t
-    (λ c k. lit_other a ending v st.node c k (λ y same. (closed_is v rank t (tuned_of (station_of m v)) y same).node) other)
-    (tells_later (Lit a st.node) st.tuned st.last m.now t later (tells_by m a is.nodes.ascending st there m.now (h.tuned st there))),
-    order_later m.now t st.tuned st.last later (h.orderly st there).tunings
+        (λ c k. lit_other a ending v st.node c k (λ y same. (closed_is v rank t (tuned_of (station_of m v)) y same).node) other)
+        (tells_later (Lit a st.node) st.tuned st.last m.now t later (tells_by m a is.nodes.ascending st there m.now (h.tuned st there))),
+    order_later m.now t st.tuned st.last later (h.orderly st there).tunings,
   )
 
   told_each : (st : Station) → Contains (after t v change m).stations st → now_told st
@@ -69,12 +68,12 @@ module _ (m : MediumState) (is : IsMedium m) (a : Scene) (h : Holds m a) (v : �
   holds_after_tuning = record {
     numbers = h.numbers;
     orderly = each_after m is change (retuned_keeps rank t) v t (IsOrderly m.numbers t)
-    (λ st there node. orderly_later m.numbers m.now t st (change st) later (h.orderly st there) ((retuned_keeps rank t).node st) (same_air rank t st) (same_ended rank t st) (here st there node).1)
-    (λ st there other. orderly_later m.numbers m.now t st st later (h.orderly st there) refl refl refl (elsewhere st there other).1);
+        (λ st there node. orderly_later m.numbers m.now t st (change st) later (h.orderly st there) ((retuned_keeps rank t).node st) (same_air rank t st) (same_ended rank t st) (here st there node).1)
+        (λ st there other. orderly_later m.numbers m.now t st st later (h.orderly st there) refl refl refl (elsewhere st there other).1);
     known = λ y there. elim (h.known y there) [ inl kept ↦ inl (kept_on m is change (retuned_keeps rank t) v t (same_air rank t) y kept) | inr old ↦ inr (omega arith) ];
     sent = λ y kept. h.sent y (kept_back m is change (retuned_keeps rank t) v t (same_air rank t) y kept);
     past = λ k there. elim (Contains-append_cases a.tunings (option_to_list ending) k there) [
-      inl ended ↦ let by = h.past k ended in omega arith
+      | inl ended ↦ let by = h.past k ended in omega arith
       | inr new ↦ omega (arith, (closed_is v rank t (tuned_of (station_of m v)) k (in_option ending k new)).end)
     ];
     tuned = λ st there. right_by (after t v change m) (with_tuning a ending) (ascend_after m is change (retuned_keeps rank t) v t) st there t (told_each st there).0;

@@ -1,14 +1,14 @@
 -- A new medium holds all of a scene in which nothing has happened.
-use Rattle.std.proofs.Common.{◌≡◌, ℕ, ◌+◌, ◌<◌, ◌≤◌, ◌⊎◌, inl, inr, List, [], ◌∷◌, true, Some, None, refl, sym, subst, arith, Contains}
+use Rattle.std.proofs.Common.{◌≡◌, ℕ, ◌+◌, ◌<◌, ◌⊎◌, inl, inr, List, [], ◌∷◌, true, refl, subst, arith, Contains}
 use Rattle.std.proofs.lemmas.Bool.{false≢true}
 use Rattle.lwb_base.specs.Profile.{Numbers, IsProfile}
 use Rattle.link_trace.specs.Masks.{AreNodes}
 use Rattle.link_trace.specs.Passes.{Lines}
-use Rattle.radio_model.specs.OnAir.{Sending, Tuning}
+use Rattle.radio_model.specs.OnAir.{Sending}
 use Rattle.radio_model.specs.Hearing.{IsTuned}
 use Rattle.radio_model.proofs.Tunings.{Goes}
 use Rattle.radio_model.specs.Stations.{MediumState, fresh, stations_from, first_state, on_air, covers}
-use Rattle.radio_model.specs.Holding.{Holds, IsOrderly, TunedFrom, as_it_stands, nothing_yet}
+use Rattle.radio_model.specs.Holding.{Holds, IsOrderly, as_it_stands, nothing_yet}
 use Rattle.radio_model.specs.declared.station.Station.{Station}
 use Rattle.radio_model.proofs.Members.{in_either, not_in_none}
 use Rattle.radio_model.proofs.Places.{first_is_medium}
@@ -36,12 +36,13 @@ module _ (p : Numbers) (nodes : List ℕ) (profile : IsProfile p) (are : AreNode
     sent = λ y kept. absurd (silent kept.station kept.there y kept.kept);
     past = λ k there. absurd (not_in_none k there);
     tuned = λ st there c s t later early.
-    let no_tuning : (k : ℕ) → k < t → IsTuned (as_it_stands m t (nothing_yet p lines)) st.node c k → ⊥ = λ k high is. none_lit st there c k ((stands m (nothing_yet p lines) st t c k (first_is_medium p nodes profile are).nodes.ascending there high).0 is) in
-    (λ all. absurd (no_tuning s early (all s (omega arith) early)), λ so. absurd (none_covers st there c s t so));
+        let no_tuning : (k : ℕ) → k < t → IsTuned (as_it_stands m t (nothing_yet p lines)) st.node c k → ⊥ = λ k high is. none_lit st there c k ((stands m (nothing_yet p lines) st t c k (first_is_medium p nodes profile are).nodes.ascending there high).0 is) in
+        (λ all. absurd (no_tuning s early (all s (omega arith) early)), λ so. absurd (none_covers st there c s t so));
   }
     where
       none_lit : (st : Station) → Contains m.stations st → (c k : ℕ) → IsTuned (nothing_yet p lines) st.node c k ⊎ Goes st.tuned c k → ⊥
       none_lit st there c k (inl is) = not_in_none is.tuning is.there
       none_lit st there c k (inr goes) = each_fresh (λ (s : Station). Goes s.tuned c k → ⊥) (λ v i g. g) st there goes
+
       none_covers : (st : Station) → Contains m.stations st → (c s t : ℕ) → covers st c s t ≡ true → ⊥
       none_covers st there c s t = each_fresh (λ (q : Station). covers q c s t ≡ true → ⊥) (λ v i so. false≢true so) st there

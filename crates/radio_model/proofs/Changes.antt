@@ -1,5 +1,5 @@
 -- The changes that calls make keep the node, its place and its room.
-use Rattle.std.proofs.Common.{◌≡◌, ℕ, List, Option, Some, None, refl, if◌then◌else◌}
+use Rattle.std.proofs.Common.{◌≡◌, ℕ, List, Option, Some, None, refl}
 use Rattle.std.proofs.lemmas.Bool.{cond_both}
 use Rattle.lwb_base.specs.Profile.{Numbers}
 use Rattle.circular_buffer.specs.Buffer.{Buffer}

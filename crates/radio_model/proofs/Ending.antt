@@ -1,7 +1,7 @@
 -- The sending of the station at a place is the node's.
-use Rattle.std.proofs.Common.{◌≡◌, ◌<◌, ◌≤◌, ◌^◌, ℕ, List, length, map, get_or, Option, Some, find, sym, ◌∙◌, ap, subst, arith, AllPairs, IfSome, IsSomeAnd}
+use Rattle.std.proofs.Common.{◌≡◌, ◌<◌, ◌≤◌, ◌^◌, ℕ, List, length, map, get_or, Option, Some, sym, ◌∙◌, ap, subst, arith, AllPairs, IfSome, IsSomeAnd}
 use Rattle.link_trace.specs.Passes.{Lines}
-use Rattle.radio_model.specs.Stations.{MediumState, node_of, is_of, station_of, sending_of, Ends}
+use Rattle.radio_model.specs.Stations.{MediumState, node_of, station_of, sending_of, Ends}
 use Rattle.radio_model.specs.Meetings.{hearers_to}
 use Rattle.radio_model.specs.declared.sending.Sending.{Sending}
 use Rattle.radio_model.specs.declared.station.Station.{Station}

@@ -1,21 +1,20 @@
 -- Whom the medium names hears, and who hears it names.
-use Rattle.std.proofs.Common.{◌≡◌, ◌≢◌, ℕ, ◌+◌, ◌*◌, ◌/◌, ◌<◌, ◌≤◌, ◌↔◌, ◌⊎◌, inl, inr, List, [], ◌∷◌, map, length, get_or, Bool, true, false, not, ◌&&◌, ◌||◌, ◌==◌, if◌then◌else◌, Option, Some, None, filter_map, refl, sym, ◌∙◌, ap, subst, arith, eq-eqb, Contains, All, AllPairs}
-use Rattle.std.proofs.lemmas.Bool.{and_parts, and_from, eqb-true, cases_Bool, both_ways, not-true, not-false, not_from_false, not_from_true, false_from_ne_true, false≢true, true≢false}
-use Rattle.std.proofs.lemmas.List.Elements.{Contains-get_or}
+use Rattle.std.proofs.Common.{◌≡◌, ℕ, ◌+◌, ◌*◌, ◌/◌, ◌<◌, ◌≤◌, ◌↔◌, ◌⊎◌, inl, inr, List, length, Bool, true, false, not, ◌&&◌, ◌==◌, if◌then◌else◌, Option, Some, None, refl, sym, ◌∙◌, ap, subst, arith, eq-eqb, Contains}
+use Rattle.std.proofs.lemmas.Bool.{and_parts, and_from, eqb-true, cases_Bool, both_ways, not-true, not_from_false, false_from_ne_true, false≢true, true≢false}
 use Rattle.std.proofs.Math.Nat.{mul-le-mul_right}
 use Rattle.std.specs.List.{list_any}
-use Rattle.lwb_base.specs.Profile.{Numbers, IsProfile, airtime, one, contended}
+use Rattle.lwb_base.specs.Profile.{Numbers, IsProfile}
 use Rattle.link_trace.specs.Passes.{Lines, passes, captured}
 use Rattle.radio_model.specs.OnAir.{Sending}
-use Rattle.radio_model.specs.Hearing.{Scene, Hears, Rival as RivalIn, Captured, Captures, Arrives, Meets, Before, Alone as AloneIn, frame_of, slot_of, counter_of}
-use Rattle.radio_model.specs.Stations.{MediumState, IsMedium, node_of, nodes_of, station_of, sending_of, on_air, overlaps, covers}
+use Rattle.radio_model.specs.Hearing.{Scene, Hears, Rival as RivalIn, Arrives, Meets, Before, slot_of, counter_of}
+use Rattle.radio_model.specs.Stations.{MediumState, IsMedium, node_of, nodes_of, on_air, overlaps, covers}
 use Rattle.radio_model.specs.Meetings.{key_of, rivals_to, reaches, spoils, differs, comes_from, crowd_of, is_chosen, is_clear, is_heard, heard_by, hearers_to, passes_at}
 use Rattle.radio_model.specs.Holding.{Holds, IsKept, IsOwn, as_it_stands, longest}
 use Rattle.radio_model.specs.declared.rivals.Key.{Key}
 use Rattle.radio_model.specs.declared.rivals.Rival.{Rival}
 use Rattle.radio_model.specs.declared.rivals.Crowd.TheVariants.{Alone, Mixed, Spoiled}
 use Rattle.radio_model.specs.declared.station.Station.{Station}
-use Rattle.radio_model.proofs.Members.{in_map, from_map, in_filter, from_filter, any_of, some_of, pairs_cons, pairs_tail, pairs_head, not_in_none}
+use Rattle.radio_model.proofs.Members.{in_map, from_map, in_filter, from_filter, any_of, some_of}
 use Rattle.radio_model.proofs.Places.{one_station}
 use Rattle.radio_model.proofs.RivalFacts.{meets_true, meets_from, same_true, same_from, before_true, before_from, rival, in_rivals, from_rivals, Comes}
 
@@ -94,7 +93,7 @@ module _ (m : MediumState) (is : IsMedium m) (a : Scene) (h : Holds m a) (u : �
   kept_meeting : (y : Sending) → Contains a.sendings y → Meets x y → IsKept m y
   kept_meeting y sent meets =
       elim (h.known y sent) [
-        inl kept ↦ kept
+        | inl kept ↦ kept
         | inr over ↦ let long = not_long p su.node x own_x in let before = meets.before in absurd (omega arith)
       ]
 
@@ -152,7 +151,7 @@ module _ (m : MediumState) (is : IsMedium m) (a : Scene) (h : Holds m a) (u : �
     whole q =
         and_from (covers st x.rank x.start x.end && not (list_any (overlaps x) (on_air st)) && passes_at a.lines key u v) (is_clear a.lines v key rs (crowd_of a.lines v rs))
         (and_from (covers st x.rank x.start x.end && not (list_any (overlaps x) (on_air st))) (passes_at a.lines key u v)
-          (and_from (covers st x.rank x.start x.end) (not (list_any (overlaps x) (on_air st))) q.tuned (not_from_false (list_any (overlaps x) (on_air st)) q.quiet)) q.arrives)
+        (and_from (covers st x.rank x.start x.end) (not (list_any (overlaps x) (on_air st))) q.tuned (not_from_false (list_any (overlaps x) (on_air st)) q.quiet)) q.arrives)
         (clear_from a.lines v key rs (list_any (spoils a.lines v) rs) (list_any (differs a.lines v) rs) q.clean q.chosen)
 
     early : x.start < x.end
@@ -166,10 +165,10 @@ module _ (m : MediumState) (is : IsMedium m) (a : Scene) (h : Holds m a) (u : �
         let f = find_rival v y r in
         let w = rival p x f.station y in
         elim (cases_Bool w.in_time) [
-          inl so ↦ before_true p x y so
+          | inl so ↦ before_true p x y so
           | inr late ↦
-          absurd (both_ways (spoils a.lines v w) (none_any (spoils a.lines v) rs w q.clean f.in_it)
-            (and_from (reaches a.lines v w && w.same) (not w.in_time) (and_from (reaches a.lines v w) w.same f.reaches_it (same_from y x same)) (not_from_false w.in_time late)))
+              absurd (both_ways (spoils a.lines v w) (none_any (spoils a.lines v) rs w q.clean f.in_it)
+              (and_from (reaches a.lines v w && w.same) (not w.in_time) (and_from (reaches a.lines v w) w.same f.reaches_it (same_from y x same)) (not_from_false w.in_time late)))
         ]
 
     heard_hears : heard ≡ true → Hears scene v x
@@ -179,33 +178,33 @@ module _ (m : MediumState) (is : IsMedium m) (a : Scene) (h : Holds m a) (u : �
           sent = h.sent x (record { station = su; there = su_there; kept = x_kept });
           tuned = (h.tuned st there x.rank x.start x.end later early).1 q.tuned;
           silent = λ y sent own meets.
-          let k = kept_meeting y sent meets in
-          let same : k.station ≡ st = one_station m.stations is.nodes.ascending k.station st k.there there (sym ((h.orderly k.station k.there).own y k.kept).node ∙ own) in
-          both_ways (list_any (overlaps x) (on_air st)) q.quiet (any_of (overlaps x) (on_air st) y (subst (λ (s : Station). Contains (on_air s) y) same k.kept) (meets_from x y meets));
+              let k = kept_meeting y sent meets in
+              let same : k.station ≡ st = one_station m.stations is.nodes.ascending k.station st k.there there (sym ((h.orderly k.station k.there).own y k.kept).node ∙ own) in
+              both_ways (list_any (overlaps x) (on_air st)) q.quiet (any_of (overlaps x) (on_air st) y (subst (λ (s : Station). Contains (on_air s) y) same k.kept) (meets_from x y meets));
           arrives = key_arrives q.arrives;
           first = λ y r same. (in_time q y r same).0;
           close = λ y r same. subst (λ (n : Numbers). y.start ≤ x.start + n.delta) (sym h.numbers) (in_time q y r same).1;
           chosen = elim q.chosen [
-            inl none ↦ inl (λ y r.
-              let f = find_rival v y r in
-              let w = rival p x f.station y in
-              elim (cases_Bool w.same) [
-                inl same ↦ same_true y x same
-                | inr other ↦ absurd (both_ways (differs a.lines v w) (none_any (differs a.lines v) rs w none f.in_it) (and_from (reaches a.lines v w) (not w.same) f.reaches_it (not_from_false w.same other)))
-              ])
+            | inl none ↦ inl (λ y r.
+                let f = find_rival v y r in
+                let w = rival p x f.station y in
+                elim (cases_Bool w.same) [
+                  | inl same ↦ same_true y x same
+                  | inr other ↦ absurd (both_ways (differs a.lines v w) (none_any (differs a.lines v) rs w none f.in_it) (and_from (reaches a.lines v w) (not w.same) f.reaches_it (not_from_false w.same other)))
+                ])
             | inr named ↦
-            let o = chosen_parts a.lines v rs (captured a.lines key.frame key.slot key.counter v) named in
-            let s = some_of (comes_from a.lines v o.0) rs o.2 in
-            let c = from_rivals p x m.stations s.0 s.1 in
-            let three = and_parts (reaches a.lines v s.0 && s.0.same) (s.0.node == o.0) s.2 in
-            let two = and_parts (reaches a.lines v s.0) s.0.same three.0 in
-            let sender : c.sending.node ≡ o.0 = ((h.orderly c.station c.there).own c.sending c.kept).node ∙ ap (λ (r : Rival). r.node) c.is ∙ eqb-true s.0.node o.0 three.1 in
-            inr (record {
-              winner = c.sending;
-              rival = rival_back v s.0 c two.0;
-              same = same_true c.sending x (ap (λ (r : Rival). r.same) c.is ∙ two.1);
-              named = ap (λ (n : Numbers). captured a.lines (x.start / n.frame) (slot_of x) (counter_of x) v) h.numbers ∙ o.1 ∙ ap (λ (n : ℕ). Some n) (sym sender);
-            })
+                let o = chosen_parts a.lines v rs (captured a.lines key.frame key.slot key.counter v) named in
+                let s = some_of (comes_from a.lines v o.0) rs o.2 in
+                let c = from_rivals p x m.stations s.0 s.1 in
+                let three = and_parts (reaches a.lines v s.0 && s.0.same) (s.0.node == o.0) s.2 in
+                let two = and_parts (reaches a.lines v s.0) s.0.same three.0 in
+                let sender : c.sending.node ≡ o.0 = ((h.orderly c.station c.there).own c.sending c.kept).node ∙ ap (λ (r : Rival). r.node) c.is ∙ eqb-true s.0.node o.0 three.1 in
+                inr (record {
+                  winner = c.sending;
+                  rival = rival_back v s.0 c two.0;
+                  same = same_true c.sending x (ap (λ (r : Rival). r.same) c.is ∙ two.1);
+                  named = ap (λ (n : Numbers). captured a.lines (x.start / n.frame) (slot_of x) (counter_of x) v) h.numbers ∙ o.1 ∙ ap (λ (n : ℕ). Some n) (sym sender);
+                })
           ];
         }
 
@@ -213,32 +212,32 @@ module _ (m : MediumState) (is : IsMedium m) (a : Scene) (h : Holds m a) (u : �
     hears_heard hears = whole (record {
       tuned = (h.tuned st there x.rank x.start x.end later early).0 hears.tuned;
       quiet = false_from_ne_true (list_any (overlaps x) (on_air st)) (λ some.
-        let y = some_of (overlaps x) (on_air st) some in
-        hears.silent y.0 (h.sent y.0 (record { station = st; there = there; kept = y.1 })) ((h.orderly st there).own y.0 y.1).node (meets_true x y.0 y.2));
+          let y = some_of (overlaps x) (on_air st) some in
+          hears.silent y.0 (h.sent y.0 (record { station = st; there = there; kept = y.1 })) ((h.orderly st there).own y.0 y.1).node (meets_true x y.0 y.2));
       arrives = ap (λ (n : ℕ). passes_at a.lines key n v) (sym su_node) ∙ reach_on su x v su_there x_kept hears.arrives;
       clean = false_from_ne_true (list_any (spoils a.lines v) rs) (λ some.
-        let s = some_of (spoils a.lines v) rs some in
-        let c = from_rivals p x m.stations s.0 s.1 in
-        let three = and_parts (reaches a.lines v s.0 && s.0.same) (not s.0.in_time) s.2 in
-        let two = and_parts (reaches a.lines v s.0) s.0.same three.0 in
-        let r = rival_back v s.0 c two.0 in
-        let same = same_true c.sending x (ap (λ (w : Rival). w.same) c.is ∙ two.1) in
-        let timely = before_from p x c.sending (hears.first c.sending r same) (subst (λ (n : Numbers). c.sending.start ≤ x.start + n.delta) h.numbers (hears.close c.sending r same)) in
-        both_ways s.0.in_time (not-true s.0.in_time three.1) (ap (λ (w : Rival). w.in_time) (sym c.is) ∙ timely));
-      chosen = elim hears.chosen [
-        inl alone ↦ inl (false_from_ne_true (list_any (differs a.lines v) rs) (λ some.
-          let s = some_of (differs a.lines v) rs some in
+          let s = some_of (spoils a.lines v) rs some in
           let c = from_rivals p x m.stations s.0 s.1 in
-          let two = and_parts (reaches a.lines v s.0) (not s.0.same) s.2 in
-          let same = alone c.sending (rival_back v s.0 c two.0) in
-          both_ways s.0.same (not-true s.0.same two.1) (ap (λ (w : Rival). w.same) (sym c.is) ∙ same_from c.sending x same)))
+          let three = and_parts (reaches a.lines v s.0 && s.0.same) (not s.0.in_time) s.2 in
+          let two = and_parts (reaches a.lines v s.0) s.0.same three.0 in
+          let r = rival_back v s.0 c two.0 in
+          let same = same_true c.sending x (ap (λ (w : Rival). w.same) c.is ∙ two.1) in
+          let timely = before_from p x c.sending (hears.first c.sending r same) (subst (λ (n : Numbers). c.sending.start ≤ x.start + n.delta) h.numbers (hears.close c.sending r same)) in
+          both_ways s.0.in_time (not-true s.0.in_time three.1) (ap (λ (w : Rival). w.in_time) (sym c.is) ∙ timely));
+      chosen = elim hears.chosen [
+        | inl alone ↦ inl (false_from_ne_true (list_any (differs a.lines v) rs) (λ some.
+            let s = some_of (differs a.lines v) rs some in
+            let c = from_rivals p x m.stations s.0 s.1 in
+            let two = and_parts (reaches a.lines v s.0) (not s.0.same) s.2 in
+            let same = alone c.sending (rival_back v s.0 c two.0) in
+            both_ways s.0.same (not-true s.0.same two.1) (ap (λ (w : Rival). w.same) (sym c.is) ∙ same_from c.sending x same)))
         | inr won ↦
-        let f = find_rival v won.winner won.rival in
-        let w = rival p x f.station won.winner in
-        let sender : w.node ≡ won.winner.node = sym ((h.orderly f.station f.there).own won.winner f.kept).node in
-        inr (chosen_from a.lines v rs (captured a.lines key.frame key.slot key.counter v) won.winner.node
-          (ap (λ (n : Numbers). captured a.lines (x.start / n.frame) (slot_of x) (counter_of x) v) (sym h.numbers) ∙ won.named)
-          (any_of (comes_from a.lines v won.winner.node) rs w f.in_it
+            let f = find_rival v won.winner won.rival in
+            let w = rival p x f.station won.winner in
+            let sender : w.node ≡ won.winner.node = sym ((h.orderly f.station f.there).own won.winner f.kept).node in
+            inr (chosen_from a.lines v rs (captured a.lines key.frame key.slot key.counter v) won.winner.node
+            (ap (λ (n : Numbers). captured a.lines (x.start / n.frame) (slot_of x) (counter_of x) v) (sym h.numbers) ∙ won.named)
+            (any_of (comes_from a.lines v won.winner.node) rs w f.in_it
             (and_from (reaches a.lines v w && w.same) (w.node == won.winner.node) (and_from (reaches a.lines v w) w.same f.reaches_it (same_from won.winner x won.same)) (eq-eqb w.node won.winner.node sender))))
       ];
     })
@@ -250,13 +249,13 @@ module _ (m : MediumState) (is : IsMedium m) (a : Scene) (h : Holds m a) (u : �
   pub hearers_are : (w : ℕ) → Contains (hearers_to p a.lines u x m.stations) (w, u) ↔ (Contains (nodes_of m) w × Hears scene w x)
   hearers_are w = (
     λ there.
-    let s = from_filter (heard_by a.lines u x key rs) m.stations (w, u) there in
-    let both = of_heard (is_heard a.lines u x key rs s.0) s.0.node (w, u) s.2 in
-    let node : s.0.node ≡ w = sym (ap (λ (q : ℕ × ℕ). q.0) both.1) in
-    (subst (Contains (nodes_of m)) node (in_map node_of m.stations s.0 s.1), subst (λ (n : ℕ). Hears scene n x) node (heard_hears s.0 s.1 both.0)),
+        let s = from_filter (heard_by a.lines u x key rs) m.stations (w, u) there in
+        let both = of_heard (is_heard a.lines u x key rs s.0) s.0.node (w, u) s.2 in
+        let node : s.0.node ≡ w = sym (ap (λ (q : ℕ × ℕ). q.0) both.1) in
+        (subst (Contains (nodes_of m)) node (in_map node_of m.stations s.0 s.1), subst (λ (n : ℕ). Hears scene n x) node (heard_hears s.0 s.1 both.0)),
     λ is_one.
-    let s = from_map node_of m.stations w is_one.0 in
-    let so : is_heard a.lines u x key rs s.0 ≡ true = hears_heard s.0 s.1 (subst (λ (n : ℕ). Hears scene n x) (sym s.2) is_one.1) in
-    in_filter (heard_by a.lines u x key rs) m.stations s.0 (w, u) s.1
-    (ap (λ (b : Bool). let some : Option (ℕ × ℕ) = if b then Some (s.0.node, u) else None in some) so ∙ ap (λ (n : ℕ). let some : Option (ℕ × ℕ) = Some (n, u) in some) s.2)
+        let s = from_map node_of m.stations w is_one.0 in
+        let so : is_heard a.lines u x key rs s.0 ≡ true = hears_heard s.0 s.1 (subst (λ (n : ℕ). Hears scene n x) (sym s.2) is_one.1) in
+        in_filter (heard_by a.lines u x key rs) m.stations s.0 (w, u) s.1
+        (ap (λ (b : Bool). let some : Option (ℕ × ℕ) = if b then Some (s.0.node, u) else None in some) so ∙ ap (λ (n : ℕ). let some : Option (ℕ × ℕ) = Some (n, u) in some) s.2),
   )

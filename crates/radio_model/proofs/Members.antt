@@ -1,5 +1,5 @@
 -- What a list has, after a map and after a choice of some.
-use Rattle.std.proofs.Common.{◌≡◌, ℕ, zero, suc, ◌+◌, ◌<◌, ◌≤◌, ◌⊎◌, inl, inr, List, [], ◌∷◌, ◌++◌, length, map, get_or, Option, Some, None, filter_map, option_to_list, refl, sym, ◌∙◌, ap, subst, arith, Contains, Bool, true, false, ◌||◌, AllPairs}
+use Rattle.std.proofs.Common.{◌≡◌, zero, suc, ◌⊎◌, inl, inr, List, [], ◌∷◌, map, get_or, Option, Some, None, filter_map, option_to_list, refl, sym, ◌∙◌, ap, subst, arith, Contains, Bool, true, AllPairs}
 use Rattle.std.proofs.lemmas.List.Elements.{Contains-append_left, Contains-append_right, Contains-append_cases, Contains-get_or}
 use Rattle.std.proofs.lemmas.Bool.{or_cases, or_left, or_right, false≢true}
 use Rattle.std.specs.List.{cons_option, flat_map, list_any}
@@ -21,7 +21,7 @@ pub in_map : {X Y : Type 0} (f : X → Y) (xs : List X) (x : X) → Contains xs 
 in_map f [] x there = absurd (not_in_none x there)
 in_map f (y ∷ xs) x there =
     elim (in_either xs y x there) [
-      inl is ↦ subst (λ (z : _). Contains (f y ∷ map f xs) z) (ap f is) (in_head (map f xs) (f y))
+      | inl is ↦ subst (λ (z : _). Contains (f y ∷ map f xs) z) (ap f is) (in_head (map f xs) (f y))
       | inr rest ↦ in_tail (map f xs) (f y) (f x) (in_map f xs x rest)
     ]
 
@@ -29,7 +29,7 @@ pub from_map : {X Y : Type 0} (f : X → Y) (xs : List X) (y : Y) → Contains (
 from_map f [] y there = absurd (not_in_none y there)
 from_map f (x ∷ xs) y there =
     elim (in_either (map f xs) (f x) y there) [
-      inl is ↦ (x, in_head xs x, is)
+      | inl is ↦ (x, in_head xs x, is)
       | inr rest ↦ let w = from_map f xs y rest in (w.0, in_tail xs x w.0 w.1, w.2)
     ]
 
@@ -44,7 +44,7 @@ pub in_filter : {X Y : Type 0} (f : X → Option Y) (xs : List X) (x : X) (y : Y
 in_filter f [] x y there is = absurd (not_in_none x there)
 in_filter {X} {Y} f (z ∷ xs) x y there is =
     elim (in_either xs z x there) [
-      inl here ↦ subst (λ (o : Option Y). Contains (cons_option o (filter_map f xs)) y) (sym (ap f here ∙ is)) (in_head (filter_map f xs) y)
+      | inl here ↦ subst (λ (o : Option Y). Contains (cons_option o (filter_map f xs)) y) (sym (ap f here ∙ is)) (in_head (filter_map f xs) y)
       | inr rest ↦ behind (f z) (filter_map f xs) y (in_filter f xs x y rest is)
     ]
   where
@@ -56,7 +56,7 @@ pub from_filter : {X Y : Type 0} (f : X → Option Y) (xs : List X) (y : Y) → 
 from_filter f [] y there = absurd (not_in_none y there)
 from_filter {X} {Y} f (x ∷ xs) y there =
     elim (either (f x) (filter_map f xs) there) [
-      inl is ↦ (x, in_head xs x, is)
+      | inl is ↦ (x, in_head xs x, is)
       | inr rest ↦ let w = from_filter f xs y rest in (w.0, in_tail xs x w.0 w.1, w.2)
     ]
   where
@@ -68,7 +68,7 @@ pub in_flat : {X Y : Type 0} (f : X → List Y) (xs : List X) (x : X) (y : Y) �
 in_flat f [] x y there in_it = absurd (not_in_none x there)
 in_flat {X} {Y} f (z ∷ xs) x y there in_it =
     elim (in_either xs z x there) [
-      inl is ↦ Contains-append_left (f z) (flat_map f xs) y (subst (λ (w : X). Contains (f w) y) (sym is) in_it)
+      | inl is ↦ Contains-append_left (f z) (flat_map f xs) y (subst (λ (w : X). Contains (f w) y) (sym is) in_it)
       | inr rest ↦ Contains-append_right (f z) (flat_map f xs) y (in_flat f xs x y rest in_it)
     ]
 
@@ -76,7 +76,7 @@ pub from_flat : {X Y : Type 0} (f : X → List Y) (xs : List X) (y : Y) → Cont
 from_flat f [] y there = absurd (not_in_none y there)
 from_flat f (x ∷ xs) y there =
     elim (Contains-append_cases (f x) (flat_map f xs) y there) [
-      inl here ↦ (x, in_head xs x, here)
+      | inl here ↦ (x, in_head xs x, here)
       | inr rest ↦ let w = from_flat f xs y rest in (w.0, in_tail xs x w.0 w.1, w.2)
     ]
 
@@ -84,7 +84,7 @@ pub any_of : {X : Type 0} (test : X → Bool) (xs : List X) (x : X) → Contains
 any_of test [] x there is = absurd (not_in_none x there)
 any_of test (y ∷ xs) x there is =
     elim (in_either xs y x there) [
-      inl same ↦ or_left (test y) (list_any test xs) (ap test same ∙ is)
+      | inl same ↦ or_left (test y) (list_any test xs) (ap test same ∙ is)
       | inr rest ↦ or_right (test y) (list_any test xs) (any_of test xs x rest is)
     ]
 
@@ -92,7 +92,7 @@ pub some_of : {X : Type 0} (test : X → Bool) (xs : List X) → list_any test x
 some_of test [] is = absurd (false≢true is)
 some_of test (x ∷ xs) is =
     elim (or_cases (test x) (list_any test xs) is) [
-      inl here ↦ (x, in_head xs x, here)
+      | inl here ↦ (x, in_head xs x, here)
       | inr rest ↦ let w = some_of test xs rest in (w.0, in_tail xs x w.0 w.1, w.2)
     ]
 

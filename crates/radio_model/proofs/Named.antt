@@ -1,5 +1,5 @@
 -- Those that the medium names are those that hear.
-use Rattle.std.proofs.Common.{◌≡◌, ℕ, ◌<◌, ◌≤◌, ◌↔◌, List, Option, Some, option_to_list, refl, sym, ◌∙◌, ap, subst, arith, Contains, All, AllPairs, IfSome}
+use Rattle.std.proofs.Common.{◌≡◌, ℕ, ◌<◌, ◌≤◌, ◌↔◌, List, Option, Some, option_to_list, sym, ◌∙◌, ap, subst, arith, Contains, All, AllPairs, IfSome}
 use Rattle.std.proofs.lemmas.List.Elements.{Contains-append_right}
 use Rattle.link_trace.specs.Passes.{Lines}
 use Rattle.radio_model.specs.OnAir.{Sending}
@@ -7,7 +7,6 @@ use Rattle.radio_model.specs.Hearing.{Scene, Hears}
 use Rattle.radio_model.specs.Stations.{MediumState, IsMedium, node_of, nodes_of, station_of, sending_of, Ends}
 use Rattle.radio_model.specs.Meetings.{hearers_to, is_heard, key_of, rivals_to}
 use Rattle.radio_model.specs.Holding.{Holds, as_it_stands}
-use Rattle.radio_model.specs.declared.station.Station.{Station}
 use Rattle.radio_model.proofs.Members.{from_map, of_option}
 use Rattle.radio_model.proofs.OneCall.{found_member}
 use Rattle.radio_model.proofs.Heard.{hearers_are}

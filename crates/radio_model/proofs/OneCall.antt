@@ -1,14 +1,14 @@
 -- What the medium holds, before and after a call that changes the station of one node.
-use Rattle.std.proofs.Common.{◌≡◌, ◌≢◌, ℕ, ◌+◌, ◌<◌, ◌≤◌, ◌↔◌, ◌⊎◌, inl, inr, List, [], ◌∷◌, ◌++◌, map, Bool, true, false, ◌==◌, if◌then◌else◌, Option, Some, None, find, refl, sym, ◌∙◌, ap, subst, arith, Contains, AllPairs}
-use Rattle.std.proofs.lemmas.Bool.{cond_both, eqb-true, eqb-false, eq-eqb, cond-true, cond-false}
+use Rattle.std.proofs.Common.{◌≡◌, ◌≢◌, ℕ, ◌<◌, ◌≤◌, ◌↔◌, List, map, true, ◌==◌, Some, find, refl, sym, ◌∙◌, ap, subst, arith, Contains, AllPairs}
+use Rattle.std.proofs.lemmas.Bool.{cond_both, eqb-true, eqb-false, eq-eqb, cond-true}
 use Rattle.radio_model.specs.OnAir.{Sending, Tuning}
-use Rattle.radio_model.specs.Hearing.{Scene, IsTuned}
-use Rattle.radio_model.specs.Stations.{MediumState, IsMedium, node_of, nodes_of, is_of, station_of, on_air, covers, changed_at, after}
-use Rattle.radio_model.specs.Holding.{Holds, IsKept, IsOrderly, IsOwn, IsOrder, TunedFrom, as_it_stands, longest}
+use Rattle.radio_model.specs.Hearing.{Scene}
+use Rattle.radio_model.specs.Stations.{MediumState, IsMedium, node_of, is_of, on_air, covers, changed_at, after}
+use Rattle.radio_model.specs.Holding.{Holds, IsKept, TunedFrom, as_it_stands}
 use Rattle.radio_model.specs.declared.station.Station.{Station}
 use Rattle.radio_model.proofs.Members.{in_map, from_map}
-use Rattle.radio_model.proofs.Places.{found, one_station, Keeps, still_medium, node_kept}
-use Rattle.radio_model.proofs.Tunings.{Tells, Goes, All_lit}
+use Rattle.radio_model.proofs.Places.{found, Keeps, still_medium}
+use Rattle.radio_model.proofs.Tunings.{Tells}
 use Rattle.radio_model.proofs.Scenes.{Lit, stands}
 
 -- the node's station is the one that is found
@@ -27,13 +27,13 @@ module _ (m : MediumState) (a : Scene) (ascend : AllPairs (λ a b. a < b) (map n
   pub tells_by : (now : ℕ) → Tuned_right now → Tells (Lit a st.node) st.tuned st.last now
   tells_by now right c s t later early = (
     λ all. (right c s t later early).0 (λ k low high. (stands m a st t c k ascend there high).1 (all k low high)),
-    λ is k low high. (stands m a st t c k ascend there high).0 ((right c s t later early).1 is k low high)
+    λ is k low high. (stands m a st t c k ascend there high).0 ((right c s t later early).1 is k low high),
   )
 
   pub right_by : (now : ℕ) → Tells (Lit a st.node) st.tuned st.last now → Tuned_right now
   right_by now tells c s t later early = (
     λ all. (tells c s t later early).0 (λ k low high. (stands m a st t c k ascend there high).0 (all k low high)),
-    λ is k low high. (stands m a st t c k ascend there high).1 ((tells c s t later early).1 is k low high)
+    λ is k low high. (stands m a st t c k ascend there high).1 ((tells c s t later early).1 is k low high),
   )
 
 pub past_lit : (m : MediumState) (a : Scene) → Holds m a → (v c k : ℕ) → Lit a v c k → k < m.now

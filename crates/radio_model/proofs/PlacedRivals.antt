@@ -1,9 +1,9 @@
 -- Rivals name their senders by place and node.
-use Rattle.std.proofs.Common.{◌≡◌, ◌+◌, ◌<◌, ◌≤◌, ℕ, List, [], ◌∷◌, ◌++◌, length, map, get_or, Option, Some, None, filter_map, refl, sym, ◌∙◌, ap, subst, arith, All, AllPairs, Bool, true, false, if◌then◌else◌, ◌==◌, ◌&&◌}
+use Rattle.std.proofs.Common.{◌≡◌, ℕ, List, [], ◌∷◌, length, get_or, Some, None, filter_map, ◌∙◌, ap, arith, All, Bool, true, false, if◌then◌else◌, ◌==◌, ◌&&◌}
 use Rattle.std.proofs.lemmas.List.{get_or-map, length-map}
 use Rattle.std.proofs.lemmas.List.Elements.{All-nil, All-cons, All-head, All-tail, All-append}
 use Rattle.std.specs.Str.{bytes_eq}
-use Rattle.std.specs.List.{cons_option, flat_map}
+use Rattle.std.specs.List.{cons_option}
 use Rattle.lwb_base.specs.Profile.{Numbers}
 use Rattle.radio_model.specs.Stations.{MediumState, IsMedium, node_of, nodes_of, on_air, overlaps}
 use Rattle.radio_model.specs.Meetings.{IsPlaced, key_of, comes_in_time, rival_to, rivals_in, rivals_to}

@@ -1,11 +1,11 @@
 -- The stations at their places, and a change of one of them.
-use Rattle.std.proofs.Common.{◌≡◌, ◌≢◌, ◌+◌, ◌<◌, ◌≤◌, ℕ, zero, suc, List, [], ◌∷◌, ◌++◌, length, take, set, map, get_or, Option, Some, None, find, refl, sym, ◌∙◌, ap, subst, arith, Contains, All, Bool, true, false, cond, ◌==◌, if◌then◌else◌, eq-eqb, add-zero, add-one, inl, inr, AllPairs}
-use Rattle.std.proofs.lemmas.List.{take_more, take_all, length-take-le, get_or-map, length-map, same_lists, length-set, get_or-set_same, get_or-set_other}
+use Rattle.std.proofs.Common.{◌≡◌, ◌+◌, ◌<◌, ℕ, zero, suc, List, [], ◌∷◌, ◌++◌, length, take, set, map, get_or, Some, find, refl, sym, ◌∙◌, ap, subst, arith, Contains, ◌==◌, eq-eqb, inl, inr, AllPairs}
+use Rattle.std.proofs.lemmas.List.{take_more, length-take-le, get_or-map, length-map, same_lists, length-set, get_or-set_same, get_or-set_other}
 use Rattle.std.proofs.lemmas.List.Elements.{All-map}
-use Rattle.std.proofs.lemmas.Bool.{cond-true, cond-false, cond_both, cases_eq, cases_order, ne_eqb, eqb-true}
+use Rattle.std.proofs.lemmas.Bool.{cond-true, cond-false, cond_both, cases_eq, cases_order, ne_eqb}
 use Rattle.lwb_base.specs.Profile.{Numbers, IsProfile}
 use Rattle.link_trace.specs.Masks.{AreNodes}
-use Rattle.radio_model.specs.Stations.{MediumState, IsMedium, node_of, nodes_of, is_of, changed_at, after, fresh, stations_from, first_state}
+use Rattle.radio_model.specs.Stations.{MediumState, IsMedium, node_of, is_of, changed_at, after, fresh, stations_from, first_state}
 use Rattle.radio_model.specs.declared.station.Station.{Station}
 
 -- no node stands at two places
@@ -15,9 +15,9 @@ apart xs ascend i j d left right same =
     let at_j = get_or-map node_of xs j d 0 right in
     let long = length-map xs node_of in
     elim (cases_order i j) [
-      inl is ↦ is
+      | inl is ↦ is
       | inr less ↦ elim less [
-        inl before ↦ let up = ascend i j 0 before (omega arith) in absurd (omega arith)
+        | inl before ↦ let up = ascend i j 0 before (omega arith) in absurd (omega arith)
         | inr behind ↦ let up = ascend j i 0 behind (omega arith) in absurd (omega arith)
       ]
     ]
@@ -42,18 +42,19 @@ changed_there f xs ascend v i old new below at is change =
   where
     node_there : (d : Station) → (get_or xs i d).node ≡ v
     node_there d = sym (get_or-map node_of xs i d v below) ∙ get_or-map node_of xs i old v below ∙ ap node_of (sym at) ∙ is
+
     each : (k : ℕ) (d : Station) → k < length xs → get_or (set xs i new) k d ≡ get_or (map (changed_at v f) xs) k d
     each k d within =
         elim (cases_eq k i) [
-          inl here ↦
-          ap (λ (n : ℕ). get_or (set xs i new) n d) here ∙ get_or-set_same xs i new d below ∙ change
-          ∙ sym (cond-true (old.node == v) (f old) old (eq-eqb old.node v is))
-          ∙ ap (changed_at v f) at
-          ∙ sym (get_or-map (changed_at v f) xs i old d below) ∙ ap (λ (n : ℕ). get_or (map (changed_at v f) xs) n d) (sym here)
+          | inl here ↦
+              ap (λ (n : ℕ). get_or (set xs i new) n d) here ∙ get_or-set_same xs i new d below ∙ change
+              ∙ sym (cond-true (old.node == v) (f old) old (eq-eqb old.node v is))
+              ∙ ap (changed_at v f) at
+              ∙ sym (get_or-map (changed_at v f) xs i old d below) ∙ ap (λ (n : ℕ). get_or (map (changed_at v f) xs) n d) (sym here)
           | inr there ↦
-          get_or-set_other xs i k new d there
-          ∙ sym (cond-false ((get_or xs k d).node == v) (f (get_or xs k d)) (get_or xs k d) (ne_eqb (get_or xs k d).node v (λ e. there (apart xs ascend k i d within below (e ∙ sym (node_there d))))))
-          ∙ sym (get_or-map (changed_at v f) xs k d d within)
+              get_or-set_other xs i k new d there
+              ∙ sym (cond-false ((get_or xs k d).node == v) (f (get_or xs k d)) (get_or xs k d) (ne_eqb (get_or xs k d).node v (λ e. there (apart xs ascend k i d within below (e ∙ sym (node_there d))))))
+              ∙ sym (get_or-map (changed_at v f) xs k d d within)
         ]
 
 -- the node's station is found

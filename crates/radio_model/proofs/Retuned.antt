@@ -1,6 +1,6 @@
 -- A call to tune a node keeps what the medium tells of its tunings.
-use Rattle.std.proofs.Common.{◌≡◌, ◌≢◌, ℕ, ◌<◌, ◌≤◌, ◌↔◌, ◌⊎◌, inl, inr, Bool, true, false, ◌&&◌, ◌==◌, nat_lt, if◌then◌else◌, Option, Some, None, refl, sym, ◌∙◌, ap, subst, arith, eq-eqb}
-use Rattle.std.proofs.lemmas.Bool.{cases_lt, cond_both, cond-true, cond-false, ltb-true, ltb-false, and_parts, and_from, eqb-true, both_ways}
+use Rattle.std.proofs.Common.{◌≡◌, ℕ, ◌<◌, ◌≤◌, ◌↔◌, ◌⊎◌, inl, inr, Bool, true, false, ◌&&◌, ◌==◌, nat_lt, if◌then◌else◌, Option, Some, None, refl, sym, subst, arith, eq-eqb}
+use Rattle.std.proofs.lemmas.Bool.{cases_lt, cond_both, ltb-true, ltb-false, and_parts, and_from, eqb-true, both_ways}
 use Rattle.radio_model.specs.OnAir.{Tuning}
 use Rattle.radio_model.specs.Hearing.{Scene}
 use Rattle.radio_model.specs.Stations.{retuned, tuned_in, tuned_out, last_at, meets_at, since_with, is_tuned_to}
@@ -8,7 +8,7 @@ use Rattle.radio_model.specs.Holding.{IsOrder, closed}
 use Rattle.radio_model.specs.declared.station.Tuned.{Tuned}
 use Rattle.radio_model.specs.declared.station.Past.{Past}
 use Rattle.radio_model.specs.declared.station.Station.{Station}
-use Rattle.radio_model.proofs.Tunings.{Goes, Went, Closes, Tells, All_lit, told, tells_later, off_late, off_empty, on_fresh, on_joined}
+use Rattle.radio_model.proofs.Tunings.{Went, Tells, tells_later, off_late, off_empty, on_fresh, on_joined}
 use Rattle.radio_model.proofs.Scenes.{Lit, with_tuning, lit_same, lit_apart, closed_is, closes_out, closed_same, closed_other}
 
 over_by : (now : ℕ) (tuned : Option Tuned) (last : Option Past) → IsOrder now tuned last → (c s u : ℕ) → Went last c s u → u ≤ now
@@ -54,17 +54,17 @@ order_on r t (Some q) order = by_test ((q.rank == r) && (q.until == t)) refl
       order.0,
       order.1,
       λ same.
-      let by = order.1 in
-      elim (below_or_at q.until t by) [
-        inl less ↦ less
-        | inr at ↦ absurd (both_ways ((q.rank == r) && (q.until == t)) is (and_from (q.rank == r) (q.until == t) (eq-eqb q.rank r same) (eq-eqb q.until t at)))
-      ]
+          let by = order.1 in
+          elim (below_or_at q.until t by) [
+            | inl less ↦ less
+            | inr at ↦ absurd (both_ways ((q.rank == r) && (q.until == t)) is (and_from (q.rank == r) (q.until == t) (eq-eqb q.rank r same) (eq-eqb q.until t at)))
+          ],
     )
 
 pub tells_same : (P P' : ℕ → ℕ → Type 0) (tuned : Option Tuned) (last : Option Past) (now : ℕ) → ((c k : ℕ) → P c k ↔ P' c k) → Tells P tuned last now → Tells P' tuned last now
 tells_same P P' tuned last now same tells c s t later early = (
   λ all. (tells c s t later early).0 (λ k low high. elim (all k low high) [ inl p ↦ inl ((same c k).1 p) | inr goes ↦ inr goes ]),
-  λ is k low high. elim ((tells c s t later early).1 is k low high) [ inl p ↦ inl ((same c k).0 p) | inr goes ↦ inr goes ]
+  λ is k low high. elim ((tells c s t later early).1 is k low high) [ inl p ↦ inl ((same c k).0 p) | inr goes ↦ inr goes ],
 )
 
 tells_on : (P : ℕ → ℕ → Type 0) (r t : ℕ) (last : Option Past) → ((c k : ℕ) → P c k → k < t) → IsOrder t None last → Tells P None last t
@@ -79,9 +79,9 @@ tells_on P r t (Some q) past order tells = by_test ((q.rank == r) && (q.until ==
     by_test false is =
         on_fresh P r t past (Some q) tells (over_by t None (Some q) order)
         (λ s went.
-          let by = order.1 in
-          let from = went.2 in
-          both_ways ((q.rank == r) && (q.until == t)) is (and_from (q.rank == r) (q.until == t) (eq-eqb q.rank r went.0) (eq-eqb q.until t (omega arith))))
+        let by = order.1 in
+        let from = went.2 in
+        both_ways ((q.rank == r) && (q.until == t)) is (and_from (q.rank == r) (q.until == t) (eq-eqb q.rank r went.0) (eq-eqb q.until t (omega arith))))
 
 -- what is told after a call at t
 pub record Told (a : Scene) (v t : ℕ) (tuned : Option Tuned) (last : Option Past) : Type 0 where
@@ -99,15 +99,15 @@ module _ (a : Scene) (v now t : ℕ) (later : now ≤ t) (past : (c k : ℕ) →
       let closes = closes_out a v t o in
       record {
         tells = cond_both (nat_lt o.since t) (Some (record { rank = o.rank; since = o.since; until = t })) last (λ (l : Option Past). Tells P' None l t)
-        (λ is. off_late (Lit a v) P' o last now t later (began_by now o last order) (λ c s. before_by now o last order c s t) (over_by now (Some o) last order) tells past closes (ltb-true o.since t is))
-        (λ not. off_empty (Lit a v) P' o last now t later (began_by now o last order) (λ c s. before_by now o last order c s t) (over_by now (Some o) last order) tells past closes (ltb-false o.since t not));
+            (λ is. off_late (Lit a v) P' o last now t later (began_by now o last order) (λ c s. before_by now o last order c s t) (over_by now (Some o) last order) tells past closes (ltb-true o.since t is))
+            (λ not. off_empty (Lit a v) P' o last now t later (began_by now o last order) (λ c s. before_by now o last order c s t) (over_by now (Some o) last order) tells past closes (ltb-false o.since t not));
         order = order_off now t (Some o) last later order;
       }
 
   past_out : (o : Option Tuning) → ((y : Tuning) → o ≡ Some y → y.end ≤ t) → (c k : ℕ) → Lit (with_tuning a o) v c k → k < t
   past_out o by c k is =
       elim (lit_apart a o v c k is) [
-        inl ended ↦ let early = past c k ended in omega arith
+        | inl ended ↦ let early = past c k ended in omega arith
         | inr new ↦ let end = by new.0 new.1 in let until = new.5 in omega arith
       ]
 
@@ -121,8 +121,8 @@ module _ (a : Scene) (v now t : ℕ) (later : now ≤ t) (past : (c k : ℕ) →
         order = order_later now t st.tuned st.last later order;
       }))
       (λ not.
-        let out = told_out st.tuned st.last order tells in
-        subst (λ (e : Option Tuning). Told (with_tuning a e) v t (tuned_in r t (tuned_out t st)).tuned (tuned_in r t (tuned_out t st)).last) (sym (closed_other v r t st.tuned not)) (record {
-          tells = tells_on (Lit (with_tuning a (closed v None t st.tuned)) v) r t (last_at st.tuned st.last t) (past_out (closed v None t st.tuned) (λ y is. omega (arith, (closed_is v None t st.tuned y is).end))) out.order out.tells;
-          order = order_on r t (last_at st.tuned st.last t) out.order;
-        }))
+      let out = told_out st.tuned st.last order tells in
+      subst (λ (e : Option Tuning). Told (with_tuning a e) v t (tuned_in r t (tuned_out t st)).tuned (tuned_in r t (tuned_out t st)).last) (sym (closed_other v r t st.tuned not)) (record {
+        tells = tells_on (Lit (with_tuning a (closed v None t st.tuned)) v) r t (last_at st.tuned st.last t) (past_out (closed v None t st.tuned) (λ y is. omega (arith, (closed_is v None t st.tuned y is).end))) out.order out.tells;
+        order = order_on r t (last_at st.tuned st.last t) out.order;
+      }))

@@ -1,6 +1,6 @@
 -- What the medium works out of a sending that overlaps another one is what the rule of hearing asks.
-use Rattle.std.proofs.Common.{◌≡◌, ℕ, ◌+◌, ◌<◌, ◌≤◌, ◌/◌, ◌⊎◌, inl, inr, List, Bool, true, false, not, ◌&&◌, ◌||◌, ◌==◌, nat_lt, nat_le, if◌then◌else◌, Option, Some, None, filter_map, refl, sym, ◌∙◌, ap, subst, arith, eq-eqb, Contains}
-use Rattle.std.proofs.lemmas.Bool.{and_parts, and_from, or_cases, or_left, or_right, eqb-true, ltb-true, lt-ltb, leb-true, le-leb, cases_lt, cond-true, cond_both, false≢true}
+use Rattle.std.proofs.Common.{◌≡◌, ◌+◌, ◌≤◌, inl, inr, List, Bool, true, false, not, ◌&&◌, ◌||◌, ◌==◌, nat_lt, nat_le, if◌then◌else◌, Some, None, refl, arith, eq-eqb, Contains}
+use Rattle.std.proofs.lemmas.Bool.{and_parts, and_from, or_cases, or_left, or_right, eqb-true, ltb-true, lt-ltb, leb-true, le-leb, cases_lt, cond-true}
 use Rattle.std.proofs.lemmas.Slice.Eq.{bytes_eq-Decides}
 use Rattle.std.specs.Str.{bytes_eq}
 use Rattle.lwb_base.specs.Profile.{Numbers}
@@ -26,24 +26,23 @@ same_from y x = (bytes_eq-Decides y.packet x.packet).1
 
 pub before_true : (p : Numbers) (x y : Sending) → comes_in_time p x y ≡ true → Before x y × (y.start ≤ x.start + p.delta)
 before_true p x y is =
-    let both = and_parts (nat_lt x.start y.start || ((x.start == y.start) && nat_le x.node y.node)) (nat_le y.start (x.start + p.delta)) is in
-    (
+    let both = and_parts (nat_lt x.start y.start || ((x.start == y.start) && nat_le x.node y.node)) (nat_le y.start (x.start + p.delta)) is in (
       elim (or_cases (nat_lt x.start y.start) ((x.start == y.start) && nat_le x.node y.node) both.0) [
-        inl less ↦ let l = ltb-true x.start y.start less in record { start = omega arith; node = λ same. absurd (omega arith) }
+        | inl less ↦ let l = ltb-true x.start y.start less in record { start = omega arith; node = λ same. absurd (omega arith) }
         | inr at ↦ let two = and_parts (x.start == y.start) (nat_le x.node y.node) at in let e = eqb-true x.start y.start two.0 in record { start = omega arith; node = λ same. leb-true x.node y.node two.1 }
       ],
-      leb-true y.start (x.start + p.delta) both.1
+      leb-true y.start (x.start + p.delta) both.1,
     )
 
 pub before_from : (p : Numbers) (x y : Sending) → Before x y → y.start ≤ x.start + p.delta → comes_in_time p x y ≡ true
 before_from p x y b close =
     and_from (nat_lt x.start y.start || ((x.start == y.start) && nat_le x.node y.node)) (nat_le y.start (x.start + p.delta))
     (elim (cases_lt x.start y.start) [
-      inl less ↦ or_left (nat_lt x.start y.start) ((x.start == y.start) && nat_le x.node y.node) (lt-ltb x.start y.start less)
+      | inl less ↦ or_left (nat_lt x.start y.start) ((x.start == y.start) && nat_le x.node y.node) (lt-ltb x.start y.start less)
       | inr not ↦
-      let by = b.start in
-      let at : x.start ≡ y.start = omega arith in
-      or_right (nat_lt x.start y.start) ((x.start == y.start) && nat_le x.node y.node) (and_from (x.start == y.start) (nat_le x.node y.node) (eq-eqb x.start y.start at) (le-leb x.node y.node (b.node at)))
+          let by = b.start in
+          let at : x.start ≡ y.start = omega arith in
+          or_right (nat_lt x.start y.start) ((x.start == y.start) && nat_le x.node y.node) (and_from (x.start == y.start) (nat_le x.node y.node) (eq-eqb x.start y.start at) (le-leb x.node y.node (b.node at)))
     ])
     (le-leb y.start (x.start + p.delta) close)
 
@@ -55,7 +54,7 @@ module _ (p : Numbers) (x : Sending) where
   in_rivals sts st y there kept rank meets =
       in_flat (rivals_in p x) sts st (rival st y) there
       (in_filter (rival_to p x st) (on_air st) y (rival st y) kept
-        (cond-true ((y.rank == x.rank) && overlaps x y) (Some (rival st y)) None (and_from (y.rank == x.rank) (overlaps x y) (eq-eqb y.rank x.rank rank) (meets_from x y meets))))
+      (cond-true ((y.rank == x.rank) && overlaps x y) (Some (rival st y)) None (and_from (y.rank == x.rank) (overlaps x y) (eq-eqb y.rank x.rank rank) (meets_from x y meets))))
 
   -- a rival comes of a sending that is kept
   pub record Comes (sts : List Station) (r : Rival) : Type 0 where

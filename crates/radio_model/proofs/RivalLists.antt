@@ -47,4 +47,3 @@ adds_passing {X} {Y} test value xs i x b new now below at is so adds =
 pub few_passing : {Y : Type 0} (b : Bool) (y : Y) (i : ℕ) (new now : List Y) → length now ≤ i → new ≡ (if b then now ++ y ∷ [] else now) → length new ≤ i + 1
 few_passing true y i new now few is = omega (arith, ap length is, length-append now (y ∷ []))
 few_passing false y i new now few is = omega (arith, ap length is)
-

@@ -1,7 +1,6 @@
 -- What the medium holds does not hang on how the tunings are written down.
-use Rattle.std.proofs.Common.{◌≡◌, ℕ, ◌≤◌, ◌<◌, ◌↔◌, inl, inr, List, ◌++◌, true, filter_map, sym, ◌∙◌, subst, arith, Contains}
+use Rattle.std.proofs.Common.{ℕ, inl, inr, filter_map, sym, ◌∙◌}
 use Rattle.std.proofs.lemmas.List.Elements.{Contains-append_cases, Contains-append_left, Contains-append_right}
-use Rattle.radio_model.specs.OnAir.{Sending, Tuning}
 use Rattle.radio_model.specs.Hearing.{Scene, IsTuned}
 use Rattle.radio_model.specs.Stations.{MediumState}
 use Rattle.radio_model.specs.Holding.{Holds, SameHistory, as_it_stands, lasting_at}
@@ -10,9 +9,9 @@ stands_on : (m : MediumState) (t : ℕ) (a b : Scene) (v c k : ℕ) → (IsTuned
 stands_on m t a b v c k on is =
     let late = filter_map (lasting_at t) m.stations in
     elim (Contains-append_cases a.tunings late is.tuning is.there) [
-      inl ended ↦
-      let w = on (record { tuning = is.tuning; there = ended; node = is.node; rank = is.rank; since = is.since; until = is.until }) in
-      record { tuning = w.tuning; there = Contains-append_left b.tunings late w.tuning w.there; node = w.node; rank = w.rank; since = w.since; until = w.until }
+      | inl ended ↦
+          let w = on (record { tuning = is.tuning; there = ended; node = is.node; rank = is.rank; since = is.since; until = is.until }) in
+          record { tuning = w.tuning; there = Contains-append_left b.tunings late w.tuning w.there; node = w.node; rank = w.rank; since = w.since; until = w.until }
       | inr lasts ↦ record { tuning = is.tuning; there = Contains-append_right b.tunings late is.tuning lasts; node = is.node; rank = is.rank; since = is.since; until = is.until }
     ]
 
@@ -25,6 +24,6 @@ holds_same m a b s h = record {
   past = s.past;
   tuned = λ st there c from t later early. (
     λ all. (h.tuned st there c from t later early).0 (λ k low high. stands_on m t b a st.node c k (s.tuned st.node c k).1 (all k low high)),
-    λ so k low high. stands_on m t a b st.node c k (s.tuned st.node c k).0 ((h.tuned st there c from t later early).1 so k low high)
+    λ so k low high. stands_on m t a b st.node c k (s.tuned st.node c k).0 ((h.tuned st there c from t later early).1 so k low high),
   );
 }

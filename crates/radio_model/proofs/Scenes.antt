@@ -1,14 +1,14 @@
 -- Tunings in a scene, with those that last and one that ends.
-use Rattle.std.proofs.Common.{◌≡◌, ◌≢◌, ℕ, ◌<◌, ◌≤◌, ◌↔◌, ◌⊎◌, inl, inr, List, [], ◌∷◌, ◌++◌, map, Bool, true, false, nat_lt, if◌then◌else◌, Option, Some, None, filter_map, option_to_list, refl, sym, ◌∙◌, ap, subst, arith, Contains, AllPairs}
+use Rattle.std.proofs.Common.{◌≡◌, ◌≢◌, ℕ, ◌<◌, ◌≤◌, ◌↔◌, ◌⊎◌, inl, inr, ◌++◌, map, true, false, nat_lt, if◌then◌else◌, Option, Some, None, filter_map, option_to_list, refl, sym, ◌∙◌, ap, subst, arith, Contains, AllPairs}
 use Rattle.std.proofs.lemmas.List.Elements.{Contains-append_left, Contains-append_right, Contains-append_cases}
-use Rattle.std.proofs.lemmas.Bool.{cond_both, cond-true, cond-false, ltb-true, ltb-false}
+use Rattle.std.proofs.lemmas.Bool.{cond_both, cond-true, cond-false, ltb-false}
 use Rattle.radio_model.specs.OnAir.{Tuning}
 use Rattle.radio_model.specs.Hearing.{Scene, IsTuned}
 use Rattle.radio_model.specs.Stations.{MediumState, node_of, is_tuned_to}
 use Rattle.radio_model.specs.Holding.{lasting, lasting_at, as_it_stands, closed}
 use Rattle.radio_model.specs.declared.station.Tuned.{Tuned}
 use Rattle.radio_model.specs.declared.station.Station.{Station}
-use Rattle.radio_model.proofs.Members.{in_filter, from_filter, in_option, of_option, not_in_none}
+use Rattle.radio_model.proofs.Members.{in_filter, from_filter, in_option, of_option}
 use Rattle.radio_model.proofs.Places.{one_station}
 use Rattle.radio_model.proofs.Tunings.{Goes, Closes}
 
@@ -37,15 +37,16 @@ stands m a st t c k ascend there early = (apart, together)
     apart : IsTuned (as_it_stands m t a) st.node c k → Lit a st.node c k ⊎ Goes st.tuned c k
     apart is =
         elim (Contains-append_cases a.tunings (filter_map (lasting_at t) m.stations) is.tuning is.there) [
-          inl ended ↦ inl (record { tuning = is.tuning; there = ended; node = is.node; rank = is.rank; since = is.since; until = is.until })
+          | inl ended ↦ inl (record { tuning = is.tuning; there = ended; node = is.node; rank = is.rank; since = is.since; until = is.until })
           | inr lasts ↦
-          let w = from_filter (lasting_at t) m.stations is.tuning lasts in
-          let l = lasts_as w.0.node w.0.tuned t is.tuning w.2 in
-          let node : w.0.node ≡ st.node = sym (ap (λ (y : Tuning). y.node) l.2) ∙ is.node in
-          let same : w.0 ≡ st = one_station m.stations ascend w.0 st w.1 there node in
-          let since = is.since in
-          inr (goes_as l.0 st.tuned c k (ap (λ (s : Station). s.tuned) (sym same) ∙ l.1) (sym (ap (λ (y : Tuning). y.rank) l.2) ∙ is.rank) (omega (arith, ap (λ (y : Tuning). y.start) l.2)))
+              let w = from_filter (lasting_at t) m.stations is.tuning lasts in
+              let l = lasts_as w.0.node w.0.tuned t is.tuning w.2 in
+              let node : w.0.node ≡ st.node = sym (ap (λ (y : Tuning). y.node) l.2) ∙ is.node in
+              let same : w.0 ≡ st = one_station m.stations ascend w.0 st w.1 there node in
+              let since = is.since in
+              inr (goes_as l.0 st.tuned c k (ap (λ (s : Station). s.tuned) (sym same) ∙ l.1) (sym (ap (λ (y : Tuning). y.rank) l.2) ∙ is.rank) (omega (arith, ap (λ (y : Tuning). y.start) l.2)))
         ]
+
     together : Lit a st.node c k ⊎ Goes st.tuned c k → IsTuned (as_it_stands m t a) st.node c k
     together (inl is) = record { tuning = is.tuning; there = Contains-append_left a.tunings (filter_map (lasting_at t) m.stations) is.tuning is.there; node = is.node; rank = is.rank; since = is.since; until = is.until }
     together (inr goes) =
@@ -66,7 +67,7 @@ lit_more a o v c k is = record { tuning = is.tuning; there = Contains-append_lef
 pub lit_apart : (a : Scene) (o : Option Tuning) (v c k : ℕ) → Lit (with_tuning a o) v c k → Lit a v c k ⊎ ((y : Tuning) × (o ≡ Some y) × (y.node ≡ v) × (y.rank ≡ c) × (y.start ≤ k) × (k < y.end))
 lit_apart a o v c k is =
     elim (Contains-append_cases a.tunings (option_to_list o) is.tuning is.there) [
-      inl ended ↦ inl (record { tuning = is.tuning; there = ended; node = is.node; rank = is.rank; since = is.since; until = is.until })
+      | inl ended ↦ inl (record { tuning = is.tuning; there = ended; node = is.node; rank = is.rank; since = is.since; until = is.until })
       | inr new ↦ inr (is.tuning, in_option o is.tuning new, is.node, is.rank, is.since, is.until)
     ]
 
@@ -84,13 +85,13 @@ lit_other a o v u c k of other = (lit_more a o u c k, λ is. elim (lit_apart a o
 pub closes_late : (a : Scene) (v t : ℕ) (o : Tuned) → Closes (Lit a v) (Lit (with_tuning a (lasting v (Some o) t)) v) o t
 closes_late a v t o = record {
   out = λ c k is. elim (lit_apart a (lasting v (Some o) t) v c k is) [
-    inl ended ↦ inl ended
+    | inl ended ↦ inl ended
     | inr new ↦
-    let l = lasts_as v (Some o) t new.0 new.1 in
-    let same : o ≡ l.0 = some_same o l.0 l.1 in
-    let start = new.4 in
-    let end = new.5 in
-    inr (ap (λ (p : Tuned). p.rank) same ∙ sym (ap (λ (y : Tuning). y.rank) l.2) ∙ new.3, omega (arith, ap (λ (p : Tuned). p.since) same, ap (λ (y : Tuning). y.start) l.2), omega (arith, ap (λ (y : Tuning). y.end) l.2))
+        let l = lasts_as v (Some o) t new.0 new.1 in
+        let same : o ≡ l.0 = some_same o l.0 l.1 in
+        let start = new.4 in
+        let end = new.5 in
+        inr (ap (λ (p : Tuned). p.rank) same ∙ sym (ap (λ (y : Tuning). y.rank) l.2) ∙ new.3, omega (arith, ap (λ (p : Tuned). p.since) same, ap (λ (y : Tuning). y.start) l.2), omega (arith, ap (λ (y : Tuning). y.end) l.2))
   ];
   kept = lit_more a (lasting v (Some o) t) v;
   added = λ c k rank since early. record {
@@ -138,6 +139,7 @@ out_is v t o y = cond_both (nat_lt o.since t) (lasting v (Some o) t) None (λ (e
   where
     late : lasting v (Some o) t ≡ Some y → IsClosed v t y
     late same = let l = lasts_as v (Some o) t y same in record { node = ap (λ (z : Tuning). z.node) l.2; end = ap (λ (z : Tuning). z.end) l.2 }
+
     none : (let e : Option Tuning = None in e ≡ Some y) → IsClosed v t y
     none same = cc
 

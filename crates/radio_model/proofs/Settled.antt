@@ -1,10 +1,10 @@
 -- Who hears a sending is settled when it ends.
-use Rattle.std.proofs.Common.{◌≡◌, ℕ, ◌<◌, ◌≤◌, ◌+◌, ◌↔◌, inl, inr, true, Some, Contains, refl, sym, ◌∙◌, ap, subst, arith}
+use Rattle.std.proofs.Common.{ℕ, ◌<◌, ◌≤◌, ◌+◌, ◌↔◌, inl, inr, sym, ◌∙◌, ap, subst}
 use Rattle.lwb_base.specs.Profile.{Numbers}
 use Rattle.link_trace.specs.Passes.{Lines, passes}
 use Rattle.link_trace.specs.Passes.{captured}
 use Rattle.radio_model.specs.OnAir.{Sending}
-use Rattle.radio_model.specs.Hearing.{Scene, Hears, Rival, Captured, Arrives, Captures, Alone, frame_of, slot_of, counter_of}
+use Rattle.radio_model.specs.Hearing.{Scene, Hears, Rival, Arrives, Captures, frame_of, slot_of, counter_of}
 use Rattle.radio_model.specs.Holding.{Agree}
 
 agree_back : (t : ℕ) (a b : Scene) → Agree t a b → Agree t b a
@@ -44,7 +44,7 @@ hears_on a b v x lasts s h =
       first = λ y rival same. h.first y (rival_on b a v x y back rival) same;
       close = λ y rival same. subst (λ (p : Numbers). y.start ≤ x.start + p.delta) s.numbers (h.close y (rival_on b a v x y back rival) same);
       chosen = elim h.chosen [
-        inl alone ↦ inl (λ y rival. alone y (rival_on b a v x y back rival))
+        | inl alone ↦ inl (λ y rival. alone y (rival_on b a v x y back rival))
         | inr c ↦ inr (record { winner = c.winner; rival = rival_on a b v x c.winner s c.rival; same = c.same; named = captures_on x.end a b v x c.winner.node s c.named })
       ];
     }

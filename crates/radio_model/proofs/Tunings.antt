@@ -1,8 +1,7 @@
 -- How long a node has been tuned to a channel, as the present tuning and the last one tell it.
-use Rattle.std.proofs.Common.{◌≡◌, ◌≢◌, ℕ, ◌<◌, ◌≤◌, ◌+◌, ◌-◌, ◌↔◌, ◌⊎◌, inl, inr, Bool, true, false, ◌&&◌, ◌||◌, ◌==◌, nat_lt, nat_le, if◌then◌else◌, Option, Some, None, refl, sym, ◌∙◌, ap, subst, arith, eq-eqb}
-use Rattle.std.proofs.lemmas.Bool.{and_parts, and_from, or_cases, or_left, or_right, eqb-true, leb-true, le-leb, lt-ltb, le-ltb, cases_lt, cases_eq, cond_both, cond-true, cond-false, ltb-true, ltb-false, ne_eqb, false≢true, both_ways, eqb-false, and_cases, leb-false}
-use Rattle.radio_model.specs.Stations.{goes_on, went_until, last_at, meets_at, since_with, is_tuned_to}
-use Rattle.radio_model.specs.Holding.{IsOrder}
+use Rattle.std.proofs.Common.{◌≡◌, ℕ, ◌<◌, ◌≤◌, ◌-◌, ◌↔◌, ◌⊎◌, inl, inr, Bool, true, ◌&&◌, ◌||◌, ◌==◌, nat_le, Option, Some, None, sym, ◌∙◌, subst, arith, eq-eqb}
+use Rattle.std.proofs.lemmas.Bool.{and_parts, and_from, or_cases, or_left, or_right, eqb-true, leb-true, le-leb, cases_lt, false≢true}
+use Rattle.radio_model.specs.Stations.{goes_on, went_until}
 use Rattle.radio_model.specs.declared.station.Tuned.{Tuned}
 use Rattle.radio_model.specs.declared.station.Past.{Past}
 
@@ -71,49 +70,49 @@ module _ (P P' : ℕ → ℕ → Type 0) (o : Tuned) (last : Option Past) (now t
   no_later : (c s u : ℕ) → t ≤ u → s < u → All_lit P' None c s u → u ≡ t
   no_later c s u from some all =
       elim (cases_lt t u) [
-        inl after ↦ elim (all (u - 1) (omega arith) (omega arith)) [ inl p ↦ let early = past_then c (u - 1) p in absurd (omega arith) | inr none ↦ absurd none ]
+        | inl after ↦ elim (all (u - 1) (omega arith) (omega arith)) [ inl p ↦ let early = past_then c (u - 1) p in absurd (omega arith) | inr none ↦ absurd none ]
         | inr not ↦ omega arith
       ]
 
   at_t : (c s : ℕ) → s < t → ((k : ℕ) → s ≤ k → k < t → P' c k ⊎ ⊥) → Goes (Some o) c s ⊎ Went last c s t
   at_t c s some all =
       told_true (Some o) last c s t ((tells c s t later some).0 (λ k from until. elim (all k from until) [
-        inl p ↦ elim (closes.out c k p) [ inl before ↦ inl before | inr q ↦ inr (q.0, q.1) ]
+        | inl p ↦ elim (closes.out c k p) [ inl before ↦ inl before | inr q ↦ inr (q.0, q.1) ]
         | inr none ↦ absurd none
       ]))
 
   pub off_late : o.since < t → Tells P' None (Some (record { rank = o.rank; since = o.since; until = t })) t
   off_late some c s u from early = (
     λ all.
-    let is : u ≡ t = no_later c s u from early all in
-    elim (at_t c s (omega arith) (λ k low high. all k low (omega arith))) [
-      inl goes ↦ told_went None (Some (record { rank = o.rank; since = o.since; until = t })) c s u (goes.0, goes.1, omega arith)
-      | inr went ↦ let not = ended c s went in absurd (omega arith)
-    ],
+        let is : u ≡ t = no_later c s u from early all in
+        elim (at_t c s (omega arith) (λ k low high. all k low (omega arith))) [
+          | inl goes ↦ told_went None (Some (record { rank = o.rank; since = o.since; until = t })) c s u (goes.0, goes.1, omega arith)
+          | inr went ↦ let not = ended c s went in absurd (omega arith)
+        ],
     λ is. elim (told_true None (Some (record { rank = o.rank; since = o.since; until = t })) c s u is) [
-      inl none ↦ absurd none
+      | inl none ↦ absurd none
       | inr went ↦ λ k low high. inl (closes.added c k went.0 (let w = went.1 in omega arith) (let w = went.2 in omega arith))
-    ]
+    ],
   )
 
   pub off_empty : t ≤ o.since → Tells P' None last t
   off_empty none c s u from early = (
     λ all.
-    let is : u ≡ t = no_later c s u from early all in
-    elim (at_t c s (omega arith) (λ k low high. all k low (omega arith))) [
-      inl goes ↦ let w = goes.1 in absurd (omega arith)
-      | inr went ↦ told_went None last c s u (subst (Went last c s) (sym is) went)
-    ],
+        let is : u ≡ t = no_later c s u from early all in
+        elim (at_t c s (omega arith) (λ k low high. all k low (omega arith))) [
+          | inl goes ↦ let w = goes.1 in absurd (omega arith)
+          | inr went ↦ told_went None last c s u (subst (Went last c s) (sym is) went)
+        ],
     λ is. elim (told_true None last c s u is) [
-      inl no_one ↦ absurd no_one
+      | inl no_one ↦ absurd no_one
       | inr went ↦ λ k low high.
-      let by = over c s u went in
-      let at : u ≡ t = omega arith in
-      elim ((tells c s u (omega arith) early).1 (told_went (Some o) last c s u went) k low high) [
-        inl p ↦ inl (closes.kept c k p)
-        | inr goes ↦ inl (closes.added c k goes.0 goes.1 (omega arith))
-      ]
-    ]
+          let by = over c s u went in
+          let at : u ≡ t = omega arith in
+          elim ((tells c s u (omega arith) early).1 (told_went (Some o) last c s u went) k low high) [
+            | inl p ↦ inl (closes.kept c k p)
+            | inr goes ↦ inl (closes.added c k goes.0 goes.1 (omega arith))
+          ]
+    ],
   )
 
 -- a tuning begins at t
@@ -130,20 +129,20 @@ module _ (P : ℕ → ℕ → Type 0) (r t : ℕ) (past : (c k : ℕ) → P c k 
     pub on_fresh : Tells P (Some (record { rank = r; since = t })) last t
     on_fresh c s u from early = (
       λ all. elim (cases_lt t u) [
-        inl after ↦
-        let own : r ≡ c = own_channel t c s u after early all in
-        elim (cases_lt s t) [
-          inl some ↦ absurd (fresh s (subst (λ (n : ℕ). Went last n s t) (sym own) (before c s some (λ k low high. all k low (omega arith)))))
-          | inr late ↦ told_goes (Some (record { rank = r; since = t })) last c s u (own, late)
-        ]
+        | inl after ↦
+            let own : r ≡ c = own_channel t c s u after early all in
+            elim (cases_lt s t) [
+              | inl some ↦ absurd (fresh s (subst (λ (n : ℕ). Went last n s t) (sym own) (before c s some (λ k low high. all k low (omega arith)))))
+              | inr late ↦ told_goes (Some (record { rank = r; since = t })) last c s u (own, late)
+            ]
         | inr not ↦
-        let at : t ≡ u = omega arith in
-        told_went (Some (record { rank = r; since = t })) last c s u (subst (Went last c s) at (before c s (omega arith) (λ k low high. all k low (omega arith))))
+            let at : t ≡ u = omega arith in
+            told_went (Some (record { rank = r; since = t })) last c s u (subst (Went last c s) at (before c s (omega arith) (λ k low high. all k low (omega arith))))
       ],
       λ is. elim (told_true (Some (record { rank = r; since = t })) last c s u is) [
-        inl goes ↦ λ k low high. inr (goes.0, let w = goes.1 in omega arith)
+        | inl goes ↦ λ k low high. inr (goes.0, let w = goes.1 in omega arith)
         | inr went ↦ λ k low high. elim ((tells c s u from early).1 (told_went None last c s u went) k low high) [ inl p ↦ inl p | inr none ↦ absurd none ]
-      ]
+      ],
     )
 
   module _ (q : Past) (tells : Tells P None (Some q) t) (some : q.since < q.until) (same : q.rank ≡ r) (meets : q.until ≡ t) where
@@ -156,7 +155,7 @@ module _ (P : ℕ → ℕ → Type 0) (r t : ℕ) (past : (c k : ℕ) → P c k 
     last_tick : (c s : ℕ) → s < t → All_lit P joined c s t → r ≡ c
     last_tick c s early all =
         elim (all (t - 1) (omega arith) (omega arith)) [
-          inl p ↦ sym same ∙ (went_of c (t - 1) (omega arith) (λ k low high. subst (P c) (omega arith) p)).0
+          | inl p ↦ sym same ∙ (went_of c (t - 1) (omega arith) (λ k low high. subst (P c) (omega arith) p)).0
           | inr goes ↦ goes.0
         ]
 
@@ -164,26 +163,26 @@ module _ (P : ℕ → ℕ → Type 0) (r t : ℕ) (past : (c k : ℕ) → P c k 
     goes_back c s early all =
         let own : r ≡ c = last_tick c s early all in
         elim (cases_lt s q.since) [
-          inl less ↦
-          (went_of c s early (λ k low high. elim (all k low high) [
-            inl p ↦ p
-            | inr goes ↦
-            let w = goes.1 in
-            elim ((tells c q.since t (omega arith) (omega arith)).1 (told_went None (Some q) c q.since t (same ∙ own, omega arith, omega arith)) k (omega arith) high) [ inl p ↦ p | inr none ↦ absurd none ]
-          ])).1
+          | inl less ↦
+              (went_of c s early (λ k low high. elim (all k low high) [
+                | inl p ↦ p
+                | inr goes ↦
+                    let w = goes.1 in
+                    elim ((tells c q.since t (omega arith) (omega arith)).1 (told_went None (Some q) c q.since t (same ∙ own, omega arith, omega arith)) k (omega arith) high) [ inl p ↦ p | inr none ↦ absurd none ]
+              ])).1
           | inr not ↦ not
         ]
 
     pub on_joined : Tells P joined None t
     on_joined c s u from early = (
       λ all. elim (cases_lt t u) [
-        inl after ↦
-        told_goes joined None c s u (own_channel q.since c s u after early all, elim (cases_lt s t) [ inl less ↦ goes_back c s less (λ k low high. all k low (omega arith)) | inr not ↦ omega arith ])
+        | inl after ↦
+            told_goes joined None c s u (own_channel q.since c s u after early all, elim (cases_lt s t) [ inl less ↦ goes_back c s less (λ k low high. all k low (omega arith)) | inr not ↦ omega arith ])
         | inr not ↦
-        told_goes joined None c s u (last_tick c s (omega arith) (λ k low high. all k low (omega arith)), goes_back c s (omega arith) (λ k low high. all k low (omega arith)))
+            told_goes joined None c s u (last_tick c s (omega arith) (λ k low high. all k low (omega arith)), goes_back c s (omega arith) (λ k low high. all k low (omega arith)))
       ],
       λ is. elim (told_true joined None c s u is) [
-        inl goes ↦ λ k low high. inr (goes.0, let w = goes.1 in omega arith)
+        | inl goes ↦ λ k low high. inr (goes.0, let w = goes.1 in omega arith)
         | inr none ↦ absurd none
-      ]
+      ],
     )

@@ -1,5 +1,5 @@
 -- What the medium keeps is all that matters of what happened.
-use Rattle.std.specs.Prelude.{◌≡◌, ℕ, ◌+◌, ◌<◌, ◌≤◌, ◌↔◌, ◌⊎◌, List, [], ◌∷◌, ◌++◌, Bool, true, if◌then◌else◌, nat_lt, Option, Some, None, is_none, filter_map, option_to_list, length, Contains}
+use Rattle.std.specs.Prelude.{◌≡◌, ℕ, ◌+◌, ◌<◌, ◌≤◌, ◌↔◌, ◌⊎◌, List, [], ◌∷◌, ◌++◌, true, if◌then◌else◌, nat_lt, Option, Some, None, is_none, filter_map, option_to_list, length, Contains}
 use Rattle.lwb_base.specs.Profile.{Numbers, airtime}
 use Rattle.link_trace.specs.Passes.{Lines}
 use Rattle.radio_model.specs.OnAir.{Sending, Tuning}

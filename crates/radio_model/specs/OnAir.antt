@@ -1,6 +1,5 @@
 -- What is on the air: sendings, who hears them, and tunings.
-use Rattle.std.specs.Prelude.{ℕ, List}
-
+use Rattle.std.specs.Prelude.{ℕ}
 -- on the channel of a rank a node sends a packet, from its start to its end
 pub use Rattle.radio_model.specs.declared.sending.Sending.{Sending}
 

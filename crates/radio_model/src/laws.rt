@@ -9,11 +9,9 @@ ghost use Rattle.radio_model.specs.Holding.{Agree, Holds, SameHistory};
 pub fn hearing_is_settled()
     ensures { (a b : Scene) (v : ℕ) (x : Sending) → x.start < x.end → Agree x.end a b
         → Hears a v x ↔ Hears b v x }
-{
-}
+{}
 
 /// What a medium holds does not hang on how ended tunings that meet are split.
 pub fn same_history_is_held()
     ensures { (m : MediumState) (a b : Scene) → SameHistory m.now a b → Holds m a → Holds m b }
-{
-}
+{}

@@ -3,10 +3,10 @@ ghost use Rattle.radio_model.specs.Stations.{node_of};
 ghost use Rattle.radio_model.specs.Meetings.{key_of, is_heard, hearers_to, IsPlaced, rivals_to};
 
 use crate::hearers::Hearers;
-use link_trace::Links;
 use crate::rivals::{Crowd, Key, Rival, crowd_at, has_bit, is_chosen, mask_of, rivals_of};
 use crate::sending::Sending;
 use crate::station::Station;
+use link_trace::Links;
 use lwb_base::Profile;
 
 /// Who hears x, the sending of the station `from`, now that it ends.
@@ -66,4 +66,3 @@ fn hears<M: Links>(
         Crowd::Spoiled => false,
     }
 }
-

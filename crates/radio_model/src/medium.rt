@@ -11,9 +11,9 @@ ghost use Rattle.radio_model.specs.declared.sending.Sending.{Sending};
 ghost use Rattle.radio_model.specs.declared.station.Station.{Station};
 
 use crate::hearers::Hearers;
-use link_trace::Links;
 use crate::listeners::listeners;
 use crate::station::Station;
+use link_trace::Links;
 use lwb_base::{Memory, NodeId, Packet, Profile, Rank};
 use std::alloc::Global;
 use std::marker::Model;

@@ -6,10 +6,10 @@ ghost use Rattle.arrayvec.specs.ArrayVec.{array_vec_len};
 ghost use Rattle.radio_model.specs.Stations.{on_air, overlaps};
 ghost use Rattle.radio_model.specs.Meetings.{key_of, rival_to as rival_by, rivals_in, rivals_to, reaches, spoils, differs, comes_from, crowd_of, is_chosen as chosen_by, passes_at, IsPlaced, IsMaskOf};
 
-use link_trace::Links;
 use crate::sending::Sending;
 use crate::station::{Station, overlap};
 use arrayvec::ArrayVec;
+use link_trace::Links;
 use lwb_base::{NodeId, Profile};
 
 /// Where a sending stands in a trace: the frame of its start, and the slot and the counter of its packet.
@@ -107,12 +107,7 @@ fn ended_at(station: &Station, i: usize) -> &Sending
     station.ended.get(i).unwrap()
 }
 
-fn add_rivals(
-    rivals: &mut ArrayVec<Rival, 896>,
-    profile: &Profile,
-    station: &Station,
-    x: &Sending,
-)
+fn add_rivals(rivals: &mut ArrayVec<Rival, 896>, profile: &Profile, station: &Station, x: &Sending)
     requires start { x.now.start ≤ 2 ^ 46 }
     requires end { x.now.end ≤ 2 ^ 46 }
     requires kept { station.now.ended.capacity ≡ 13 }
@@ -178,13 +173,7 @@ pub fn mask_of<M: Links>(links: &M, key: Key, at: &Station) -> u64
 }
 
 /// What comes to the node while the sending of that key does. The mask is that of the key.
-pub fn crowd_at<M: Links>(
-    links: &M,
-    rivals: &[Rival],
-    at: &Station,
-    key: Key,
-    mask: u64,
-) -> Crowd
+pub fn crowd_at<M: Links>(links: &M, rivals: &[Rival], at: &Station, key: Key, mask: u64) -> Crowd
     requires few { length (M.nodes links.now) ≤ 64 }
     requires rivals { All (λ r. IsPlaced (M.nodes links.now) r.place r.node) rivals.now }
     requires at { IsPlaced (M.nodes links.now) at.now.place at.now.node }
@@ -204,13 +193,7 @@ pub fn crowd_at<M: Links>(
 }
 
 /// Whether the sender that the trace names for the node at that key sends the same packet, and that comes to it.
-pub fn is_chosen<M: Links>(
-    links: &M,
-    rivals: &[Rival],
-    at: &Station,
-    key: Key,
-    mask: u64,
-) -> bool
+pub fn is_chosen<M: Links>(links: &M, rivals: &[Rival], at: &Station, key: Key, mask: u64) -> bool
     requires few { length (M.nodes links.now) ≤ 64 }
     requires rivals { All (λ r. IsPlaced (M.nodes links.now) r.place r.node) rivals.now }
     requires at { IsPlaced (M.nodes links.now) at.now.place at.now.node }

@@ -1,4 +1,4 @@
-use Rattle.std.proofs.Common.{◌≡◌, ◌∙◌, ◌++◌, ◌∷◌, [], ℕ, List, ap, arith, sym, if◌then◌else◌, Bool}
+use Rattle.std.proofs.Common.{◌≡◌, ◌∙◌, ◌++◌, ◌∷◌, [], ℕ, ap, arith, sym, if◌then◌else◌}
 use Rattle.std.proofs.lemmas.Bool.{cond-true, cond-false}
 use Rattle.radio_model.specs.Meetings.{is_heard, key_of, rivals_to}
 use Rattle.radio_model.specs.declared.station.Station.{Station}
@@ -19,7 +19,7 @@ loop-at-preserved g c =
     c.hears.ensures ∙ ap (λ (k : _). is_heard lines u x k c.as_slice.result.now at) c.of-key.ensures ∙ ap (λ (l : _). is_heard lines u x key l at) (c.as_slice.ensures.value ∙ c.rivals_of-rivals.ensures) in
     let added : c.if-hears.hearers ≡ (if c.hears.result then c.loop-at.hearers ++ (at.node, u) ∷ [] else c.loop-at.hearers) =
     elim c.if-hears.branch [
-      then-hears w ↦ w.hearers-is ∙ w.push.ensures ∙ sym (cond-true _ _ _ w.if-hears.true)
+      | then-hears w ↦ w.hearers-is ∙ w.push.ensures ∙ sym (cond-true _ _ _ w.if-hears.true)
       | else-hears w ↦ w.hearers-is ∙ sym (cond-false _ _ _ w.if-hears.false)
     ] in
     record {

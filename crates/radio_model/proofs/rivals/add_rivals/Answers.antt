@@ -1,4 +1,4 @@
-use Rattle.std.proofs.Common.{◌≡◌, ◌∙◌, ◌++◌, ap, arith, option_to_list, filter_map, sym}
+use Rattle.std.proofs.Common.{◌∙◌, ◌++◌, ap, arith, option_to_list, filter_map, sym}
 use Rattle.radio_model.specs.Meetings.{rival_to}
 use Rattle.radio_model.proofs.RivalLists.{adds_kept, kept_all}
 use Rattle.radio_model.proofs.rivals.add_rivals.Goals as goal
@@ -8,8 +8,8 @@ loop-i-preserved c =
     let f = rival_to c.args.profile.now c.args.x.now c.args.station.now in
     record {
       items = adds_kept f c.args.station.now.ended.items c.loop-i.i c.ended_at-y.result.now c.args.rivals.now.items c.push_some.new.rivals.items c.loop-i.rivals.items
-      (omega arith) c.ended_at-y.ensures c.loop-i.invariant.items
-      (c.push_some.ensures.items ∙ ap (λ (o : _). c.loop-i.rivals.items ++ option_to_list o) c.rival_to.ensures);
+          (omega arith) c.ended_at-y.ensures c.loop-i.invariant.items
+          (c.push_some.ensures.items ∙ ap (λ (o : _). c.loop-i.rivals.items ++ option_to_list o) c.rival_to.ensures);
       few = omega arith;
       within = c.loop-i.invariant.within;
       room = c.loop-i.invariant.room;

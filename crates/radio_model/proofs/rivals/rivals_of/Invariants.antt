@@ -1,5 +1,4 @@
 use Rattle.std.proofs.Common.{◌≡◌, ◌≤◌, ◌*◌, length, take}
-use Rattle.std.specs.List.{flat_map}
 use Rattle.radio_model.specs.Meetings.{rivals_to}
 use Rattle.radio_model.proofs.rivals.rivals_of.Given as goal
 

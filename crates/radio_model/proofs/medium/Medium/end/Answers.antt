@@ -1,13 +1,10 @@
-use Rattle.std.proofs.Common.{ℕ, List, ◌≡◌, ◌∙◌, ap, subst, sym, arith, length, get_or, IfSome, IsSomeAnd, ◌≤◌, ◌^◌}
-use Rattle.radio_model.specs.Stations.{MediumState, IsMedium, finished, after, node_of, station_of, sending_of, Ends}
-use Rattle.radio_model.specs.Meetings.{hearers_to}
-use Rattle.radio_model.specs.declared.station.Station.{Station}
-use Rattle.radio_model.proofs.Places.{after_is, after_medium, placed, same_at}
+use Rattle.std.proofs.Common.{◌∙◌, ap, subst, sym}
+use Rattle.radio_model.specs.Stations.{MediumState, IsMedium, finished, after}
+use Rattle.radio_model.proofs.Places.{after_is, after_medium, placed}
 use Rattle.radio_model.specs.Holding.{Holds}
 use Rattle.radio_model.proofs.AfterEnding.{holds_after_ending}
 use Rattle.radio_model.proofs.Named.{names_who_hears, names_one_sender, names_in_order}
 use Rattle.radio_model.proofs.Changes.{finished_keeps}
-use Rattle.radio_model.proofs.Ending.{runs_there, hearers_there}
 use Rattle.radio_model.proofs.medium.Medium.end.Goals as goal
 
 pub invariant_of-self : goal.invariant_of-self

@@ -1,5 +1,5 @@
-use Rattle.std.proofs.Common.{ℕ, List, ◌≡◌, ◌∙◌, ap, subst, sym, arith, length, get_or, IfSome, IsSomeAnd, ◌≤◌, ◌<◌, ◌^◌}
-use Rattle.radio_model.specs.Stations.{MediumState, fresh, node_of, station_of, sending_of, Ends}
+use Rattle.std.proofs.Common.{List, ◌≡◌, ap, subst, sym, arith, length, get_or, IfSome, IsSomeAnd, ◌≤◌, ◌<◌, ◌^◌}
+use Rattle.radio_model.specs.Stations.{MediumState, fresh, station_of, sending_of, Ends}
 use Rattle.radio_model.specs.Meetings.{hearers_to}
 use Rattle.radio_model.specs.declared.station.Station.{Station}
 use Rattle.radio_model.proofs.Places.{placed, same_at}
@@ -30,4 +30,4 @@ returns-clause-list g c =
     let node : old.node ≡ c.args.node = at.1 in
     subst (λ (s : MediumState). IfSome (sending_of (station_of s c.args.node)) (λ x. heard ≡ hearers_to s.numbers lines c.args.node x s.stations)) c.self.view_is
     (hearers_there m c.self.invariant.nodes.ascending c.args.node i d at.0 node lines heard
-      (subst (λ (l : List Station). IfSome (get_or l i d).sending (λ x. heard ≡ hearers_to m.numbers lines (get_or l i d).node x l)) c.deref-2.ensures.value (c.listeners_at.ensures d)))
+    (subst (λ (l : List Station). IfSome (get_or l i d).sending (λ x. heard ≡ hearers_to m.numbers lines (get_or l i d).node x l)) c.deref-2.ensures.value (c.listeners_at.ensures d)))

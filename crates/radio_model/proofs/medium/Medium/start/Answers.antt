@@ -1,6 +1,5 @@
 use Rattle.std.proofs.Common.{ap, ◌∙◌, sym, subst, arith}
 use Rattle.radio_model.specs.Stations.{MediumState, IsMedium, started, after, can_send, station_of}
-use Rattle.radio_model.specs.declared.station.Station.{Station}
 use Rattle.radio_model.proofs.Places.{after_is, after_medium, placed, found}
 use Rattle.radio_model.specs.Holding.{Holds, after_starting}
 use Rattle.radio_model.proofs.AfterStarting.{holds_after_starting}
