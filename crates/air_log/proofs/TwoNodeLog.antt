@@ -13,7 +13,8 @@ use Rattle.glossy_relay.specs.declared.flood.Reply.TheVariants.{Relay}
 use Rattle.scenario_text.specs.FloodParts.{knows}
 use Rattle.air_log.specs.declared.entry.Entry.{Entry}
 use Rattle.air_log.specs.declared.entry.Entry.TheVariants.{Sent, Heard as HeardOf, Tuned}
-use Rattle.radio_model.specs.OnAir.{Sending, Hearing, Tuning}
+use Rattle.radio_model.specs.declared.sending.Sending.{Sending}
+use Rattle.radio_model.specs.OnAir.{Hearing, Tuning}
 use Rattle.air_log.specs.Entries.{sendings_of, hearings_of, tunings_of, node_of}
 use Rattle.radio_model.specs.Hearing.{Scene, Meets, Rival, Before, Hears}
 use Rattle.air_log.specs.HearsAir.{scene_of}

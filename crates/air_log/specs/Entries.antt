@@ -2,7 +2,8 @@
 use Rattle.std.specs.Prelude.{ℕ, List, Option, Some, None, Contains, filter_map}
 use Rattle.air_log.specs.declared.entry.Entry.{Entry}
 use Rattle.air_log.specs.declared.entry.Entry.TheVariants.{Sent, Heard, Tuned}
-use Rattle.radio_model.specs.OnAir.{Sending, Hearing, Tuning}
+use Rattle.radio_model.specs.declared.sending.Sending.{Sending}
+use Rattle.radio_model.specs.OnAir.{Hearing, Tuning}
 
 abbrev pub sending_in : Entry → Option Sending
 sending_in (Sent x) = Some (record { rank = x.rank; node = x.node; start = x.start; end = x.end; packet = x.packet })

@@ -8,7 +8,8 @@ use Rattle.glossy_relay.specs.Relaying.{counter_of, reply_to}
 use Rattle.glossy_relay.specs.declared.flood.Reply.TheVariants.{Relay}
 use Rattle.scenario_text.specs.FloodParts.{FloodParts, knows}
 use Rattle.air_log.specs.declared.entry.Entry.{Entry}
-use Rattle.radio_model.specs.OnAir.{Sending, Tuning}
+use Rattle.radio_model.specs.declared.sending.Sending.{Sending}
+use Rattle.radio_model.specs.OnAir.{Tuning}
 use Rattle.air_log.specs.Entries.{sendings_of, tunings_of, node_of, IsHeard}
 use Rattle.air_log.specs.HearsAir.{HearsAir}
 use Rattle.air_log.specs.NodeEvents.{Event, Heard, Ended, InOrder, occasions, own_ends}

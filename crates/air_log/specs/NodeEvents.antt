@@ -2,7 +2,7 @@
 use Rattle.std.specs.Prelude.{◌≢◌, ◌≤◌, ℕ, List, [], ◌∷◌, Option, Some, None, filter_map, AllPairs}
 use Rattle.glossy_relay.specs.FloodState.{FloodState}
 use Rattle.glossy_relay.specs.Relaying.{after_heard, after_sent}
-use Rattle.radio_model.specs.OnAir.{Sending}
+use Rattle.radio_model.specs.declared.sending.Sending.{Sending}
 
 -- a sending was heard, or an own one ended
 pub data Event : Type 0 where

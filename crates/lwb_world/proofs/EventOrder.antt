@@ -4,7 +4,7 @@ use Rattle.std.specs.Prelude.{Contains, ◌⊎◌, ◌≢◌}
 use Rattle.std.proofs.lemmas.Bool.{cases_order, cases_lt, or_cases, eqb-true, false≢true}
 use Rattle.glossy_relay.specs.FloodState.{FloodState}
 use Rattle.bus_model.specs.Flooding.{has}
-use Rattle.radio_model.specs.OnAir.{Sending}
+use Rattle.radio_model.specs.declared.sending.Sending.{Sending}
 use Rattle.radio_model.specs.Hearing.{Before}
 use Rattle.air_log.specs.NodeEvents.{Event, sending_of, after, after_all, Occasion, occasions}
 use Rattle.air_log.specs.NodeEvents.{InOrder}

@@ -13,7 +13,8 @@ use Rattle.glossy_relay.specs.FloodState.{FloodState, listening, initiating}
 use Rattle.glossy_relay.specs.Relaying.{slot_of, counter_of}
 use Rattle.scenario_text.specs.FloodParts.{FloodParts, knows}
 use Rattle.air_log.specs.declared.entry.Entry.{Entry}
-use Rattle.radio_model.specs.OnAir.{Sending, Tuning}
+use Rattle.radio_model.specs.declared.sending.Sending.{Sending}
+use Rattle.radio_model.specs.OnAir.{Tuning}
 use Rattle.air_log.specs.Entries.{sendings_of, tunings_of}
 use Rattle.air_log.specs.HearsAir.{scene_of}
 use Rattle.radio_model.specs.Hearing.{Scene, frame_of, TunedThrough}

@@ -12,7 +12,7 @@ use Rattle.bus_model.proofs.FirstHearings.{heard_in_time, accepted_first}
 use Rattle.bus_model.proofs.LeastPaths.{accepts_least}
 use Rattle.bus_model.proofs.SendingCounts.{all_sendings}
 use Rattle.air_log.specs.declared.entry.Entry.{Entry}
-use Rattle.radio_model.specs.OnAir.{Sending}
+use Rattle.radio_model.specs.declared.sending.Sending.{Sending}
 use Rattle.air_log.specs.Entries.{sendings_of, hearings_of}
 use Rattle.air_log.specs.NodeEvents.{Heard}
 use Rattle.air_log.specs.FloodLaw.{FloodLaw}

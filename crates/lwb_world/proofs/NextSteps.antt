@@ -8,7 +8,7 @@ use Rattle.glossy_relay.specs.FloodState.{FloodState}
 use Rattle.glossy_relay.specs.Relaying.{fits, reply_to, counter_of, after_heard, after_sent}
 use Rattle.glossy_relay.specs.declared.flood.Reply.TheVariants.{Relay}
 use Rattle.bus_model.specs.Flooding.{Setting, Moment, has, pick, agrees, may_hear, hears, first_heard, next, STEPS}
-use Rattle.radio_model.specs.OnAir.{Sending}
+use Rattle.radio_model.specs.declared.sending.Sending.{Sending}
 use Rattle.air_log.specs.NodeEvents.{Event, Heard, Ended, sending_of, after, after_all, Occasion, occasions}
 use Rattle.lwb_world.specs.FloodRun.{counter}
 use Rattle.air_log.specs.NodeEvents.{InOrder}

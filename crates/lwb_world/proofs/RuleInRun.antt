@@ -1,7 +1,7 @@
 -- The rule of the air is that of a run which is a part of it.
 use Rattle.std.proofs.Common.{ℕ, ◌+◌, ◌≤◌, ◌↔◌, inl, inr, sym, ◌∙◌, subst}
 use Rattle.std.specs.Prelude.{Contains}
-use Rattle.radio_model.specs.OnAir.{Sending}
+use Rattle.radio_model.specs.declared.sending.Sending.{Sending}
 use Rattle.radio_model.specs.Hearing as rule
 use Rattle.radio_model.specs.Hearing.{Scene, TunedThrough}
 use Rattle.lwb_world.specs.FloodRun.{Run, takes_part, Rival, HearsIn}

@@ -4,7 +4,7 @@ use Rattle.std.specs.Prelude.{Contains}
 use Rattle.std.proofs.lemmas.Bool.{cases_order, cases_Bool, cases_eq, or_cases, or_parts, and_parts, and_from, eqb-true, ne_eqb, lt-ltb, ltb-true, le-ltb, false≢true, both_ways, false_from_ne_true}
 use Rattle.std.proofs.lemmas.List.Sums.{sum_by-cons}
 use Rattle.bus_model.specs.Flooding.{Setting, moment, has}
-use Rattle.radio_model.specs.OnAir.{Sending}
+use Rattle.radio_model.specs.declared.sending.Sending.{Sending}
 use Rattle.lwb_world.specs.FloodRun.{counter}
 use Rattle.lwb_world.specs.FloodRun.{Run, FloodRun, packet}
 use Rattle.air_log.proofs.Elements.{not_in_none, contains_head, contains_tail, contains_cases, Distinct}

@@ -7,7 +7,7 @@ use Rattle.glossy_relay.specs.FloodState.{FloodState}
 use Rattle.lwb_packets.specs.Body.{body}
 use Rattle.glossy_relay.specs.Relaying.{is_spelling}
 use Rattle.tick_clock.specs.Clocks.{Near}
-use Rattle.radio_model.specs.OnAir.{Sending}
+use Rattle.radio_model.specs.declared.sending.Sending.{Sending}
 use Rattle.air_log.specs.NodeEvents.{Event, Heard, Ended, sending_of, after, Occasion, occasions}
 use Rattle.lwb_world.specs.FloodRun.{counter}
 use Rattle.radio_model.specs.Hearing.{Meets}

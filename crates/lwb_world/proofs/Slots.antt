@@ -5,7 +5,7 @@ use Rattle.lwb_base.specs.Profile.{Numbers}
 use Rattle.time_reference.specs.Budgets.{Budget, Fits}
 use Rattle.tick_clock.specs.Clocks.{Near, due}
 use Rattle.tick_clock.proofs.DueTicks.{turn}
-use Rattle.radio_model.specs.OnAir.{Sending}
+use Rattle.radio_model.specs.declared.sending.Sending.{Sending}
 use Rattle.lwb_world.specs.FloodRun.{Run, FloodRun, TurnsAround}
 use Rattle.lwb_world.specs.Windows.{IsSlot}
 use Rattle.lwb_world.proofs.TunedWindows.{tuned_in_window}

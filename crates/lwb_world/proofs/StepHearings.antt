@@ -11,7 +11,7 @@ use Rattle.lwb_packets.specs.Body.{body}
 use Rattle.glossy_relay.specs.Relaying.{fits, carries}
 use Rattle.bus_model.specs.Flooding.{Setting, Moment, has, offer, candidates, named, pick, agrees, takes}
 use Rattle.tick_clock.specs.Clocks.{Near}
-use Rattle.radio_model.specs.OnAir.{Sending}
+use Rattle.radio_model.specs.declared.sending.Sending.{Sending}
 use Rattle.radio_model.specs.Hearing.{Before}
 use Rattle.air_log.specs.NodeEvents.{Event, Heard, sending_of, after_all}
 use Rattle.lwb_world.specs.FloodRun.{counter}

@@ -5,7 +5,8 @@ use Rattle.std.proofs.lemmas.Bool.{or_cases, eqb-true, false≢true}
 use Rattle.lwb_packets.specs.DataPackets.{is_data}
 use Rattle.glossy_relay.specs.Relaying.{reply_to}
 use Rattle.glossy_relay.specs.declared.flood.Reply.TheVariants.{Relay}
-use Rattle.radio_model.specs.OnAir.{Sending, Hearing}
+use Rattle.radio_model.specs.declared.sending.Sending.{Sending}
+use Rattle.radio_model.specs.OnAir.{Hearing}
 use Rattle.radio_model.specs.Hearing.{Before}
 use Rattle.air_log.specs.NodeEvents.{Event, Heard, Ended, sending_of, after_all, Occasion}
 use Rattle.air_log.specs.NodeEvents.{InOrder}

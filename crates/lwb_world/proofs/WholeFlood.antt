@@ -8,7 +8,7 @@ use Rattle.lwb_packets.specs.declared.kind.Kind.{Kind}
 use Rattle.glossy_relay.specs.FloodState.{FloodState}
 use Rattle.glossy_relay.specs.Relaying.{fits, counter_of, accepted_of}
 use Rattle.bus_model.specs.Flooding.{Setting, moment, beginning, has, Sends, Hears, Accepts}
-use Rattle.radio_model.specs.OnAir.{Sending}
+use Rattle.radio_model.specs.declared.sending.Sending.{Sending}
 use Rattle.air_log.specs.NodeEvents.{Event, Heard, sending_of, after_all}
 use Rattle.lwb_world.specs.FloodRun.{counter}
 use Rattle.lwb_world.specs.FloodRun.{Run, FloodRun, sending_at, initiates, takes_part, packet, begins}

@@ -9,7 +9,7 @@ use Rattle.glossy_relay.specs.Relaying.{counter_of}
 use Rattle.scenario_text.specs.FloodParts.{FloodParts, IsSound, knows}
 use Rattle.bus_model.specs.FloodOfText.{setting}
 use Rattle.air_log.specs.declared.entry.Entry.{Entry}
-use Rattle.radio_model.specs.OnAir.{Sending}
+use Rattle.radio_model.specs.declared.sending.Sending.{Sending}
 use Rattle.air_log.specs.Entries.{sendings_of, hearings_of, IsHeard}
 use Rattle.air_log.specs.FloodLaw.{FloodLaw, START, first_packet}
 use Rattle.lwb_world.specs.FloodRun.{Run}

@@ -1,7 +1,7 @@
 -- A run as a part of all that is on the air.
 use Rattle.std.specs.Prelude.{◌≡◌, ℕ, Contains}
 use Rattle.link_trace.specs.Passes.{passes, captured}
-use Rattle.radio_model.specs.OnAir.{Sending}
+use Rattle.radio_model.specs.declared.sending.Sending.{Sending}
 use Rattle.radio_model.specs.Hearing.{Scene, frame_of, slot_of, counter_of, Meets}
 use Rattle.lwb_world.specs.FloodRun.{Run, takes_part, counter}
 

@@ -3,7 +3,7 @@ use Rattle.std.specs.Prelude.{◌≡◌, ℕ, ◌+◌, ◌-◌, ◌*◌, ◌^◌
 use Rattle.lwb_base.specs.Profile.{Numbers, airtime, step}
 use Rattle.tick_clock.specs.Clocks.{IsClock, due}
 use Rattle.time_reference.specs.Budgets.{Budget}
-use Rattle.radio_model.specs.OnAir.{Sending}
+use Rattle.radio_model.specs.declared.sending.Sending.{Sending}
 use Rattle.air_log.specs.NodeEvents.{own_ends}
 use Rattle.lwb_world.specs.FloodRun.{Run, InTime, initiates, takes_part, HasInitiators, HasSendings, HasEvents, HearsByRule}
 

@@ -8,7 +8,7 @@ ghost use Rattle.bus_model.specs.Flooding.{Sends, Hears};
 ghost use Rattle.bus_model.specs.FloodOfText.{setting, ids, outcome};
 ghost use Rattle.bus_model.specs.RelayPaths.{IsLeast};
 ghost use Rattle.air_log.specs.declared.entry.Entry.{Entry};
-ghost use Rattle.radio_model.specs.OnAir.{Sending};
+ghost use Rattle.radio_model.specs.declared.sending.Sending.{Sending};
 ghost use Rattle.air_log.specs.Entries.{sendings_of};
 ghost use Rattle.radio_model.specs.Hearing.{frame_of, slot_of, counter_of};
 ghost use Rattle.air_log.specs.FloodLaw.{FloodLaw};
