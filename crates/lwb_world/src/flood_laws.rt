@@ -15,14 +15,18 @@ ghost use Rattle.lwb_world.specs.FloodBySteps.{IsFloodBySteps};
 ghost use Rattle.lwb_world.specs.Windows.{IsWindow, IsSlot};
 ghost use Rattle.lwb_world.specs.TwoNodes.{two_nodes, two_tuned};
 
-/// What nodes do in one flood on the air is the flood by steps, for any number of initiators.
+/// What nodes do in one flood on the air is the flood by steps, for any number of initiators: where nodes are tuned by
+/// the tunings of a scene, and where they are tuned by any test.
 pub fn air_floods_by_steps()
-    ensures { (r : Run) (tuned : ℕ → Sending → Bool) → FloodRun r (λ v x. tuned v x ≡ true) → IsFloodBySteps r }
+    ensures scene { (a : Scene) (r : Run) → FloodRun r (TunedThrough a) → IsFloodBySteps r }
+    ensures test { (r : Run) (tuned : ℕ → Sending → Bool) → FloodRun r (λ v x. tuned v x ≡ true) → IsFloodBySteps r }
 {}
 
 /// There are as many sendings as pairs of a node and a step in which it sends.
 pub fn sendings_are_counted()
-    ensures { (r : Run) (tuned : ℕ → Sending → Bool) → FloodRun r (λ v x. tuned v x ≡ true)
+    ensures scene { (a : Scene) (r : Run) → FloodRun r (TunedThrough a)
+        → AllPairs (λ x y. x ≢ y) r.sendings → AllPairs (λ u v. u ≢ v) r.setting.everyone → length r.sendings ≡ sendings r.setting }
+    ensures test { (r : Run) (tuned : ℕ → Sending → Bool) → FloodRun r (λ v x. tuned v x ≡ true)
         → AllPairs (λ x y. x ≢ y) r.sendings → AllPairs (λ u v. u ≢ v) r.setting.everyone → length r.sendings ≡ sendings r.setting }
 {}
 
@@ -43,7 +47,11 @@ pub fn premises_are_met()
 /// A node that is tuned from its window's opening until it goes off is tuned through what does not overlap a sending
 /// of its own exactly where it has sent less often than its limit.
 pub fn windows_give_tuning()
-    ensures { (r : Run) (tuned : ℕ → Sending → Bool) (v opening closing : ℕ)
+    ensures scene { (a : Scene) (r : Run) (v opening closing : ℕ)
+        → ((x : Sending) → Contains r.sendings x → x.start < x.end) → IsWindow r (TunedThrough a) v opening closing
+        → ((z : Sending) → Contains (r.events v) (Ended z) → Contains r.sendings z × (z.node ≡ v))
+        → TunedByCount r (TunedThrough a) v }
+    ensures test { (r : Run) (tuned : ℕ → Sending → Bool) (v opening closing : ℕ)
         → ((x : Sending) → Contains r.sendings x → x.start < x.end)
         → IsWindow r (λ v x. tuned v x ≡ true) v opening closing
         → ((z : Sending) → Contains (r.events v) (Ended z) → Contains r.sendings z × (z.node ≡ v))
@@ -52,7 +60,9 @@ pub fn windows_give_tuning()
 
 /// A flood of a slot is such a run: its numbers fit, its nodes turn around by their clocks and listen in windows.
 pub fn slots_are_runs()
-    ensures { (p : Numbers) (b : Budget) → Fits p b
+    ensures scene { (p : Numbers) (b : Budget) → Fits p b → (n : ℕ) (clocks : ℕ → ℕ → ℕ) (a : Scene) (r : Run)
+        → IsSlot p b n clocks r (TunedThrough a) → FloodRun r (TunedThrough a) }
+    ensures test { (p : Numbers) (b : Budget) → Fits p b
         → (n : ℕ) (clocks : ℕ → ℕ → ℕ) (r : Run) (tuned : ℕ → Sending → Bool)
         → IsSlot p b n clocks r (λ v x. tuned v x ≡ true) → FloodRun r (λ v x. tuned v x ≡ true) }
 {}
