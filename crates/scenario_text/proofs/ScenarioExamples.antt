@@ -61,9 +61,9 @@ abbrev fault : List ℕ → Result ScenarioParts (ℕ × FaultKind)
 fault text = scenario_of text
 
 texts : map fault (
-      [] ∷ codes "profile 3" ∷ codes "contend 2" ∷ codes "frames 012" ∷ codes "frames 4097" ∷ codes "frames 2\nprofile 1" ∷ codes "frames 2\nsends" ∷ codes "node 1 0\non 0 1"
-      ∷ codes "node 1 0\nlink 1 9" ∷ codes "node 1 0\nlink 1 1" ∷ (255 ∷ []) ∷ codes "frames 2\r\n" ∷ codes "frames 2\r" ∷ codes "\r" ∷ codes "profile 1\ncontend 1" ∷ codes "profile 2\nsends 1\ncontend 1"
-      ∷ codes "profile 2\n#\n \ncontend 1\ncontend 1" ∷ codes "profile 2\nprofile 2" ∷ []
+    [] ∷ codes "profile 3" ∷ codes "contend 2" ∷ codes "frames 012" ∷ codes "frames 4097" ∷ codes "frames 2\nprofile 1" ∷ codes "frames 2\nsends" ∷ codes "node 1 0\non 0 1"
+    ∷ codes "node 1 0\nlink 1 9" ∷ codes "node 1 0\nlink 1 1" ∷ (255 ∷ []) ∷ codes "frames 2\r\n" ∷ codes "frames 2\r" ∷ codes "\r" ∷ codes "profile 1\ncontend 1" ∷ codes "profile 2\nsends 1\ncontend 1"
+    ∷ codes "profile 2\n#\n \ncontend 1\ncontend 1" ∷ codes "profile 2\nprofile 2" ∷ []
     )
     ≡ Err (1, Missing) ∷ Err (1, Range) ∷ Err (1, Order) ∷ Err (1, BadNumber) ∷ Err (1, Range) ∷ Err (2, Order) ∷ Err (2, BadWord) ∷ Err (2, Order)
     ∷ Err (2, UnknownNode) ∷ Err (2, Range) ∷ Err (1, NotUtf8) ∷ Err (2, Missing) ∷ Err (1, BadNumber) ∷ Err (1, BadWord) ∷ Err (2, Order) ∷ Err (3, Order)
@@ -76,9 +76,9 @@ abbrev refused : List ℕ → Result ScenarioParts (ℕ × FaultKind)
 refused lines = scenario_of (base ++ codes "frames 12\n" ++ lines)
 
 faults : map refused (
-      codes "put 0 2 0 a" ∷ codes "put 0 2 0 -a" ∷ codes "put 0 2 0 aa aa" ∷ codes "lose 0 1 2" ∷ codes "start 1" ∷ codes "put 01 2 0 aa" ∷ codes "put 0 2 4 aa"
-      ∷ codes "lose 12 0 0 1 2" ∷ codes "lose 0 43 0 1 2" ∷ codes "cut 0 0 12 1" ∷ codes "capture 0 0 0 1 1" ∷ codes "host 4 2" ∷ codes "stream 0 2 0 0" ∷ codes "stream 0 2 0 121"
-      ∷ codes "on 0 3" ∷ codes "host 1 3" ∷ codes "capture 0 0 0 1 3" ∷ codes "host 2 2" ∷ codes "frames 13" ∷ codes "host 0 2" ∷ codes "host 1 1" ∷ []
+    codes "put 0 2 0 a" ∷ codes "put 0 2 0 -a" ∷ codes "put 0 2 0 aa aa" ∷ codes "lose 0 1 2" ∷ codes "start 1" ∷ codes "put 01 2 0 aa" ∷ codes "put 0 2 4 aa"
+    ∷ codes "lose 12 0 0 1 2" ∷ codes "lose 0 43 0 1 2" ∷ codes "cut 0 0 12 1" ∷ codes "capture 0 0 0 1 1" ∷ codes "host 4 2" ∷ codes "stream 0 2 0 0" ∷ codes "stream 0 2 0 121"
+    ∷ codes "on 0 3" ∷ codes "host 1 3" ∷ codes "capture 0 0 0 1 3" ∷ codes "host 2 2" ∷ codes "frames 13" ∷ codes "host 0 2" ∷ codes "host 1 1" ∷ []
     )
     ≡ Err (7, BadWord) ∷ Err (7, BadWord) ∷ Err (7, BadWord) ∷ Err (7, BadWord) ∷ Err (7, BadWord) ∷ Err (7, BadNumber) ∷ Err (7, Range)
     ∷ Err (7, Range) ∷ Err (7, Range) ∷ Err (7, Range) ∷ Err (7, Range) ∷ Err (7, Range) ∷ Err (7, Range) ∷ Err (7, Range)

@@ -5,14 +5,13 @@ use Rattle.std.specs.Option.{ok_or, option_map_or}
 use Rattle.std.specs.Str.{bytes_eq, is_utf8}
 use Rattle.std.specs.Str.Lines.{lines}
 use Rattle.lwb_base.specs.Profile.{Numbers, one, contended}
-use Rattle.link_trace.specs.Order.{with_line as in_order_with, by_cut, by_capture}
-use Rattle.link_trace.specs.Passes.{Lines, is_cut, is_capture}
+use Rattle.link_trace.specs.Passes.{Lines}
 use Rattle.scenario_text.specs.FloodParts.{knows}
 use Rattle.scenario_text.specs.ScenarioParts.{ScenarioParts}
 use Rattle.scenario_text.specs.Faults.{first_fault, unless_fault, in_line, ◌>>=◌, after_lines}
 use Rattle.scenario_text.specs.Payloads.{is_payload, payload}
 use Rattle.scenario_text.specs.Words.{words, word, is_skipped, is_number, number_at, counted}
-use Rattle.scenario_text.specs.Network.{Drafted, Parts, network_parts, network_line, network_numbers, no_network, is_id, are_ends, has_loss, has_script_room, with_line, with_loss, with_script_line, in_range, knows_ids, in_order, is_new, has_room}
+use Rattle.scenario_text.specs.Network.{Drafted, Parts, network_parts, network_line, network_numbers, no_network, is_id, are_ends, has_loss, has_cut, has_capture, has_script_room, with_line, with_loss, with_cut, with_capture, with_script_line, in_range, knows_ids, in_order, is_new, has_room}
 use Rattle.scenario_text.specs.declared.fault.FaultKind.{FaultKind}
 use Rattle.scenario_text.specs.declared.fault.FaultKind.TheVariants.{NotUtf8, BadWord, BadNumber, Range, UnknownNode, Order, Twice, TooMany, Missing, TooBig}
 use Rattle.scenario_text.specs.declared.scenario_line.ScenarioLine.{ScenarioLine}
@@ -153,12 +152,6 @@ line_in_order d (Lose f j k u v) = is_some d.frames
 line_in_order d (Cut f j k i) = is_some d.frames
 line_in_order d (Capture f j k a b) = is_some d.frames
 
-abbrev pub has_cut : Lines → ℕ → ℕ → ℕ → ℕ → Bool
-has_cut t f j k i = list_any (is_cut f j k i) t.cuts
-
-abbrev pub has_capture : Lines → ℕ → ℕ → ℕ → ℕ → Bool
-has_capture t f j k a = list_any (is_capture f j k a) t.captures
-
 -- no line above says the same
 abbrev pub line_is_new : Scenario → ScenarioLine → Bool
 line_is_new d (InNetwork l) = is_new d.network l
@@ -203,12 +196,6 @@ line_fault d l =
     first_fault
     ((line_in_range d l, Range) ∷ (line_knows_ids d l, UnknownNode) ∷ (line_in_order d l, Order) ∷ (line_is_new d l, Twice)
     ∷ (line_has_room d l, TooMany) ∷ [])
-
-abbrev pub with_cut : ℕ → ℕ → ℕ → ℕ → Lines → Lines
-with_cut f j k i t = record t { cuts = in_order_with by_cut (record { frame = f; slot = j; step = k; node = i }) t.cuts }
-
-abbrev pub with_capture : ℕ → ℕ → ℕ → ℕ → ℕ → Lines → Lines
-with_capture f j k a b t = record t { captures = in_order_with by_capture (record { frame = f; slot = j; step = k; at = a; from = b }) t.captures }
 
 -- with a line more of the script
 abbrev pub with_act : Scenario → ℕ → ℕ → Act → Scenario

@@ -13,6 +13,8 @@ mod network_line;
 mod numbers;
 mod payloads;
 mod rates;
+mod scenario;
+mod scenario_draft;
 mod scenario_line;
 mod script;
 mod words;
@@ -21,6 +23,7 @@ pub use fault::{FaultKind, ParseFault};
 pub use flood::parse_flood;
 pub use flood_text::FloodText;
 pub use lines::{NodeLine, RateLine};
+pub use scenario::Scenario;
 pub use script::{Act, ScriptLine};
 
 #[cfg(test)]

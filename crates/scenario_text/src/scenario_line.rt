@@ -33,7 +33,11 @@ impl ScenarioLine {
         ensures { result ≡ scenario_line_of (map (λ w. w.now) words.now) }
     {
         let first = word(words, 0);
-        let (a, b, c) = (number_at(words, 1), number_at(words, 2), number_at(words, 3));
+        let (a, b, c) = (
+            number_at(words, 1),
+            number_at(words, 2),
+            number_at(words, 3),
+        );
         let (d, e) = (number_at(words, 4), number_at(words, 5));
         if is(first, b"profile") {
             return counted(2, words, ScenarioLine::Profile(a));
