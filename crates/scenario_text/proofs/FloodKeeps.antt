@@ -9,7 +9,7 @@ use Rattle.scenario_text.specs.FloodParts.{FloodParts, IsSound, knows}
 use Rattle.scenario_text.specs.Words.{words, is_skipped}
 use Rattle.scenario_text.specs.Network.{Drafted, Parts, network_fault, with_line, network_parts, rates_by_node, is_id}
 use Rattle.scenario_text.specs.FloodGrammar.{Flood, rule_fault, with_flood_line, after_spelled, after_words, after_line, flood_line, flood_numbers, no_flood}
-use Rattle.scenario_text.specs.Faults.{unless_fault, after_lines}
+use Rattle.scenario_text.specs.Faults.{unless_fault}
 use Rattle.scenario_text.specs.FloodDrafts.{Rises, IsNetwork, IsFlood}
 use Rattle.scenario_text.specs.declared.fault.FaultKind.{FaultKind}
 use Rattle.scenario_text.specs.declared.fault.FaultKind.TheVariants.{NotUtf8, BadWord, BadNumber, Range, UnknownNode, Order, Twice, TooMany, Missing}
@@ -90,13 +90,6 @@ read_keeps f g line sound is = at_ok IsFlood (after_line f line) g is (line_keep
 
 pub nothing_sound : IsFlood no_flood
 nothing_sound = record { network = record { sends = tt; few_nodes = omega arith; rises = tt; offsets = tt }; start_known = tt }
-
--- one line more, and a line that is refused
-pub one_line_more : (n : ℕ) (f g : Flood) (line : List ℕ) (others : List (List ℕ)) → after_line f line ≡ Ok g → after_lines after_line n f (line ∷ others) ≡ after_lines after_line (n + 1) g others
-one_line_more n f g line others is = rw is refl
-
-pub one_line_refused : (n : ℕ) (f : Flood) (k : FaultKind) (line : List ℕ) (others : List (List ℕ)) → after_line f line ≡ Err k → after_lines after_line n f (line ∷ others) ≡ Err (n, k)
-one_line_refused n f k line others is = rw is refl
 
 abbrev parts_at : Drafted → ℕ → Parts
 parts_at d n = record { sends = n; nodes = d.nodes; rates = rates_by_node d.nodes d.rates; trace = d.trace }

@@ -47,15 +47,13 @@ scenario_numbers (InNetwork l) ws = network_numbers l ws
 scenario_numbers (Put f i s p) ws = is_number (word ws 1) && is_number (word ws 2) && is_number (word ws 3)
 scenario_numbers other ws = list_all is_number (drop 1 ws)
 
--- what the lines above say: whether there are none, whether the last of them is `profile 2`, whether the profile is the
--- second, its contention slots, the frames, the hosts by rank, the script, and for each id whether the node is on and how
--- often it booted
+-- what the lines above say: whether there are none, whether the last of them is `profile 2`, the profile, the frames, the
+-- hosts by rank, the script, and for each id whether the node is on and how often it booted
 pub record Scenario : Type 0 where
   pub network : Drafted
   pub first : Bool
   pub after_two : Bool
-  pub two : Bool
-  pub contend : Option ℕ
+  pub profile : Numbers
   pub frames : Option ℕ
   pub hosts : List ℕ
   pub script : List ScriptLine
@@ -67,8 +65,7 @@ no_scenario = record {
   network = no_network;
   first = true;
   after_two = false;
-  two = false;
-  contend = None;
+  profile = one;
   frames = None;
   hosts = [];
   script = [];
@@ -76,30 +73,28 @@ no_scenario = record {
   boots = replicate 201 0;
 }
 
-abbrev pub last_tick : Bool → ℕ
-last_tick two = if two then 1310720000000 else 1048576000000
+-- the end of the last frame that a scenario may have
+abbrev pub last_tick : Numbers → ℕ
+last_tick p = 4096 * p.frame
 
-abbrev pub last_slot : Option ℕ → ℕ
-last_slot contend = if is_some contend then 45 else 42
-
-abbrev pub longest_payload : Bool → ℕ
-longest_payload two = if two then 96 else 32
+abbrev pub last_slot : Numbers → ℕ
+last_slot p = if p.contend == 0 then 42 else 45
 
 -- a frame number, which is below the number of frames once that is known
 abbrev pub is_frame : Option ℕ → ℕ → Bool
 is_frame None f = nat_le f 4095
 is_frame (Some n) f = nat_lt f n
 
-abbrev pub is_short : Bool → Option (List ℕ) → Bool
-is_short two p = option_map_or (λ bytes. nat_le (length bytes) (longest_payload two)) p false
+abbrev pub is_short : Numbers → Option (List ℕ) → Bool
+is_short p payload = option_map_or (λ bytes. nat_le (length bytes) p.payload_max) payload false
 
 -- a step of a slot of a frame
 abbrev pub is_step : Scenario → ℕ → ℕ → ℕ → Bool
-is_step d f j k = is_frame d.frames f && nat_le j (last_slot d.contend) && nat_le k 11
+is_step d f j k = is_frame d.frames f && nat_le j (last_slot d.profile) && nat_le k 11
 
 -- the numbers of the line are in their ranges
 abbrev pub line_in_range : Scenario → ScenarioLine → Bool
-line_in_range d (InNetwork l) = in_range (last_tick d.two) l
+line_in_range d (InNetwork l) = in_range (last_tick d.profile) l
 line_in_range d (Profile p) = nat_le 1 p && nat_le p 2
 line_in_range d (Contend c) = nat_le 1 c && nat_le c 4
 line_in_range d (Frames f) = nat_le 1 f && nat_le f 4096
@@ -108,7 +103,7 @@ line_in_range d (On f i) = is_frame d.frames f && is_id i
 line_in_range d (Off f i) = is_frame d.frames f && is_id i
 line_in_range d (Stream f i s n) = is_frame d.frames f && is_id i && nat_le s 3 && nat_le 1 n && nat_le n 120
 line_in_range d (Leave f i s) = is_frame d.frames f && is_id i && nat_le s 3
-line_in_range d (Put f i s p) = is_frame d.frames f && is_id i && nat_le s 3 && is_short d.two p
+line_in_range d (Put f i s p) = is_frame d.frames f && is_id i && nat_le s 3 && is_short d.profile p
 line_in_range d (Lose f j k u v) = is_step d f j k && are_ends u v
 line_in_range d (Cut f j k i) = is_step d f j k && is_id i
 line_in_range d (Capture f j k a b) = is_step d f j k && are_ends a b
@@ -212,8 +207,8 @@ with_boot d i = record d { on = slice_set d.on i true; boots = slice_set d.boots
 -- what the lines say with an allowed line more
 abbrev pub line_added : Scenario → ScenarioLine → Scenario
 line_added d (InNetwork l) = record d { network = with_line d.network l }
-line_added d (Profile p) = record d { two = p == 2 }
-line_added d (Contend c) = record d { contend = Some c }
+line_added d (Profile p) = record d { profile = if p == 2 then contended 0 else one }
+line_added d (Contend c) = record d { profile = contended c }
 line_added d (Frames f) = record d { frames = Some f }
 line_added d (Host r i) = record d { hosts = d.hosts ++ i ∷ [] }
 line_added d (On f i) = with_boot (with_act d f i act.On) i
@@ -250,11 +245,6 @@ abbrev pub Reads : Option FaultKind → Scenario → Result Scenario FaultKind �
 Reads None new after = after ≡ Ok new
 Reads (Some k) new after = after ≡ Err k
 
-abbrev pub profile_of : Bool → Option ℕ → Numbers
-profile_of false c = one
-profile_of true None = contended 0
-profile_of true (Some c) = contended c
-
 -- there are not too many nodes for the frames
 abbrev pub if_small : ScenarioParts → Result ScenarioParts FaultKind
 if_small s = if nat_le (length s.nodes * s.frames) 16384 then Ok s else Err TooBig
@@ -264,7 +254,7 @@ abbrev pub finished_parts : Scenario → Option Parts → Option ℕ → Result 
 finished_parts d (Some p) (Some f) =
     if length d.hosts == 0 then Err Missing
     else if_small (record {
-      profile = profile_of d.two d.contend;
+      profile = d.profile;
       frames = f;
       sends = p.sends;
       nodes = p.nodes;
@@ -284,3 +274,7 @@ abbrev pub scenario_of : List ℕ → Result ScenarioParts (ℕ × FaultKind)
 scenario_of bytes = do
   d ← after_lines after_line 1 no_scenario (lines bytes)
   in_line (length (lines bytes) + 1) (finished d)
+
+-- some text says it
+abbrev pub IsScenario : ScenarioParts → Type 0
+IsScenario s = (bytes : List ℕ) × (scenario_of bytes ≡ Ok s)

@@ -13,6 +13,7 @@ mod network_line;
 mod numbers;
 mod payloads;
 mod rates;
+mod reading;
 mod scenario;
 mod scenario_draft;
 mod scenario_line;
@@ -23,6 +24,7 @@ pub use fault::{FaultKind, ParseFault};
 pub use flood::parse_flood;
 pub use flood_text::FloodText;
 pub use lines::{NodeLine, RateLine};
+pub use reading::parse;
 pub use scenario::Scenario;
 pub use script::{Act, ScriptLine};
 

@@ -1,5 +1,7 @@
 ghost use Rattle.std.specs.Prelude.{◌≡◌};
+ghost use Rattle.scenario_text.specs.ScenarioGrammar.{IsScenario};
 
+use crate::network::Network;
 use crate::script::ScriptLine;
 use crate::{NodeLine, RateLine};
 use link_trace::Trace;
@@ -25,9 +27,42 @@ impl Model for Scenario {
     ghost Value = { ScenarioParts };
 
     ghost view = { λ s. record { profile = s.profile; frames = s.frames; sends = s.sends; nodes = s.nodes.items; rates = s.rates.items; hosts = s.hosts.items; trace = s.trace.lines; script = s.script.items } };
+
+    ghost use Rattle.scenario_text.specs.ScenarioGrammar.{IsScenario};
+
+    ghost invariant = { λ s. IsScenario (record { profile = s.profile; frames = s.frames; sends = s.sends; nodes = s.nodes.items; rates = s.rates.items; hosts = s.hosts.items; trace = s.trace.lines; script = s.script.items }) };
 }
 
 impl Scenario {
+    /// The scenario of these parts, which some text says.
+    pub(crate) fn of_network(
+        profile: Profile,
+        frames: u32,
+        network: Network,
+        hosts: Vec<NodeId>,
+        script: Vec<ScriptLine>,
+    ) -> Scenario
+        requires { IsScenario (record { profile = profile; frames = frames; sends = network.sends; nodes = network.nodes; rates = network.rates; hosts = hosts.items; trace = network.trace; script = script.items }) }
+        ensures { result ≡ record { profile = profile; frames = frames; sends = network.sends; nodes = network.nodes; rates = network.rates; hosts = hosts.items; trace = network.trace; script = script.items } }
+    {
+        let Network {
+            sends,
+            nodes,
+            rates,
+            trace,
+        } = network;
+        Scenario {
+            profile,
+            frames,
+            sends,
+            nodes,
+            rates,
+            hosts,
+            trace,
+            script,
+        }
+    }
+
     pub fn profile(&self) -> Profile
         ensures { result ≡ self.now.profile }
     {

@@ -3,15 +3,17 @@ ghost use Rattle.std.specs.List.{list_any};
 ghost use Rattle.std.specs.Option.{option_map_or};
 ghost use Rattle.scenario_text.specs.Faults.{first_fault};
 ghost use Rattle.scenario_text.specs.Network.{has_script_room};
-ghost use Rattle.scenario_text.specs.ScenarioGrammar.{no_scenario, line_fault, line_added, with_scenario_line, after_line, Reads, last_tick as last_tick_of, last_slot as last_slot_of, longest_payload as longest_payload_of, last_script_line, is_frame, is_step, in_script_order, with_act, with_boot, is_on, boots_of};
+ghost use Rattle.scenario_text.specs.ScenarioGrammar.{no_scenario, line_fault, line_added, with_scenario_line, after_line, Reads, last_tick as last_tick_of, last_slot as last_slot_of, last_script_line, is_frame, is_step, in_script_order, with_act, with_boot, is_on, boots_of, finished, IsScenario};
+ghost use Rattle.scenario_text.specs.ScenarioParts.{ScenarioParts};
 ghost use Rattle.scenario_text.specs.declared.fault.FaultKind.TheVariants.{TooMany};
 ghost use Rattle.scenario_text.specs.declared.scenario_line.ScenarioLine.TheVariants.{Profile as ProfileLine, Contend, Frames, Host, On, Off, Stream, Leave, Put, Lose, Cut, Capture};
 
 use crate::network_draft::{NetworkDraft, are_two_ids, node_id};
+use crate::scenario::Scenario;
 use crate::scenario_line::ScenarioLine;
 use crate::words::{is_skipped, is_text, words};
 use crate::{Act, FaultKind, ScriptLine};
-use lwb_base::{Memory, NodeId, Payload};
+use lwb_base::{Memory, NodeId, Payload, Profile};
 use std::alloc::Global;
 use std::marker::Model;
 
@@ -22,8 +24,7 @@ pub struct ScenarioDraft {
     // No line stands above; and the last line above is `profile 2`.
     first: bool,
     after_two: bool,
-    two: bool,
-    contend: Option<u8>,
+    profile: Profile,
     frames: Option<u32>,
     hosts: Vec<NodeId>,
     script: Vec<ScriptLine>,
@@ -37,7 +38,7 @@ impl Model for ScenarioDraft {
 
     ghost Value = { Scenario };
 
-    ghost view = { λ d. record { network = d.network; first = d.first; after_two = d.after_two; two = d.two; contend = d.contend; frames = d.frames; hosts = d.hosts.items; script = d.script.items; on = d.on; boots = d.boots } };
+    ghost view = { λ d. record { network = d.network; first = d.first; after_two = d.after_two; profile = d.profile; frames = d.frames; hosts = d.hosts.items; script = d.script.items; on = d.on; boots = d.boots } };
 }
 
 impl ScenarioDraft {
@@ -49,8 +50,7 @@ impl ScenarioDraft {
             network: NetworkDraft::new(alloc),
             first: true,
             after_two: false,
-            two: false,
-            contend: None,
+            profile: Profile::one(),
             frames: None,
             hosts: Vec::new(alloc),
             script: Vec::new(alloc),
@@ -96,7 +96,7 @@ impl ScenarioDraft {
         ensures added { result ≡ Ok None → self.new ≡ line_added self.old line }
     {
         match line {
-            ScenarioLine::InNetwork(line) => self.network.add(last_tick(self.two), line),
+            ScenarioLine::InNetwork(line) => self.network.add(last_tick(&self.profile), line),
             ScenarioLine::Profile(profile) => Ok(self.add_profile(profile)),
             ScenarioLine::Contend(slots) => Ok(self.add_contend(slots)),
             ScenarioLine::Frames(frames) => Ok(self.add_frames(frames)),
@@ -120,6 +120,34 @@ impl ScenarioDraft {
         }
     }
 
+    /// What the text says, or what it misses at its end. The text is one whose lines say this.
+    pub fn finish(self, alloc: Global) -> Result<Result<Scenario, FaultKind>, Memory>
+        requires { (s : ScenarioParts) → finished self ≡ Ok s → IsScenario s }
+        ensures { IfOk result (λ r. r ≡ finished self) }
+    {
+        let ScenarioDraft {
+            network,
+            profile,
+            frames,
+            hosts,
+            script,
+            ..
+        } = self;
+        let Some(network) = network.finish(alloc)? else {
+            return Ok(Err(FaultKind::Missing));
+        };
+        let Some(frames) = frames else {
+            return Ok(Err(FaultKind::Missing));
+        };
+        if hosts.is_empty() {
+            return Ok(Err(FaultKind::Missing));
+        }
+        if network.nodes.len().saturating_mul(frames as usize) > 16_384 {
+            return Ok(Err(FaultKind::TooBig));
+        }
+        Ok(Ok(Scenario::of_network(profile, frames, network, hosts, script)))
+    }
+
     fn add_profile(&mut self, profile: u64) -> Option<FaultKind>
         ensures fault { result ≡ line_fault self.old (ProfileLine profile) }
         ensures added { result ≡ None → self.new ≡ line_added self.old (ProfileLine profile) }
@@ -130,7 +158,11 @@ impl ScenarioDraft {
         if !self.first {
             return Some(FaultKind::Order);
         }
-        self.two = profile == 2;
+        self.profile = if profile == 2 {
+            Profile::two()
+        } else {
+            Profile::one()
+        };
         None
     }
 
@@ -144,7 +176,7 @@ impl ScenarioDraft {
         if !self.after_two {
             return Some(FaultKind::Order);
         }
-        self.contend = Some(slots as u8);
+        self.profile = Profile::contended(slots as u8);
         None
     }
 
@@ -292,7 +324,7 @@ impl ScenarioDraft {
         let Some(payload) = payload else {
             return Ok(Some(FaultKind::Range));
         };
-        if payload.bytes().len() > longest_payload(self.two) {
+        if payload.bytes().len() > usize::from(self.profile.payload_max()) {
             return Ok(Some(FaultKind::Range));
         }
         let Some(node) = self.network.node(id) else {
@@ -408,7 +440,7 @@ impl ScenarioDraft {
         ensures { result ≡ (if is_step self.now frame slot step then Some (frame, slot, step) else None) }
     {
         let frame = self.frame(frame)?;
-        if slot > last_slot(self.contend) || step > 11 {
+        if slot > last_slot(&self.profile) || step > 11 {
             return None;
         }
         Some((frame, slot as u8, step as u8))
@@ -454,27 +486,19 @@ impl ScenarioDraft {
     }
 }
 
-fn last_tick(two: bool) -> u64
-    ensures { result ≡ last_tick_of two }
+// The end of the last frame that a scenario may have.
+fn last_tick(profile: &Profile) -> u64
+    ensures { result ≡ last_tick_of profile.now }
 {
-    if two {
-        1_310_720_000_000
-    } else {
-        1_048_576_000_000
-    }
+    let _made = profile.contend();
+    4_096 * profile.frame()
 }
 
-fn last_slot(contend: Option<u8>) -> u64
-    ensures value { result ≡ last_slot_of contend }
+fn last_slot(profile: &Profile) -> u64
+    ensures value { result ≡ last_slot_of profile.now }
     ensures small { result ≤ 45 }
 {
-    if contend.is_some() { 45 } else { 42 }
-}
-
-fn longest_payload(two: bool) -> usize
-    ensures { result ≡ longest_payload_of two }
-{
-    if two { 96 } else { 32 }
+    if profile.contend() == 0 { 42 } else { 45 }
 }
 
 fn is_host(hosts: &[NodeId], node: NodeId) -> bool
