@@ -1,3 +1,4 @@
 pub mod Passes
 pub mod Order
 pub mod Sealed
+pub mod Masks

@@ -36,6 +36,18 @@ abbrev pub with_line : {L : Type 0} → (L → L → Ordering) → L → List L 
 with_line order l [] = l ∷ []
 with_line order l (x ∷ xs) = if is_lt (order x l) then x ∷ with_line order l xs else l ∷ x ∷ xs
 
+abbrev pub with_link : LinkLine → Lines → Lines
+with_link l t = record t { links = with_line by_link l t.links }
+
+abbrev pub with_loss : LoseLine → Lines → Lines
+with_loss l t = record t { losses = with_line by_loss l t.losses }
+
+abbrev pub with_cut : CutLine → Lines → Lines
+with_cut l t = record t { cuts = with_line by_cut l t.cuts }
+
+abbrev pub with_capture : CaptureLine → Lines → Lines
+with_capture l t = record t { captures = with_line by_capture l t.captures }
+
 -- the lines below l stand before the place, and those above it from the place on; no other line is there
 pub record HasPlace {L : Type 0} (order : L → L → Ordering) (ls : List L) (l : L) (at : ℕ) : Type 0 where
   pub within : at ≤ length ls

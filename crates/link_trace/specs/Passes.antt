@@ -44,7 +44,8 @@ cut_off cuts f j k v = list_any (λ l. cuts_by f j k l && (l.node == v)) cuts
 -- the pair is a link, no line loses it in that frame, slot and step, and neither of its nodes is cut off by then
 abbrev pub passes : Lines → ℕ → ℕ → ℕ → ℕ → ℕ → Bool
 passes t f j k u v =
-    list_any (is_link u v) t.links && not (list_any (is_loss f j k u v) t.losses) && not (cut_off t.cuts f j k u) && not (cut_off t.cuts f j k v)
+    list_any (is_link u v) t.links && not (list_any (is_loss f j k u v) t.losses)
+    && not (cut_off t.cuts f j k u) && not (cut_off t.cuts f j k v)
 
 -- the sender that the line of frame f, slot j, step k at v names
 abbrev pub captured : Lines → ℕ → ℕ → ℕ → ℕ → Option ℕ

@@ -12,9 +12,11 @@ use lwb_base::{Memory, NodeId};
 pub fn add_capture(lines: &mut Vec<CaptureLine>, line: CaptureLine) -> Result<bool, Memory>
     requires { Ascends by_capture lines.old.items }
     ensures added { result ≡ Ok true → lines.new.items ≡ with_line by_capture line lines.old.items }
-    ensures fresh { result ≡ Ok true → list_any (is_capture line.frame line.slot line.step line.at) lines.old.items ≡ false }
+    ensures fresh { result ≡ Ok true
+        → list_any (is_capture line.frame line.slot line.step line.at) lines.old.items ≡ false }
     ensures ascends { Ascends by_capture lines.new.items }
-    ensures twice { result ≡ Ok false → list_any (is_capture line.frame line.slot line.step line.at) lines.old.items ≡ true }
+    ensures twice { result ≡ Ok false
+        → list_any (is_capture line.frame line.slot line.step line.at) lines.old.items ≡ true }
     ensures same { result ≡ Ok false → lines.new.items ≡ lines.old.items }
     ensures err { OnErr result (lines.new.items ≡ lines.old.items) }
 {
@@ -56,7 +58,8 @@ fn find_capture(
 ) -> Result<usize, usize>
     requires { Ascends by_capture lines.now }
     ensures found { IfOk result (IsFirst (is_capture frame slot step at) lines.now) }
-    ensures absent { IfErr result (λ place. (from : ℕ) → HasPlace by_capture lines.now (record { frame = frame; slot = slot; step = step; at = at; from = from }) place) }
+    ensures absent { IfErr result (λ place. (from : ℕ)
+        → HasPlace by_capture lines.now (record { frame = frame; slot = slot; step = step; at = at; from = from }) place) }
 {
     let key = (frame, slot, step, at);
     lines.binary_search_by_key(&key, |l| (l.frame, l.slot, l.step, l.at))

@@ -1,9 +1,11 @@
 ghost use Rattle.std.specs.Prelude.{◌≡◌, Ok, true, false, OnErr};
 ghost use Rattle.std.specs.List.{list_any};
 ghost use Rattle.std.specs.Ordering.{is_eq};
-ghost use Rattle.link_trace.specs.Order.{Ascends, with_line};
+ghost use Rattle.link_trace.specs.Passes.{is_link};
+ghost use Rattle.link_trace.specs.Order.{Ascends, by_link, with_line};
 
-use lwb_base::Memory;
+use crate::LinkLine;
+use lwb_base::{Memory, NodeId};
 
 /// Adds a line where it stands in the ascending lines. `Ok(false)` comes exactly where it is there already.
 pub fn add_in_order<L: Ord + Drop>(lines: &mut Vec<L>, line: L) -> Result<bool, Memory>
@@ -32,4 +34,12 @@ pub fn is_there<L: Ord>(lines: &[L], line: &L) -> bool
     ensures { result ≡ list_any (λ l. is_eq (L.cmp l line.now)) lines.now }
 {
     lines.binary_search(line).is_ok()
+}
+
+/// Whether the pair is one of the links.
+pub fn has_link(links: &[LinkLine], from: NodeId, to: NodeId) -> bool
+    requires { Ascends by_link links.now }
+    ensures { result ≡ list_any (is_link from to) links.now }
+{
+    is_there(links, &LinkLine { from, to })
 }

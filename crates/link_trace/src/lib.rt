@@ -4,10 +4,13 @@
 mod captures;
 mod in_order;
 mod lines;
+mod links;
+mod masks;
 mod ranges;
 mod trace;
 
 pub use lines::{CaptureLine, CutLine, LinkLine, LoseLine};
+pub use links::Links;
 pub use trace::Trace;
 
 #[cfg(test)]

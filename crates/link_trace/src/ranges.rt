@@ -1,9 +1,10 @@
-ghost use Rattle.std.specs.Prelude.{◌≡◌};
-ghost use Rattle.std.specs.List.{filter};
+ghost use Rattle.std.specs.Prelude.{◌≡◌, ◌==◌};
+ghost use Rattle.std.specs.List.{filter, list_any};
 ghost use Rattle.link_trace.specs.Order.{Ascends, by_loss, by_cut};
 ghost use Rattle.link_trace.specs.Passes.{cuts_by, is_of_step};
 
 use crate::{CutLine, LoseLine};
+use lwb_base::NodeId;
 
 /// The cut lines of the frame at or before that slot and step, which stand together.
 pub fn cuts_so_far(cuts: &[CutLine], frame: u32, slot: u8, step: u8) -> &[CutLine]
@@ -29,4 +30,11 @@ pub fn losses_of_step(losses: &[LoseLine], frame: u32, slot: u8, step: u8) -> &[
     let rest = &losses[begin..];
     let count = rest.partition_point(|l| { l.frame == frame && l.slot == slot && l.step == step });
     &rest[..count]
+}
+
+/// Whether one of the cut lines names the node.
+pub fn names(cuts: &[CutLine], node: NodeId) -> bool
+    ensures { result ≡ list_any (λ l. l.node == node) cuts.now }
+{
+    cuts.iter().any(|l| l.node == node)
 }

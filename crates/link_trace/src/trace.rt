@@ -1,12 +1,15 @@
-ghost use Rattle.std.specs.Prelude.{◌≡◌, ◌==◌, OnErr, Ok, true, false};
+ghost use Rattle.std.specs.Prelude.{◌≡◌, ◌<◌, length, slice_index, OnOk, OnErr, Ok, true, false};
 ghost use Rattle.std.specs.List.{list_any};
 ghost use Rattle.link_trace.specs.Passes.{is_link, is_loss, is_cut, is_capture, cut_off};
-ghost use Rattle.link_trace.specs.Order.{Ascends, with_line, by_link, by_loss, by_cut, by_capture};
+ghost use Rattle.link_trace.specs.Order.{Ascends, by_link, by_loss, by_cut, by_capture};
+ghost use Rattle.link_trace.specs.Order.{with_link, with_loss, with_cut, with_capture};
 ghost use Rattle.link_trace.specs.Sealed.{unsealed, no_lines};
+ghost use Rattle.link_trace.specs.Masks.{AreNodes, IsMask};
 
 use crate::captures::{add_capture, captured_sender};
-use crate::in_order::{add_in_order, is_there};
-use crate::ranges::cuts_so_far;
+use crate::in_order::{add_in_order, has_link, is_there};
+use crate::masks::{cut_mask, link_masks, lost_mask};
+use crate::ranges::{cuts_so_far, losses_of_step, names};
 use crate::{CaptureLine, CutLine, LinkLine, LoseLine};
 use lwb_base::{Memory, NodeId};
 use std::alloc::Global;
@@ -21,17 +24,24 @@ pub struct Trace {
     cuts: Vec<CutLine>,
     captures: Vec<CaptureLine>,
     nodes: Vec<NodeId>,
+    masks: Vec<u64>,
+    alloc: Global,
 }
 
 impl Model for Trace {
-    ghost use Rattle.link_trace.specs.Order.{AreInOrder};
+    ghost use Rattle.link_trace.specs.Masks.{AreKept};
     ghost use Rattle.link_trace.specs.Sealed.{Traced};
 
     ghost Value = { Traced };
 
-    ghost view = { λ t. record { lines = record { links = t.links.items; losses = t.losses.items; cuts = t.cuts.items; captures = t.captures.items }; nodes = t.nodes.items } };
+    ghost view = { λ t. record {
+      lines = record { links = t.links.items; losses = t.losses.items; cuts = t.cuts.items; captures = t.captures.items };
+      nodes = t.nodes.items;
+    } };
 
-    ghost invariant = { λ t. AreInOrder (record { links = t.links.items; losses = t.losses.items; cuts = t.cuts.items; captures = t.captures.items }) };
+    ghost invariant = { λ t. AreKept
+        (record { links = t.links.items; losses = t.losses.items; cuts = t.cuts.items; captures = t.captures.items })
+        t.nodes.items t.masks.items };
 }
 
 impl Trace {
@@ -47,21 +57,26 @@ impl Trace {
             cuts: Vec::new(alloc),
             captures: Vec::new(alloc),
             nodes: Vec::new(alloc),
+            masks: Vec::new(alloc),
+            alloc,
         }
     }
 
     /// Adds a link, which unseals the trace. `Ok(false)` comes exactly where it is there already, and then nothing
     /// changes.
     pub fn link(&mut self, from: NodeId, to: NodeId) -> Result<bool, Memory>
-        ensures added { result ≡ Ok true → self.new ≡ unsealed (record self.old.lines { links = with_line by_link (record { from = from; to = to }) self.old.lines.links }) }
+        ensures added { result ≡ Ok true
+            → self.new ≡ unsealed (with_link (record { from = from; to = to }) self.old.lines) }
         ensures fresh { result ≡ Ok true → list_any (is_link from to) self.old.lines.links ≡ false }
-        ensures twice { result ≡ Ok false → (list_any (is_link from to) self.old.lines.links ≡ true) × (self.new ≡ self.old) }
+        ensures twice { result ≡ Ok false
+            → (list_any (is_link from to) self.old.lines.links ≡ true) × (self.new ≡ self.old) }
         ensures err { OnErr result (self.new ≡ self.old) }
     {
         let line = LinkLine { from, to };
         let is_new = add_in_order(&mut self.links, line)?;
         if is_new {
             self.nodes.clear();
+            self.masks.clear();
         }
         Ok(is_new)
     }
@@ -77,9 +92,11 @@ impl Trace {
         from: NodeId,
         to: NodeId,
     ) -> Result<bool, Memory>
-        ensures added { result ≡ Ok true → self.new ≡ unsealed (record self.old.lines { losses = with_line by_loss (record { frame = frame; slot = slot; step = step; from = from; to = to }) self.old.lines.losses }) }
+        ensures added { result ≡ Ok true
+            → self.new ≡ unsealed (with_loss (record { frame = frame; slot = slot; step = step; from = from; to = to }) self.old.lines) }
         ensures fresh { result ≡ Ok true → list_any (is_loss frame slot step from to) self.old.lines.losses ≡ false }
-        ensures twice { result ≡ Ok false → (list_any (is_loss frame slot step from to) self.old.lines.losses ≡ true) × (self.new ≡ self.old) }
+        ensures twice { result ≡ Ok false
+            → (list_any (is_loss frame slot step from to) self.old.lines.losses ≡ true) × (self.new ≡ self.old) }
         ensures err { OnErr result (self.new ≡ self.old) }
     {
         let line = LoseLine {
@@ -92,6 +109,7 @@ impl Trace {
         let is_new = add_in_order(&mut self.losses, line)?;
         if is_new {
             self.nodes.clear();
+            self.masks.clear();
         }
         Ok(is_new)
     }
@@ -99,9 +117,11 @@ impl Trace {
     /// Cuts a node off from that step on until the frame ends, which unseals the trace. `Ok(false)` comes exactly
     /// where that line is there already, and then nothing changes.
     pub fn cut(&mut self, frame: u32, slot: u8, step: u8, node: NodeId) -> Result<bool, Memory>
-        ensures added { result ≡ Ok true → self.new ≡ unsealed (record self.old.lines { cuts = with_line by_cut (record { frame = frame; slot = slot; step = step; node = node }) self.old.lines.cuts }) }
+        ensures added { result ≡ Ok true
+            → self.new ≡ unsealed (with_cut (record { frame = frame; slot = slot; step = step; node = node }) self.old.lines) }
         ensures fresh { result ≡ Ok true → list_any (is_cut frame slot step node) self.old.lines.cuts ≡ false }
-        ensures twice { result ≡ Ok false → (list_any (is_cut frame slot step node) self.old.lines.cuts ≡ true) × (self.new ≡ self.old) }
+        ensures twice { result ≡ Ok false
+            → (list_any (is_cut frame slot step node) self.old.lines.cuts ≡ true) × (self.new ≡ self.old) }
         ensures err { OnErr result (self.new ≡ self.old) }
     {
         let line = CutLine {
@@ -113,6 +133,7 @@ impl Trace {
         let is_new = add_in_order(&mut self.cuts, line)?;
         if is_new {
             self.nodes.clear();
+            self.masks.clear();
         }
         Ok(is_new)
     }
@@ -128,9 +149,11 @@ impl Trace {
         at: NodeId,
         from: NodeId,
     ) -> Result<bool, Memory>
-        ensures added { result ≡ Ok true → self.new ≡ unsealed (record self.old.lines { captures = with_line by_capture (record { frame = frame; slot = slot; step = step; at = at; from = from }) self.old.lines.captures }) }
+        ensures added { result ≡ Ok true
+            → self.new ≡ unsealed (with_capture (record { frame = frame; slot = slot; step = step; at = at; from = from }) self.old.lines) }
         ensures fresh { result ≡ Ok true → list_any (is_capture frame slot step at) self.old.lines.captures ≡ false }
-        ensures twice { result ≡ Ok false → (list_any (is_capture frame slot step at) self.old.lines.captures ≡ true) × (self.new ≡ self.old) }
+        ensures twice { result ≡ Ok false
+            → (list_any (is_capture frame slot step at) self.old.lines.captures ≡ true) × (self.new ≡ self.old) }
         ensures err { OnErr result (self.new ≡ self.old) }
     {
         let line = CaptureLine {
@@ -143,6 +166,7 @@ impl Trace {
         let is_new = add_capture(&mut self.captures, line)?;
         if is_new {
             self.nodes.clear();
+            self.masks.clear();
         }
         Ok(is_new)
     }
@@ -164,6 +188,41 @@ impl Trace {
             && !has_loss(&self.losses, frame, slot, step, from, to)
             && !is_cut_off(&self.cuts, frame, slot, step, from)
             && !is_cut_off(&self.cuts, frame, slot, step, to)
+    }
+
+    /// Seals the trace with these nodes, 1 to 64 ascending ids: it keeps, for each of them, which of them have a link
+    /// to it. The lines stay. After Memory the trace is as it was.
+    pub fn seal(&mut self, nodes: &[NodeId]) -> Result<(), Memory>
+        requires { AreNodes nodes.now }
+        ensures sealed { OnOk result (self.new ≡ record { lines = self.old.lines; nodes = nodes.now }) }
+        ensures err { OnErr result (self.new ≡ self.old) }
+    {
+        let masks = link_masks(self.alloc, &self.links, nodes)?;
+        let Ok(kept) = Vec::from_slice(self.alloc, nodes) else {
+            return Err(Memory);
+        };
+        self.nodes = kept;
+        self.masks = masks;
+        Ok(())
+    }
+
+    /// The nodes from which a link to node `at` passes in that frame, slot and step: bit i is that of node i, and bits
+    /// past the nodes are 0. Nodes are counted from 0, as the seal names them. The time that this takes grows with
+    /// the lines of the frame, and hardly with those of other frames.
+    pub fn from_mask(&self, frame: u32, slot: u8, step: u8, at: u8) -> u64
+        requires { at < length self.now.nodes }
+        ensures { IsMask (λ from. passes_by self.now.lines frame slot step from (slice_index self.now.nodes at))
+            self.now.nodes result }
+    {
+        let to = self.nodes[usize::from(at)];
+        let cuts = cuts_so_far(&self.cuts, frame, slot, step);
+        if names(cuts, to) {
+            return 0;
+        }
+        let losses = losses_of_step(&self.losses, frame, slot, step);
+        let lost = lost_mask(losses, &self.nodes, to);
+        let cut = cut_mask(cuts, &self.nodes);
+        self.masks[usize::from(at)] & !lost & !cut
     }
 
     /// The links, ascending by the sending node and then the receiving one.
@@ -199,13 +258,6 @@ impl Trace {
     }
 }
 
-fn has_link(links: &[LinkLine], from: NodeId, to: NodeId) -> bool
-    requires { Ascends by_link links.now }
-    ensures { result ≡ list_any (is_link from to) links.now }
-{
-    is_there(links, &LinkLine { from, to })
-}
-
 fn has_loss(losses: &[LoseLine], frame: u32, slot: u8, step: u8, from: NodeId, to: NodeId) -> bool
     requires { Ascends by_loss losses.now }
     ensures { result ≡ list_any (is_loss frame slot step from to) losses.now }
@@ -226,10 +278,4 @@ fn is_cut_off(cuts: &[CutLine], frame: u32, slot: u8, step: u8, node: NodeId) ->
     ensures { result ≡ cut_off cuts.now frame slot step node }
 {
     names(cuts_so_far(cuts, frame, slot, step), node)
-}
-
-fn names(cuts: &[CutLine], node: NodeId) -> bool
-    ensures { result ≡ list_any (λ l. l.node == node) cuts.now }
-{
-    cuts.iter().any(|l| l.node == node)
 }

@@ -1,0 +1,67 @@
+-- The masks of the links, less those that are lost and the nodes that are cut off, tell which links pass.
+use Rattle.std.proofs.Common.{◌≡◌, ℕ, ◌^◌, ◌<◌, ◌≤◌, List, Bool, true, false, not, ◌&&◌, ◌==◌, length, bit_and, w64, refl, sym, ◌∙◌, ap}
+use Rattle.std.specs.Int.{bit_not}
+use Rattle.std.specs.List.{filter, list_any}
+use Rattle.link_trace.specs.declared.lines.LoseLine.{LoseLine}
+use Rattle.link_trace.specs.declared.lines.CutLine.{CutLine}
+use Rattle.link_trace.specs.Masks.{IsMask}
+use Rattle.link_trace.specs.Passes.{Lines, is_link, is_loss, is_of_step, cuts_by, cut_off, passes}
+use Rattle.link_trace.proofs.MaskBits.{empty_mask, same_tests, removed}
+use Rattle.link_trace.proofs.Together.{list_any-filter, one_of_these}
+
+grouped : (a b c : Bool) → (a && (b && c)) ≡ (a && b && c)
+grouped true b c = refl
+grouped false b c = refl
+
+module _ (t : Lines) (f j k to : ℕ) where
+  abbrev linked : ℕ → Bool
+  linked from = list_any (is_link from to) t.links
+
+  abbrev lost : ℕ → Bool
+  lost from = list_any (λ (l : LoseLine). (l.from == from) && (l.to == to)) (filter (is_of_step f j k) t.losses)
+
+  abbrev cut : ℕ → Bool
+  cut node = list_any (λ (l : CutLine). l.node == node) (filter (cuts_by f j k) t.cuts)
+
+  lost_is : (from : ℕ) → lost from ≡ list_any (is_loss f j k from to) t.losses
+  lost_is from =
+      list_any-filter (is_of_step f j k) (λ (l : LoseLine). (l.from == from) && (l.to == to)) t.losses
+      ∙ (λ i. list_any (λ (l : LoseLine). grouped (is_of_step f j k l) (l.from == from) (l.to == to) i) t.losses)
+
+  cut_is : (node : ℕ) → cut node ≡ cut_off t.cuts f j k node
+  cut_is node = one_of_these f j k node t.cuts
+
+  left_is : (a b c d : Bool) → d ≡ false → (a && not b && not c) ≡ (a && not b && not c && not d)
+  left_is a b c false none = whole (a && not b && not c)
+    where
+      whole : (x : Bool) → x ≡ (x && true)
+      whole true = refl
+      whole false = refl
+  left_is a b c true none = cc
+
+  passing_is : (from : ℕ) → cut to ≡ false → (linked from && not (lost from) && not (cut from)) ≡ passes t f j k from to
+  passing_is from none =
+      left_is (linked from) (lost from) (cut from) (cut to) none
+      ∙ ap (λ (b : Bool). linked from && not b && not (cut from) && not (cut to)) (lost_is from)
+      ∙ ap (λ (b : Bool). linked from && not (list_any (is_loss f j k from to) t.losses) && not b && not (cut to)) (cut_is from)
+      ∙ ap (λ (b : Bool). linked from && not (list_any (is_loss f j k from to) t.losses) && not (cut_off t.cuts f j k from) && not b) (cut_is to)
+
+  pub mask_of_passing : (nodes : List ℕ) → length nodes ≤ 64 → (a b c : ℕ) → b < 2 ^ 64 → c < 2 ^ 64 → cut to ≡ false → IsMask linked nodes a → IsMask lost nodes b → IsMask cut nodes c
+      → IsMask (λ from. passes t f j k from to) nodes (bit_and (bit_and a (bit_not w64 b)) (bit_not w64 c))
+  mask_of_passing nodes few a b c b_small c_small none a_is b_is c_is =
+      same_tests nodes (λ from. linked from && not (lost from) && not (cut from)) (λ from. passes t f j k from to) (bit_and (bit_and a (bit_not w64 b)) (bit_not w64 c)) (λ from. passing_is from none)
+      (removed nodes few (λ from. linked from && not (lost from)) cut (bit_and a (bit_not w64 b)) c c_small (removed nodes few linked lost a b b_small a_is b_is) c_is)
+
+  none_left : (a b c d : Bool) → d ≡ true → false ≡ (a && b && c && not d)
+  none_left a b c true is = nothing (a && b && c)
+    where
+      nothing : (x : Bool) → false ≡ (x && false)
+      nothing true = refl
+      nothing false = refl
+  none_left a b c false is = cc
+
+  -- nothing passes to a node that is cut off
+  pub none_passing : (nodes : List ℕ) → cut to ≡ true → IsMask (λ from. passes t f j k from to) nodes 0
+  none_passing nodes is =
+      same_tests nodes (λ from. false) (λ from. passes t f j k from to) 0
+      (λ from. none_left (linked from) (not (list_any (is_loss f j k from to) t.losses)) (not (cut_off t.cuts f j k from)) (cut_off t.cuts f j k to) (sym (cut_is to) ∙ is)) (empty_mask nodes)

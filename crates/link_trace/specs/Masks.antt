@@ -1,0 +1,34 @@
+-- Masks of the nodes of a seal, and those that a sealed trace keeps.
+use Rattle.std.specs.Prelude.{◌≡◌, ℕ, ◌<◌, ◌≤◌, List, Bool, ◌&&◌, nat_lt, length, slice_index, if◌then◌else◌}
+use Rattle.std.specs.Int.{bit_at}
+use Rattle.std.specs.List.{list_any, AllPairs}
+use Rattle.link_trace.specs.declared.lines.LinkLine.{LinkLine}
+use Rattle.link_trace.specs.Order.{AreInOrder}
+use Rattle.link_trace.specs.Passes.{Lines, is_link}
+
+-- 1 to 64 ids, each below those after it
+pub record AreNodes (nodes : List ℕ) : Type 0 where
+  pub some : 1 ≤ length nodes
+  pub few : length nodes ≤ 64
+  pub ascending : AllPairs (λ a b. a < b) nodes
+
+-- bit i is set exactly where the test holds of node i, which is one of the first n nodes
+abbrev pub IsMaskUpto : (ℕ → Bool) → List ℕ → ℕ → ℕ → Type 0
+IsMaskUpto test nodes n mask = (i : ℕ) → bit_at mask i ≡ (if nat_lt i n && test (slice_index nodes i) then 1 else 0)
+
+-- bit i is set exactly where the test holds of node i, counted from 0; bits past the nodes are 0
+abbrev pub IsMask : (ℕ → Bool) → List ℕ → ℕ → Type 0
+IsMask test nodes mask = IsMaskUpto test nodes (length nodes) mask
+
+-- one mask for each node, of the nodes that have a link to it
+pub record AreLinkMasks (links : List LinkLine) (nodes masks : List ℕ) : Type 0 where
+  pub one_each : length masks ≡ length nodes
+  pub to_each : (at : ℕ) → at < length nodes
+      → IsMask (λ from. list_any (is_link from (slice_index nodes at)) links) nodes (slice_index masks at)
+
+-- what is true of each trace
+pub record AreKept (t : Lines) (nodes masks : List ℕ) : Type 0 where
+  pub in_order : AreInOrder t
+  pub few : length nodes ≤ 64
+  pub ascending : AllPairs (λ a b. a < b) nodes
+  pub link_masks : AreLinkMasks t.links nodes masks

@@ -1,0 +1,40 @@
+ghost use Rattle.std.specs.Prelude.{◌≡◌, ℕ, List, ◌<◌, length, slice_index};
+ghost use Rattle.link_trace.specs.Masks.{IsMask};
+ghost use Rattle.link_trace.specs.Passes.{Lines, passes, captured as captured_by};
+
+use crate::Trace;
+use lwb_base::NodeId;
+
+/// What a medium asks of a trace: which links pass, and whom a node captures. The meanings are the lines, and the
+/// nodes of the seal, of which there are none where the trace is not sealed.
+pub trait Links {
+    ghost lines: { Self → Lines };
+
+    ghost nodes: { Self → List ℕ };
+
+    /// The nodes from which a link to node `at` passes in that frame, slot and step: bit i is that of node i, and bits
+    /// past the nodes are 0. Nodes are counted from 0, as the seal names them.
+    fn from_mask(&self, frame: u32, slot: u8, step: u8, at: u8) -> u64
+        requires { at < length (nodes self.now) }
+        ensures { IsMask (λ from. passes (lines self.now) frame slot step from (slice_index (nodes self.now) at))
+            (nodes self.now) result };
+
+    /// The sender that the capture line of that frame, slot and step at the node names. None comes exactly where there
+    /// is no such line.
+    fn captured(&self, frame: u32, slot: u8, step: u8, at: NodeId) -> Option<NodeId>
+        ensures { result ≡ captured_by (lines self.now) frame slot step at };
+}
+
+impl Links for Trace {
+    ghost lines = { λ t. t.lines };
+
+    ghost nodes = { λ t. t.nodes };
+
+    fn from_mask(&self, frame: u32, slot: u8, step: u8, at: u8) -> u64 {
+        Trace::from_mask(self, frame, slot, step, at)
+    }
+
+    fn captured(&self, frame: u32, slot: u8, step: u8, at: NodeId) -> Option<NodeId> {
+        Trace::captured(self, frame, slot, step, at)
+    }
+}
