@@ -6,4 +6,5 @@ pub mod LineFeeds
 pub mod LinesRead
 pub mod NodeIds
 pub mod FloodKeeps
+pub mod ScenarioKeeps
 pub mod LinksBack

@@ -1,6 +1,7 @@
-ghost use Rattle.std.specs.Prelude.{◌≡◌, ◌≢◌, ◌≤◌, ◌<◌, ◌&&◌, ◌==◌, not, nat_lt, nat_le, if◌then◌else◌, [], ◌∷◌, Ok, Some, None, true, false, ℕ, List, IfOk, count_by, reverse, length};
+ghost use Rattle.std.specs.Prelude.{◌≡◌, ◌≢◌, ◌≤◌, ◌<◌, ◌&&◌, ◌==◌, not, nat_lt, nat_le, if◌then◌else◌, [], ◌∷◌, Ok, Some, None, true, false, ℕ, List, IfOk, count_by, reverse, map, length};
 ghost use Rattle.std.specs.List.{find, list_any};
 ghost use Rattle.std.specs.Option.{option_copied, option_map_or};
+ghost use Rattle.scenario_text.specs.FloodDrafts.{IsNetwork};
 ghost use Rattle.scenario_text.specs.FloodParts.{knows as knows_of};
 ghost use Rattle.scenario_text.specs.Network.{no_network, network_parts, network_fault, with_line, with_node, with_link, has_link, has_loss, with_loss, has_cut, with_cut, has_capture, with_capture, with_script_line, has_script_room, are_ends, last_rate as last_rate_of, ppm as ppm_of, is_id};
 ghost use Rattle.scenario_text.specs.Faults.{first_fault};
@@ -67,13 +68,14 @@ impl NetworkDraft {
     /// What the lines say: how often a node sends, the nodes by id, their rates by node and tick, and the trace. None
     /// comes exactly where sendings or a second node is missing.
     pub fn finish(self, alloc: Global) -> Result<Option<Network>, Memory>
+        requires { IsNetwork self }
         ensures { IfOk result (λ p. p ≡ network_parts self self.sends) }
     {
         let NetworkDraft {
             sends,
             nodes,
             rates,
-            trace,
+            mut trace,
             ..
         } = self;
         let Some(sends) = sends else {
@@ -83,6 +85,7 @@ impl NetworkDraft {
             return Ok(None);
         }
         let rates = by_node(alloc, &nodes, &rates)?;
+        trace.seal(&ids(alloc, &nodes)?)?;
         Ok(Some(Network {
             sends,
             nodes,
@@ -272,6 +275,15 @@ impl NetworkDraft {
             return Ok(Some(FaultKind::Twice));
         }
         Ok(None)
+    }
+}
+
+fn ids(alloc: Global, nodes: &[NodeLine]) -> Result<Vec<NodeId>, Memory>
+    ensures { IfOk result (λ v. v.items ≡ map (λ n. n.node) nodes.now) }
+{
+    match nodes.iter().map(|n| n.node).collect(alloc) {
+        Ok(ids) => Ok(ids),
+        Err(_) => Err(Memory),
     }
 }
 

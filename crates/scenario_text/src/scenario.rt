@@ -1,4 +1,5 @@
 ghost use Rattle.std.specs.Prelude.{◌≡◌};
+ghost use Rattle.scenario_text.specs.FloodParts.{IsSealed};
 ghost use Rattle.scenario_text.specs.ScenarioGrammar.{IsScenario};
 
 use crate::network::Network;
@@ -29,8 +30,9 @@ impl Model for Scenario {
     ghost view = { λ s. record { profile = s.profile; frames = s.frames; sends = s.sends; nodes = s.nodes.items; rates = s.rates.items; hosts = s.hosts.items; trace = s.trace.lines; script = s.script.items } };
 
     ghost use Rattle.scenario_text.specs.ScenarioGrammar.{IsScenario};
+    ghost use Rattle.scenario_text.specs.FloodParts.{IsSealed};
 
-    ghost invariant = { λ s. IsScenario (record { profile = s.profile; frames = s.frames; sends = s.sends; nodes = s.nodes.items; rates = s.rates.items; hosts = s.hosts.items; trace = s.trace.lines; script = s.script.items }) };
+    ghost invariant = { λ s. IsScenario (record { profile = s.profile; frames = s.frames; sends = s.sends; nodes = s.nodes.items; rates = s.rates.items; hosts = s.hosts.items; trace = s.trace.lines; script = s.script.items }) × IsSealed s.trace s.nodes.items };
 }
 
 impl Scenario {
@@ -64,7 +66,8 @@ impl Scenario {
     }
 
     pub fn profile(&self) -> Profile
-        ensures { result ≡ self.now.profile }
+        ensures value { result ≡ self.now.profile }
+        ensures said { IsScenario self.now }
     {
         self.profile
     }
@@ -104,9 +107,11 @@ impl Scenario {
         &self.hosts
     }
 
-    /// The links of the nodes, and where and when they are lost, cut or captured.
+    /// The links of the nodes, and where and when they are lost, cut or captured. It is sealed
+    /// with the nodes.
     pub fn trace(&self) -> &Trace
-        ensures { result.now.lines ≡ self.now.trace }
+        ensures value { result.now.lines ≡ self.now.trace }
+        ensures sealed { IsSealed result.now self.now.nodes }
     {
         &self.trace
     }

@@ -12,5 +12,5 @@ said bytes d s read done =
     ap (λ (r : Result Scenario (ℕ × FaultKind)). r >>= (λ e. in_line (length (lines bytes) + 1) (finished e))) read
     ∙ ap (λ (r : Result ScenarioParts FaultKind). in_line (length (lines bytes) + 1) r) done
 
-pub finish-requires : goal.finish-requires
-finish-requires c = λ s done. (c.args.bytes.now, said c.args.bytes.now c.in_ok-draft.draft s c.in_ok-draft.ensures.draft done)
+pub finish-requires-clause-said : goal.finish-requires-clause-said
+finish-requires-clause-said c = λ s done. (c.args.bytes.now, said c.args.bytes.now c.in_ok-draft.draft s c.in_ok-draft.ensures.draft done)
