@@ -9,7 +9,7 @@ use Rattle.scenario_text.specs.FloodParts.{FloodParts, IsSound, knows}
 use Rattle.scenario_text.specs.Words.{words, is_skipped}
 use Rattle.scenario_text.specs.Network.{Drafted, Parts, network_fault, with_line, network_parts, rates_by_node, is_id}
 use Rattle.scenario_text.specs.FloodGrammar.{Flood, rule_fault, with_flood_line, after_spelled, after_words, after_line, flood_line, flood_numbers, no_flood}
-use Rattle.scenario_text.specs.Faults.{unless_fault, after_lines}
+use Rattle.scenario_text.specs.Faults.{unless_fault}
 use Rattle.scenario_text.specs.FloodDrafts.{Rises, IsNetwork, IsFlood}
 use Rattle.scenario_text.specs.declared.fault.FaultKind.{FaultKind}
 use Rattle.scenario_text.specs.declared.fault.FaultKind.TheVariants.{NotUtf8, BadWord, BadNumber, Range, UnknownNode, Order, Twice, TooMany, Missing}
@@ -25,7 +25,7 @@ pub passed : (b : Bool) (k : FaultKind) (others : Option FaultKind) → cond b o
 passed true k others is = (refl, is)
 passed false k others is = cc
 
-network_keeps : (last : ℕ) (d : Drafted) (l : NetworkLine) → IsNetwork d → network_fault last d l ≡ None → IsNetwork (with_line d l)
+pub network_keeps : (last : ℕ) (d : Drafted) (l : NetworkLine) → IsNetwork d → network_fault last d l ≡ None → IsNetwork (with_line d l)
 network_keeps last d (Sends x) sound none =
     let range = passed (nat_le 1 x && nat_le x 4) Range _ none in
     let ends = and_parts (nat_le 1 x) (nat_le x 4) range.0 in
@@ -67,13 +67,13 @@ flood_keeps f (Start i) sound none =
     let known = passed (knows f.network.nodes i) UnknownNode _ range.1 in
     record { network = sound.network; start_known = known.0 }
 
-unless_keeps : (o : Option FaultKind) (f : Flood) → (o ≡ None → IsFlood f) → IfOk (unless_fault o f) IsFlood
-unless_keeps None f sound = sound refl
-unless_keeps (Some k) f sound = tt
+pub unless_keeps : {D : Type 0} (P : D → Type 0) (o : Option FaultKind) (d : D) → (o ≡ None → P d) → IfOk (unless_fault o d) P
+unless_keeps P None d sound = sound refl
+unless_keeps P (Some k) d sound = tt
 
 words_keep : (f : Flood) (ws : List (List ℕ)) (o : Option FloodLine) → IsFlood f → IfOk (after_words f ws o) IsFlood
 words_keep f ws None sound = tt
-words_keep f ws (Some l) sound = cond_both (flood_numbers l ws) (after_spelled f l) (Err BadNumber) (λ r. IfOk r IsFlood) (λ is. unless_keeps (rule_fault f l) (with_flood_line f l) (λ none. flood_keeps f l sound none)) (λ not. tt)
+words_keep f ws (Some l) sound = cond_both (flood_numbers l ws) (after_spelled f l) (Err BadNumber) (λ r. IfOk r IsFlood) (λ is. unless_keeps IsFlood (rule_fault f l) (with_flood_line f l) (λ none. flood_keeps f l sound none)) (λ not. tt)
 
 pub line_keeps : (f : Flood) (line : List ℕ) → IsFlood f → IfOk (after_line f line) IsFlood
 unfolding after_line
@@ -81,7 +81,7 @@ line_keeps f line sound =
     cond_both (is_skipped (words line)) (Ok f) _ (λ r. IfOk r IsFlood) (λ is. sound)
     (λ not. cond_both (is_utf8 line) (after_words f (words line) (flood_line (words line))) (Err NotUtf8) (λ r. IfOk r IsFlood) (λ is. words_keep f (words line) _ sound) (λ not. tt))
 
-at_ok : {A E : Type 0} (P : A → Type 0) (r : Result A E) (x : A) → r ≡ Ok x → IfOk r P → P x
+pub at_ok : {A E : Type 0} (P : A → Type 0) (r : Result A E) (x : A) → r ≡ Ok x → IfOk r P → P x
 at_ok P r x is holds = subst (λ (q : Result _ _). IfOk q P) is holds
 
 -- behind an allowed line
@@ -90,13 +90,6 @@ read_keeps f g line sound is = at_ok IsFlood (after_line f line) g is (line_keep
 
 pub nothing_sound : IsFlood no_flood
 nothing_sound = record { network = record { sends = tt; few_nodes = omega arith; rises = tt; offsets = tt }; start_known = tt }
-
--- one line more, and a line that is refused
-pub one_line_more : (n : ℕ) (f g : Flood) (line : List ℕ) (others : List (List ℕ)) → after_line f line ≡ Ok g → after_lines after_line n f (line ∷ others) ≡ after_lines after_line (n + 1) g others
-one_line_more n f g line others is = rw is refl
-
-pub one_line_refused : (n : ℕ) (f : Flood) (k : FaultKind) (line : List ℕ) (others : List (List ℕ)) → after_line f line ≡ Err k → after_lines after_line n f (line ∷ others) ≡ Err (n, k)
-one_line_refused n f k line others is = rw is refl
 
 abbrev parts_at : Drafted → ℕ → Parts
 parts_at d n = record { sends = n; nodes = d.nodes; rates = rates_by_node d.nodes d.rates; trace = d.trace }

@@ -3,6 +3,8 @@ pub mod Known
 pub mod FloodExamples
 pub mod ScenarioExamples
 pub mod LineFeeds
+pub mod LinesRead
 pub mod NodeIds
 pub mod FloodKeeps
+pub mod ScenarioKeeps
 pub mod LinksBack

@@ -1,7 +1,9 @@
 -- Nodes in the order of their ids, and a node more among them.
-use Rattle.std.proofs.Common.{◌≡◌, ℕ, zero, suc, ◌+◌, ◌<◌, ◌≤◌, List, [], ◌∷◌, ◌++◌, Bool, true, false, ◌||◌, ◌==◌, nat_lt, cond, length, take, drop, count_by, insert, refl, sym, ◌∙◌, ap, subst, arith, inl, inr}
+use Rattle.std.proofs.Common.{◌≡◌, ℕ, zero, suc, ◌+◌, ◌<◌, ◌≤◌, List, [], ◌∷◌, ◌++◌, Bool, true, false, ◌||◌, ◌==◌, nat_lt, cond, length, take, drop, map, get_or, count_by, insert, refl, sym, ◌∙◌, ap, subst, arith, inl, inr}
 use Rattle.std.proofs.lemmas.Bool.{cond-true, cond-false, ltb-true, ltb-false, lt-ltb, le-ltb, or_left, or_right, or_cases, or_parts, eqb-false, cases_order, cases_Bool, false≢true}
+use Rattle.std.proofs.lemmas.List.{get_or-map, length-map}
 use Rattle.std.proofs.lemmas.List.Sums.{sum_by-cons}
+use Rattle.link_trace.specs.Masks.{AreNodes}
 use Rattle.std.proofs.lemmas.List.Elements.{All-from_recursion}
 use Rattle.std.specs.List.{AllByRecursion, AllPairs, list_any}
 use Rattle.scenario_text.specs.FloodParts.{knows}
@@ -113,3 +115,23 @@ pairs_rise (n ∷ ns) rises zero zero d before within = absurd (omega arith)
 pairs_rise (n ∷ ns) rises zero (suc j) d before within = All-from_recursion (λ (m : NodeLine). n.node < m.node) ns rises.0 j d (omega arith)
 pairs_rise (n ∷ ns) rises (suc i) zero d before within = absurd (omega arith)
 pairs_rise (n ∷ ns) rises (suc i) (suc j) d before within = pairs_rise ns rises.1 i j d (omega arith) (omega arith)
+
+abbrev id_of : NodeLine → ℕ
+id_of n = n.node
+
+-- and so have their ids
+ids_rise : (ns : List NodeLine) → Rises ns → AllPairs (λ a b. a < b) (map id_of ns)
+ids_rise [] rises i j d before within = absurd (omega arith)
+ids_rise (n ∷ ns) rises zero zero d before within = absurd (omega arith)
+ids_rise (n ∷ ns) rises zero (suc j) d before within =
+    let below : j < length ns = omega (arith, within, length-map ns id_of) in
+    let at : get_or (map id_of ns) j d ≡ (get_or ns j n).node = get_or-map id_of ns j n d below in
+    let lt : n.node < (get_or ns j n).node = All-from_recursion (λ (m : NodeLine). n.node < m.node) ns rises.0 j n below in
+    omega (arith, at, lt)
+ids_rise (n ∷ ns) rises (suc i) zero d before within = absurd (omega arith)
+ids_rise (n ∷ ns) rises (suc i) (suc j) d before within = ids_rise ns rises.1 i j d (omega arith) (omega arith)
+
+-- a trace may be sealed with them
+pub nodes_seal : (ns : List NodeLine) (ids : List ℕ) → Rises ns → 2 ≤ length ns → length ns ≤ 64 → ids ≡ map (λ n. n.node) ns → AreNodes ids
+nodes_seal ns ids rises some few is =
+    subst AreNodes (sym is) (record { some = omega (arith, some, length-map ns id_of); few = omega (arith, few, length-map ns id_of); ascending = ids_rise ns rises })

@@ -1,7 +1,8 @@
 -- What a flood text says, and what is true of each.
-use Rattle.std.specs.Prelude.{◌≡◌, ◌<◌, ◌≤◌, ℕ, List, Bool, true, length, ◌==◌, All}
+use Rattle.std.specs.Prelude.{◌≡◌, ◌<◌, ◌≤◌, ℕ, List, map, Bool, true, length, ◌==◌, All}
 use Rattle.std.specs.List.{list_any, AllPairs}
 use Rattle.link_trace.specs.Passes.{Lines}
+use Rattle.link_trace.specs.Sealed.{Traced}
 use Rattle.scenario_text.specs.declared.lines.NodeLine.{NodeLine}
 use Rattle.scenario_text.specs.declared.lines.RateLine.{RateLine}
 
@@ -16,6 +17,10 @@ pub record FloodParts : Type 0 where
 -- v is the id of one of these nodes
 abbrev pub knows : List NodeLine → ℕ → Bool
 knows ns v = list_any (λ n. n.node == v) ns
+
+-- the trace is sealed with these nodes
+abbrev pub IsSealed : Traced → List NodeLine → Type 0
+IsSealed t ns = t.nodes ≡ map (λ n. n.node) ns
 
 pub record IsSound (f : FloodParts) : Type 0 where
   pub some_sends : 1 ≤ f.sends

@@ -8,3 +8,4 @@ pub mod FloodDrafts
 pub mod Payloads
 pub mod ScenarioParts
 pub mod ScenarioGrammar
+pub mod ScenarioDrafts

@@ -3,8 +3,8 @@ use Rattle.std.specs.Prelude.{◌≡◌, ℕ, ◌+◌, ℤ, pos, neg_ℤ, List, 
 use Rattle.std.specs.List.{list_all, list_any, flat_map}
 use Rattle.std.specs.Str.{bytes_eq}
 use Rattle.std.specs.Option.{option_map_or}
-use Rattle.link_trace.specs.Order.{with_line as in_order_with, by_link, by_loss}
-use Rattle.link_trace.specs.Passes.{Lines, is_link, is_loss}
+use Rattle.link_trace.specs.Order.{with_line as in_order_with, by_link, by_loss, by_cut, by_capture}
+use Rattle.link_trace.specs.Passes.{Lines, is_link, is_loss, is_cut, is_capture}
 use Rattle.link_trace.specs.Sealed.{no_lines}
 use Rattle.scenario_text.specs.FloodParts.{knows}
 use Rattle.scenario_text.specs.Faults.{first_fault}
@@ -88,6 +88,12 @@ has_link t u v = list_any (is_link u v) t.links
 abbrev pub has_loss : Lines → ℕ → ℕ → ℕ → ℕ → ℕ → Bool
 has_loss t f j k u v = list_any (is_loss f j k u v) t.losses
 
+abbrev pub has_cut : Lines → ℕ → ℕ → ℕ → ℕ → Bool
+has_cut t f j k i = list_any (is_cut f j k i) t.cuts
+
+abbrev pub has_capture : Lines → ℕ → ℕ → ℕ → ℕ → Bool
+has_capture t f j k a = list_any (is_capture f j k a) t.captures
+
 -- no line above says the same
 abbrev pub is_new : Drafted → NetworkLine → Bool
 is_new n (Sends x) = is_none n.sends
@@ -123,6 +129,12 @@ with_link u v t = record t { links = in_order_with by_link (record { from = u; t
 
 abbrev pub with_loss : ℕ → ℕ → ℕ → ℕ → ℕ → Lines → Lines
 with_loss f j k u v t = record t { losses = in_order_with by_loss (record { frame = f; slot = j; step = k; from = u; to = v }) t.losses }
+
+abbrev pub with_cut : ℕ → ℕ → ℕ → ℕ → Lines → Lines
+with_cut f j k i t = record t { cuts = in_order_with by_cut (record { frame = f; slot = j; step = k; node = i }) t.cuts }
+
+abbrev pub with_capture : ℕ → ℕ → ℕ → ℕ → ℕ → Lines → Lines
+with_capture f j k a b t = record t { captures = in_order_with by_capture (record { frame = f; slot = j; step = k; at = a; from = b }) t.captures }
 
 -- by so many millionths fast, or slow
 abbrev pub ppm : Bool → ℕ → ℤ

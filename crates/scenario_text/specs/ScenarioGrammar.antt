@@ -5,14 +5,13 @@ use Rattle.std.specs.Option.{ok_or, option_map_or}
 use Rattle.std.specs.Str.{bytes_eq, is_utf8}
 use Rattle.std.specs.Str.Lines.{lines}
 use Rattle.lwb_base.specs.Profile.{Numbers, one, contended}
-use Rattle.link_trace.specs.Order.{with_line as in_order_with, by_cut, by_capture}
-use Rattle.link_trace.specs.Passes.{Lines, is_cut, is_capture}
+use Rattle.link_trace.specs.Passes.{Lines}
 use Rattle.scenario_text.specs.FloodParts.{knows}
 use Rattle.scenario_text.specs.ScenarioParts.{ScenarioParts}
 use Rattle.scenario_text.specs.Faults.{first_fault, unless_fault, in_line, ◌>>=◌, after_lines}
 use Rattle.scenario_text.specs.Payloads.{is_payload, payload}
 use Rattle.scenario_text.specs.Words.{words, word, is_skipped, is_number, number_at, counted}
-use Rattle.scenario_text.specs.Network.{Drafted, Parts, network_parts, network_line, network_numbers, no_network, is_id, are_ends, has_loss, has_script_room, with_line, with_loss, with_script_line, in_range, knows_ids, in_order, is_new, has_room}
+use Rattle.scenario_text.specs.Network.{Drafted, Parts, network_parts, network_line, network_numbers, no_network, is_id, are_ends, has_loss, has_cut, has_capture, has_script_room, with_line, with_loss, with_cut, with_capture, with_script_line, in_range, knows_ids, in_order, is_new, has_room}
 use Rattle.scenario_text.specs.declared.fault.FaultKind.{FaultKind}
 use Rattle.scenario_text.specs.declared.fault.FaultKind.TheVariants.{NotUtf8, BadWord, BadNumber, Range, UnknownNode, Order, Twice, TooMany, Missing, TooBig}
 use Rattle.scenario_text.specs.declared.scenario_line.ScenarioLine.{ScenarioLine}
@@ -48,15 +47,13 @@ scenario_numbers (InNetwork l) ws = network_numbers l ws
 scenario_numbers (Put f i s p) ws = is_number (word ws 1) && is_number (word ws 2) && is_number (word ws 3)
 scenario_numbers other ws = list_all is_number (drop 1 ws)
 
--- what the lines above say: whether there are none, whether the last of them is `profile 2`, whether the profile is the
--- second, its contention slots, the frames, the hosts by rank, the script, and for each id whether the node is on and how
--- often it booted
+-- what the lines above say: whether there are none, whether the last of them is `profile 2`, the profile, the frames, the
+-- hosts by rank, the script, and for each id whether the node is on and how often it booted
 pub record Scenario : Type 0 where
   pub network : Drafted
   pub first : Bool
   pub after_two : Bool
-  pub two : Bool
-  pub contend : Option ℕ
+  pub profile : Numbers
   pub frames : Option ℕ
   pub hosts : List ℕ
   pub script : List ScriptLine
@@ -68,8 +65,7 @@ no_scenario = record {
   network = no_network;
   first = true;
   after_two = false;
-  two = false;
-  contend = None;
+  profile = one;
   frames = None;
   hosts = [];
   script = [];
@@ -77,30 +73,28 @@ no_scenario = record {
   boots = replicate 201 0;
 }
 
-abbrev pub last_tick : Bool → ℕ
-last_tick two = if two then 1310720000000 else 1048576000000
+-- the end of the last frame that a scenario may have
+abbrev pub last_tick : Numbers → ℕ
+last_tick p = 4096 * p.frame
 
-abbrev pub last_slot : Option ℕ → ℕ
-last_slot contend = if is_some contend then 45 else 42
-
-abbrev pub longest_payload : Bool → ℕ
-longest_payload two = if two then 96 else 32
+abbrev pub last_slot : Numbers → ℕ
+last_slot p = if p.contend == 0 then 42 else 45
 
 -- a frame number, which is below the number of frames once that is known
 abbrev pub is_frame : Option ℕ → ℕ → Bool
 is_frame None f = nat_le f 4095
 is_frame (Some n) f = nat_lt f n
 
-abbrev pub is_short : Bool → Option (List ℕ) → Bool
-is_short two p = option_map_or (λ bytes. nat_le (length bytes) (longest_payload two)) p false
+abbrev pub is_short : Numbers → Option (List ℕ) → Bool
+is_short p payload = option_map_or (λ bytes. nat_le (length bytes) p.payload_max) payload false
 
 -- a step of a slot of a frame
 abbrev pub is_step : Scenario → ℕ → ℕ → ℕ → Bool
-is_step d f j k = is_frame d.frames f && nat_le j (last_slot d.contend) && nat_le k 11
+is_step d f j k = is_frame d.frames f && nat_le j (last_slot d.profile) && nat_le k 11
 
 -- the numbers of the line are in their ranges
 abbrev pub line_in_range : Scenario → ScenarioLine → Bool
-line_in_range d (InNetwork l) = in_range (last_tick d.two) l
+line_in_range d (InNetwork l) = in_range (last_tick d.profile) l
 line_in_range d (Profile p) = nat_le 1 p && nat_le p 2
 line_in_range d (Contend c) = nat_le 1 c && nat_le c 4
 line_in_range d (Frames f) = nat_le 1 f && nat_le f 4096
@@ -109,7 +103,7 @@ line_in_range d (On f i) = is_frame d.frames f && is_id i
 line_in_range d (Off f i) = is_frame d.frames f && is_id i
 line_in_range d (Stream f i s n) = is_frame d.frames f && is_id i && nat_le s 3 && nat_le 1 n && nat_le n 120
 line_in_range d (Leave f i s) = is_frame d.frames f && is_id i && nat_le s 3
-line_in_range d (Put f i s p) = is_frame d.frames f && is_id i && nat_le s 3 && is_short d.two p
+line_in_range d (Put f i s p) = is_frame d.frames f && is_id i && nat_le s 3 && is_short d.profile p
 line_in_range d (Lose f j k u v) = is_step d f j k && are_ends u v
 line_in_range d (Cut f j k i) = is_step d f j k && is_id i
 line_in_range d (Capture f j k a b) = is_step d f j k && are_ends a b
@@ -152,12 +146,6 @@ line_in_order d (Put f i s p) = in_script_order d f
 line_in_order d (Lose f j k u v) = is_some d.frames
 line_in_order d (Cut f j k i) = is_some d.frames
 line_in_order d (Capture f j k a b) = is_some d.frames
-
-abbrev pub has_cut : Lines → ℕ → ℕ → ℕ → ℕ → Bool
-has_cut t f j k i = list_any (is_cut f j k i) t.cuts
-
-abbrev pub has_capture : Lines → ℕ → ℕ → ℕ → ℕ → Bool
-has_capture t f j k a = list_any (is_capture f j k a) t.captures
 
 -- no line above says the same
 abbrev pub line_is_new : Scenario → ScenarioLine → Bool
@@ -204,12 +192,6 @@ line_fault d l =
     ((line_in_range d l, Range) ∷ (line_knows_ids d l, UnknownNode) ∷ (line_in_order d l, Order) ∷ (line_is_new d l, Twice)
     ∷ (line_has_room d l, TooMany) ∷ [])
 
-abbrev pub with_cut : ℕ → ℕ → ℕ → ℕ → Lines → Lines
-with_cut f j k i t = record t { cuts = in_order_with by_cut (record { frame = f; slot = j; step = k; node = i }) t.cuts }
-
-abbrev pub with_capture : ℕ → ℕ → ℕ → ℕ → ℕ → Lines → Lines
-with_capture f j k a b t = record t { captures = in_order_with by_capture (record { frame = f; slot = j; step = k; at = a; from = b }) t.captures }
-
 -- with a line more of the script
 abbrev pub with_act : Scenario → ℕ → ℕ → Act → Scenario
 with_act d f i a = record d { network = with_script_line d.network d.network.trace; script = d.script ++ record { frame = f; node = i; act = a } ∷ [] }
@@ -225,8 +207,8 @@ with_boot d i = record d { on = slice_set d.on i true; boots = slice_set d.boots
 -- what the lines say with an allowed line more
 abbrev pub line_added : Scenario → ScenarioLine → Scenario
 line_added d (InNetwork l) = record d { network = with_line d.network l }
-line_added d (Profile p) = record d { two = p == 2 }
-line_added d (Contend c) = record d { contend = Some c }
+line_added d (Profile p) = record d { profile = if p == 2 then contended 0 else one }
+line_added d (Contend c) = record d { profile = contended c }
 line_added d (Frames f) = record d { frames = Some f }
 line_added d (Host r i) = record d { hosts = d.hosts ++ i ∷ [] }
 line_added d (On f i) = with_boot (with_act d f i act.On) i
@@ -263,11 +245,6 @@ abbrev pub Reads : Option FaultKind → Scenario → Result Scenario FaultKind �
 Reads None new after = after ≡ Ok new
 Reads (Some k) new after = after ≡ Err k
 
-abbrev pub profile_of : Bool → Option ℕ → Numbers
-profile_of false c = one
-profile_of true None = contended 0
-profile_of true (Some c) = contended c
-
 -- there are not too many nodes for the frames
 abbrev pub if_small : ScenarioParts → Result ScenarioParts FaultKind
 if_small s = if nat_le (length s.nodes * s.frames) 16384 then Ok s else Err TooBig
@@ -277,7 +254,7 @@ abbrev pub finished_parts : Scenario → Option Parts → Option ℕ → Result 
 finished_parts d (Some p) (Some f) =
     if length d.hosts == 0 then Err Missing
     else if_small (record {
-      profile = profile_of d.two d.contend;
+      profile = d.profile;
       frames = f;
       sends = p.sends;
       nodes = p.nodes;
@@ -297,3 +274,7 @@ abbrev pub scenario_of : List ℕ → Result ScenarioParts (ℕ × FaultKind)
 scenario_of bytes = do
   d ← after_lines after_line 1 no_scenario (lines bytes)
   in_line (length (lines bytes) + 1) (finished d)
+
+-- some text says it
+abbrev pub IsScenario : ScenarioParts → Type 0
+IsScenario s = (bytes : List ℕ) × (scenario_of bytes ≡ Ok s)

@@ -1,5 +1,5 @@
 ghost use Rattle.std.specs.Prelude.{◌≡◌};
-ghost use Rattle.scenario_text.specs.FloodParts.{IsSound};
+ghost use Rattle.scenario_text.specs.FloodParts.{IsSound, IsSealed};
 
 use crate::network::Network;
 use crate::{NodeLine, RateLine};
@@ -19,13 +19,13 @@ pub struct FloodText {
 }
 
 impl Model for FloodText {
-    ghost use Rattle.scenario_text.specs.FloodParts.{FloodParts, IsSound};
+    ghost use Rattle.scenario_text.specs.FloodParts.{FloodParts, IsSound, IsSealed};
 
     ghost Value = { FloodParts };
 
     ghost view = { λ t. record { sends = t.sends; nodes = t.nodes.items; rates = t.rates.items; trace = t.trace.lines; start = t.start } };
 
-    ghost invariant = { λ t. IsSound (record { sends = t.sends; nodes = t.nodes.items; rates = t.rates.items; trace = t.trace.lines; start = t.start }) };
+    ghost invariant = { λ t. IsSound (record { sends = t.sends; nodes = t.nodes.items; rates = t.rates.items; trace = t.trace.lines; start = t.start }) × IsSealed t.trace t.nodes.items };
 }
 
 impl FloodText {
@@ -72,9 +72,10 @@ impl FloodText {
         &self.rates
     }
 
-    /// The links of the nodes, and where they are lost in the slot of the flood.
+    /// The links of the nodes, and where they are lost in the slot of the flood. It is sealed with the nodes.
     pub fn trace(&self) -> &Trace
-        ensures { result.now.lines ≡ self.now.trace }
+        ensures value { result.now.lines ≡ self.now.trace }
+        ensures sealed { IsSealed result.now self.now.nodes }
     {
         &self.trace
     }

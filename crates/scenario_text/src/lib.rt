@@ -13,6 +13,9 @@ mod network_line;
 mod numbers;
 mod payloads;
 mod rates;
+mod reading;
+mod scenario;
+mod scenario_draft;
 mod scenario_line;
 mod script;
 mod words;
@@ -21,6 +24,8 @@ pub use fault::{FaultKind, ParseFault};
 pub use flood::parse_flood;
 pub use flood_text::FloodText;
 pub use lines::{NodeLine, RateLine};
+pub use reading::parse;
+pub use scenario::Scenario;
 pub use script::{Act, ScriptLine};
 
 #[cfg(test)]

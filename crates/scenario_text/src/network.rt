@@ -2,7 +2,8 @@ use crate::{NodeLine, RateLine};
 use link_trace::Trace;
 use std::marker::Model;
 
-/// What both texts have: how often a node sends at most, the nodes by id, their rates by node and tick, and the trace.
+/// What both texts have: how often a node sends at most, the nodes by id, their rates by node and tick, and the trace,
+/// which is sealed with the nodes.
 #[derive(Drop)]
 pub struct Network {
     pub sends: u8,
@@ -17,4 +18,8 @@ impl Model for Network {
     ghost Value = { Parts };
 
     ghost view = { λ n. record { sends = n.sends; nodes = n.nodes.items; rates = n.rates.items; trace = n.trace.lines } };
+
+    ghost use Rattle.scenario_text.specs.FloodParts.{IsSealed};
+
+    ghost invariant = { λ n. IsSealed n.trace n.nodes.items };
 }

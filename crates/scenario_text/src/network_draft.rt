@@ -1,8 +1,9 @@
-ghost use Rattle.std.specs.Prelude.{◌≡◌, ◌≢◌, ◌≤◌, ◌<◌, ◌&&◌, ◌==◌, not, nat_lt, nat_le, if◌then◌else◌, [], ◌∷◌, Ok, Some, None, true, false, ℕ, List, IfOk, count_by, reverse, length};
+ghost use Rattle.std.specs.Prelude.{◌≡◌, ◌≢◌, ◌≤◌, ◌<◌, ◌&&◌, ◌==◌, not, nat_lt, nat_le, if◌then◌else◌, [], ◌∷◌, Ok, Some, None, true, false, ℕ, List, IfOk, count_by, reverse, map, length};
 ghost use Rattle.std.specs.List.{find, list_any};
 ghost use Rattle.std.specs.Option.{option_copied, option_map_or};
+ghost use Rattle.scenario_text.specs.FloodDrafts.{IsNetwork};
 ghost use Rattle.scenario_text.specs.FloodParts.{knows as knows_of};
-ghost use Rattle.scenario_text.specs.Network.{no_network, network_parts, network_fault, with_line, with_node, with_link, has_link, has_loss, with_loss, with_script_line, has_script_room, are_ends, last_rate as last_rate_of, ppm as ppm_of, is_id};
+ghost use Rattle.scenario_text.specs.Network.{no_network, network_parts, network_fault, with_line, with_node, with_link, has_link, has_loss, with_loss, has_cut, with_cut, has_capture, with_capture, with_script_line, has_script_room, are_ends, last_rate as last_rate_of, ppm as ppm_of, is_id};
 ghost use Rattle.scenario_text.specs.Faults.{first_fault};
 ghost use Rattle.scenario_text.specs.declared.fault.FaultKind.TheVariants.{Twice, TooMany};
 ghost use Rattle.scenario_text.specs.declared.network_line.NetworkLine.TheVariants.{Sends, Node, Rate, Link, Pair};
@@ -67,13 +68,14 @@ impl NetworkDraft {
     /// What the lines say: how often a node sends, the nodes by id, their rates by node and tick, and the trace. None
     /// comes exactly where sendings or a second node is missing.
     pub fn finish(self, alloc: Global) -> Result<Option<Network>, Memory>
+        requires { IsNetwork self }
         ensures { IfOk result (λ p. p ≡ network_parts self self.sends) }
     {
         let NetworkDraft {
             sends,
             nodes,
             rates,
-            trace,
+            mut trace,
             ..
         } = self;
         let Some(sends) = sends else {
@@ -83,6 +85,7 @@ impl NetworkDraft {
             return Ok(None);
         }
         let rates = by_node(alloc, &nodes, &rates)?;
+        trace.seal(&ids(alloc, &nodes)?)?;
         Ok(Some(Network {
             sends,
             nodes,
@@ -123,8 +126,43 @@ impl NetworkDraft {
         Ok(self.count_script_line())
     }
 
-    // One script line more, if there is room.
-    fn count_script_line(&mut self) -> Option<FaultKind>
+    /// Goes on by a script line that cuts a node off from one step on.
+    pub fn cut(
+        &mut self,
+        frame: u32,
+        slot: u8,
+        step: u8,
+        node: NodeId,
+    ) -> Result<Option<FaultKind>, Memory>
+        ensures fault { IfOk result (λ k. k ≡ first_fault ((not (has_cut self.old.trace frame slot step node), Twice) ∷ (has_script_room self.old, TooMany) ∷ [])) }
+        ensures added { result ≡ Ok None → self.new ≡ with_script_line self.old (with_cut frame slot step node self.old.trace) }
+    {
+        if !cut(&mut self.trace, frame, slot, step, node)? {
+            return Ok(Some(FaultKind::Twice));
+        }
+        Ok(self.count_script_line())
+    }
+
+    /// Goes on by a script line that names the sender that a node hears in one step where several meet.
+    pub fn capture(
+        &mut self,
+        frame: u32,
+        slot: u8,
+        step: u8,
+        at: NodeId,
+        from: NodeId,
+    ) -> Result<Option<FaultKind>, Memory>
+        ensures fault { IfOk result (λ k. k ≡ first_fault ((not (has_capture self.old.trace frame slot step at), Twice) ∷ (has_script_room self.old, TooMany) ∷ [])) }
+        ensures added { result ≡ Ok None → self.new ≡ with_script_line self.old (with_capture frame slot step at from self.old.trace) }
+    {
+        if !capture(&mut self.trace, frame, slot, step, at, from)? {
+            return Ok(Some(FaultKind::Twice));
+        }
+        Ok(self.count_script_line())
+    }
+
+    /// One script line more, if there is room.
+    pub fn count_script_line(&mut self) -> Option<FaultKind>
         ensures fault { result ≡ first_fault ((has_script_room self.old, TooMany) ∷ []) }
         ensures added { result ≡ None → self.new ≡ with_script_line self.old self.old.trace }
     {
@@ -240,6 +278,15 @@ impl NetworkDraft {
     }
 }
 
+fn ids(alloc: Global, nodes: &[NodeLine]) -> Result<Vec<NodeId>, Memory>
+    ensures { IfOk result (λ v. v.items ≡ map (λ n. n.node) nodes.now) }
+{
+    match nodes.iter().map(|n| n.node).collect(alloc) {
+        Ok(ids) => Ok(ids),
+        Err(_) => Err(Memory),
+    }
+}
+
 /// The node with that id.
 pub fn node_id(id: u64) -> Option<NodeId>
     ensures { result ≡ (if is_id id then Some id else None) }
@@ -340,4 +387,25 @@ fn lose(
     ensures added { result ≡ Ok true → trace.new.lines ≡ with_loss frame slot step from to trace.old.lines }
 {
     trace.lose(frame, slot, step, from, to)
+}
+
+fn cut(trace: &mut Trace, frame: u32, slot: u8, step: u8, node: NodeId) -> Result<bool, Memory>
+    ensures fresh { IfOk result (λ b. b ≡ not (has_cut trace.old.lines frame slot step node)) }
+    ensures added { result ≡ Ok true → trace.new.lines ≡ with_cut frame slot step node trace.old.lines }
+{
+    trace.cut(frame, slot, step, node)
+}
+
+fn capture(
+    trace: &mut Trace,
+    frame: u32,
+    slot: u8,
+    step: u8,
+    at: NodeId,
+    from: NodeId,
+) -> Result<bool, Memory>
+    ensures fresh { IfOk result (λ b. b ≡ not (has_capture trace.old.lines frame slot step at)) }
+    ensures added { result ≡ Ok true → trace.new.lines ≡ with_capture frame slot step at from trace.old.lines }
+{
+    trace.capture(frame, slot, step, at, from)
 }

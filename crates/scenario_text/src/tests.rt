@@ -1,7 +1,7 @@
 use crate::FaultKind::{
-    BadNumber, BadWord, Missing, NotUtf8, Order, Range, TooMany, Twice, UnknownNode,
+    BadNumber, BadWord, Missing, NotUtf8, Order, Range, TooBig, TooMany, Twice, UnknownNode,
 };
-use crate::{FaultKind, ParseFault, parse_flood};
+use crate::{Act, FaultKind, ParseFault, parse, parse_flood};
 use std::test::Fail;
 
 // Behind `sends 2` and the nodes 1, 2 and 3 with pairs of neighbours: the lines that follow, and the fault.
@@ -153,4 +153,217 @@ fn three_in_a_line_with_its_first_hop_lost(rt: HostRuntime) {
     assert!(rt; trace.passes(5, 1, 1, first.node, second.node));
     assert!(rt; trace.passes(5, 1, 0, third.node, second.node));
     assert!(rt; !trace.passes(5, 1, 0, first.node, third.node));
+}
+
+const BASE: &str = "sends 2\nnode 1 0\nnode 2 0\nhost 0 1\npair 1 2\n";
+
+// Whole scenarios.
+const SCENARIOS: [(&str, Option<(u32, FaultKind)>); 20] = [
+    ("", Some((1, Missing))),
+    ("profile 3", Some((1, Range))),
+    ("contend 2\n", Some((1, Order))),
+    ("frames 012\n", Some((1, BadNumber))),
+    ("frames 4097\n", Some((1, Range))),
+    ("frames 2\nprofile 1\n", Some((2, Order))),
+    ("frames 2\nsends\n", Some((2, BadWord))),
+    ("node 1 0\non 0 1\n", Some((2, Order))),
+    ("node 1 0\nlink 1 9\n", Some((2, UnknownNode))),
+    ("node 1 0\nlink 1 1\n", Some((2, Range))),
+    ("frames 2\r\n", Some((2, Missing))),
+    ("frames 2\r", Some((1, BadNumber))),
+    (
+        "frames 1\nsends 1\nnode 1 0\nnode 2 0\npair 1 2\nlink 1 2\n",
+        Some((6, Twice)),
+    ),
+    ("profile 1\ncontend 1\n", Some((2, Order))),
+    (
+        "#\nprofile 2\n \n# 2\ncontend 4\ncontend 4\n",
+        Some((6, Order)),
+    ),
+    (
+        "sends 1\nnode 1 0\nnode 2 0\nframes 1\n",
+        Some((5, Missing)),
+    ),
+    (
+        "sends 1\nnode 1 0\nnode 2 0\nhost 0 1\n",
+        Some((5, Missing)),
+    ),
+    (
+        "node 1 0\nnode 2 0\nhost 0 1\nframes 1\n",
+        Some((5, Missing)),
+    ),
+    (
+        "sends 1\nnode 1 0\nhost 0 1\nframes 1\n",
+        Some((5, Missing)),
+    ),
+    (
+        "profile 2\ncontend 1\nsends 1\nnode 1 0\nnode 2 0\nhost 0 1\nframes 1\nlose 0 45 11 1 2\n",
+        None,
+    ),
+];
+
+// Behind the base text and `frames 12`.
+const BEHIND_BASE: [(&str, Option<(u32, FaultKind)>); 22] = [
+    (
+        "on 0 1\non 0 2\nstream 0 2 0 4\nput 0 2 0 aA\nput 0 2 0 -\nleave 3 2 0\noff 3 2\n",
+        None,
+    ),
+    (
+        "off 11 1\nlose 0 42 11 2 1\ncut 0 0 0 2\ncapture 0 0 0 1 2\nrate 1 1048576000000 -20\nhost 1 2\n",
+        None,
+    ),
+    ("on 0 1\nstream 0 2 0 4\nput 0 2 0 a\n", Some((9, BadWord))),
+    ("put 0 2 0 ag\n", Some((7, BadWord))),
+    ("put 0 2 0\n", Some((7, BadWord))),
+    ("lose 0 1 2\n", Some((7, BadWord))),
+    ("start 1\n", Some((7, BadWord))),
+    ("put 00 2 9 aa\n", Some((7, BadNumber))),
+    ("rate 1 0 21\n", Some((7, Range))),
+    ("lose 12 0 0 1 2\n", Some((7, Range))),
+    ("lose 0 43 0 1 2\n", Some((7, Range))),
+    ("capture 0 0 0 9 9\n", Some((7, Range))),
+    ("stream 0 2 0 121\n", Some((7, Range))),
+    ("on 0 3\n", Some((7, UnknownNode))),
+    ("host 2 2\n", Some((7, Order))),
+    ("off 3 2\non 2 2\n", Some((8, Order))),
+    ("frames 12\n", Some((7, Twice))),
+    ("host 0 2\n", Some((7, Twice))),
+    ("host 1 1\n", Some((7, Twice))),
+    ("cut 1 2 3 1\ncut 1 2 3 1\n", Some((8, Twice))),
+    (
+        "node 3 0\ncapture 1 2 3 1 2\ncapture 1 2 3 1 3\n",
+        Some((9, Twice)),
+    ),
+    (
+        "lose 1 2 3 1 2\nlose 1 2 3 2 1\nlose 1 2 3 1 2\n",
+        Some((9, Twice)),
+    ),
+];
+
+#[test]
+fn scenarios_and_their_first_faults(rt: HostRuntime) -> Result<(), Fail> {
+    let alloc = rt.alloc();
+    for (text, fault) in SCENARIOS {
+        assert_eq!(rt;
+            parse(alloc, text.as_bytes()).err(),
+            fault_of(fault),
+            "{text}"
+        );
+    }
+    for (lines, fault) in BEHIND_BASE {
+        let text = format!(in alloc; "{BASE}frames 12\n{lines}")?;
+        assert_eq!(rt;
+            parse(alloc, text.as_bytes()).err(),
+            fault_of(fault),
+            "{text}"
+        );
+    }
+    assert_eq!(rt;
+        parse(alloc, b"sends \xff\n").err(),
+        fault_of(Some((1, NotUtf8)))
+    );
+    Ok(())
+}
+
+#[test]
+fn longest_payloads(rt: HostRuntime) -> Result<(), Fail> {
+    let alloc = rt.alloc();
+    for (profile, bytes, fault) in [
+        ("profile 2\n", 96, None),
+        ("profile 2\n", 97, Some((11, Range))),
+        ("", 32, None),
+        ("", 33, Some((10, Range))),
+    ] {
+        let mut text = format!(in alloc;
+            "{profile}{BASE}frames 12\non 0 1\non 0 2\nstream 0 2 0 5\nput 0 2 0 "
+        )?;
+        for _ in 0..bytes {
+            text.push_str("a5")?;
+        }
+        assert_eq!(rt;
+            parse(alloc, text.as_bytes()).err(),
+            fault_of(fault),
+            "{text}"
+        );
+    }
+    Ok(())
+}
+
+#[test]
+fn too_many_of_a_kind(rt: HostRuntime) -> Result<(), Fail> {
+    let alloc = rt.alloc();
+    let mut boots = format!(in alloc; "{BASE}frames 12\n")?;
+    for _ in 0..200 {
+        boots.push_str("on 0 1\non 0 1\noff 0 1\n")?;
+    }
+    assert_eq!(rt; parse(alloc, boots.as_bytes()).err(), None);
+    boots.push_str("on 0 1\n")?;
+    assert_eq!(rt;
+        parse(alloc, boots.as_bytes()).err(),
+        fault_of(Some((607, TooMany)))
+    );
+
+    let mut script = format!(in alloc; "{BASE}frames 12\n")?;
+    for _ in 0..20_000 {
+        script.push_str("off 0 1\n")?;
+    }
+    assert_eq!(rt; parse(alloc, script.as_bytes()).err(), None);
+    script.push_str("rate 1 0 0\n")?;
+    assert_eq!(rt;
+        parse(alloc, script.as_bytes()).err(),
+        fault_of(Some((20_007, TooMany)))
+    );
+    Ok(())
+}
+
+#[test]
+fn more_nodes_than_the_frames_allow(rt: HostRuntime) -> Result<(), Fail> {
+    let alloc = rt.alloc();
+    let mut text = String::from_str(alloc, "sends 1\nframes 257\n")?;
+    for id in 1..65 {
+        text.push_str(format!(in alloc; "node {id} 0\n")?.as_str())?;
+    }
+    text.push_str("host 0 1\n")?;
+    for _ in 68..150 {
+        text.push_str("# \n")?;
+    }
+    text.push_str("# the last of 150 lines")?;
+    assert_eq!(rt;
+        parse(alloc, text.as_bytes()).err(),
+        fault_of(Some((151, TooBig)))
+    );
+    Ok(())
+}
+
+#[test]
+fn the_parts_of_a_scenario(rt: HostRuntime) -> Result<(), Fail> {
+    let text = format!(in rt.alloc(); "{BASE}frames 6\non 0 1\nput 3 2 1 AB0f\nrate 2 9 -3\n")?;
+    let Ok(scenario) = parse(rt.alloc(), text.as_bytes()) else {
+        panic!(rt; "the text is not read");
+    };
+    assert_eq!(rt; scenario.profile().payload_max(), 32);
+    assert_eq!(rt; (scenario.frames(), scenario.sends()), (6, 2));
+    let [one, two] = scenario.nodes() else {
+        panic!(rt; "there are not two nodes");
+    };
+    let [rate] = scenario.rates() else {
+        panic!(rt; "there is not one rate");
+    };
+    assert_eq!(rt; (rate.node.number(), rate.from, rate.ppm), (2, 9, -3));
+    let [host] = scenario.hosts() else {
+        panic!(rt; "there is not one host");
+    };
+    assert_eq!(rt; host.number(), 1);
+    assert!(rt; scenario.trace().passes(5, 1, 0, one.node, two.node));
+    let [boot, put] = scenario.script() else {
+        panic!(rt; "there are not two lines");
+    };
+    assert_eq!(rt; (boot.frame, boot.node.number()), (0, 1));
+    assert!(rt; matches!(&boot.act, Act::On));
+    let Act::Put(stream, payload) = &put.act else {
+        panic!(rt; "the second is no put");
+    };
+    assert_eq!(rt; *stream, 1);
+    assert_eq!(rt; payload.bytes(), b"\xab\x0f".as_slice());
+    Ok(())
 }

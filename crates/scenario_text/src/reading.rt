@@ -1,0 +1,48 @@
+ghost use Rattle.std.specs.Prelude.{◌≡◌, ◌<◌, ◌≤◌, ◌^◌, ℕ, IfOk, length};
+ghost use Rattle.std.specs.Str.Lines.{lines};
+ghost use Rattle.scenario_text.specs.Faults.{Gives, after_lines};
+ghost use Rattle.scenario_text.specs.FloodDrafts.{IsNetwork};
+ghost use Rattle.scenario_text.specs.ScenarioDrafts.{Drafts};
+ghost use Rattle.scenario_text.specs.ScenarioGrammar.{scenario_of, after_line, no_scenario};
+
+use crate::ParseFault;
+use crate::scenario::Scenario;
+use crate::scenario_draft::ScenarioDraft;
+use crate::words::first_line;
+use std::alloc::Global;
+
+/// Reads the text of a scenario.
+pub fn parse(alloc: Global, bytes: &[u8]) -> Result<Scenario, ParseFault>
+    requires { length bytes.now < 2 ^ 31 }
+    ensures { Gives result (scenario_of bytes.now) }
+{
+    let (draft, count) = read_lines(alloc, bytes)?;
+    match draft.finish(alloc) {
+        Ok(Ok(scenario)) => Ok(scenario),
+        Ok(Err(kind)) => Err(ParseFault::Line(count + 1, kind)),
+        Err(_) => Err(ParseFault::Memory),
+    }
+}
+
+// What all lines say, and how many there are.
+fn read_lines(alloc: Global, bytes: &[u8]) -> Result<(ScenarioDraft, u32), ParseFault>
+    requires { length bytes.now < 2 ^ 31 }
+    ensures draft { Drafts result (after_lines after_line 1 no_scenario (lines bytes.now)) }
+    ensures sound { IfOk result (λ d. IsNetwork d.0.network) }
+    ensures count { IfOk result (λ d. (d.1 ≡ length (lines bytes.now)) × (d.1 ≤ length bytes.now)) }
+{
+    let mut draft = ScenarioDraft::new(alloc);
+    let mut rest = bytes;
+    let mut count = 0;
+    while !rest.is_empty() {
+        let (line, others) = first_line(rest);
+        match draft.read(alloc, line) {
+            Ok(None) => {}
+            Ok(Some(kind)) => return Err(ParseFault::Line(count + 1, kind)),
+            Err(_) => return Err(ParseFault::Memory),
+        }
+        rest = others;
+        count += 1;
+    }
+    Ok((draft, count))
+}

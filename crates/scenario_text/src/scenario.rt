@@ -1,0 +1,125 @@
+ghost use Rattle.std.specs.Prelude.{◌≡◌};
+ghost use Rattle.scenario_text.specs.FloodParts.{IsSealed};
+ghost use Rattle.scenario_text.specs.ScenarioGrammar.{IsScenario};
+
+use crate::network::Network;
+use crate::script::ScriptLine;
+use crate::{NodeLine, RateLine};
+use link_trace::Trace;
+use lwb_base::{NodeId, Profile};
+use std::marker::Model;
+
+/// A scenario: the network and what happens to it, frame by frame. Contracts see its parts.
+#[derive(Drop)]
+pub struct Scenario {
+    profile: Profile,
+    frames: u32,
+    sends: u8,
+    nodes: Vec<NodeLine>,
+    rates: Vec<RateLine>,
+    hosts: Vec<NodeId>,
+    trace: Trace,
+    script: Vec<ScriptLine>,
+}
+
+impl Model for Scenario {
+    ghost use Rattle.scenario_text.specs.ScenarioParts.{ScenarioParts};
+
+    ghost Value = { ScenarioParts };
+
+    ghost view = { λ s. record { profile = s.profile; frames = s.frames; sends = s.sends; nodes = s.nodes.items; rates = s.rates.items; hosts = s.hosts.items; trace = s.trace.lines; script = s.script.items } };
+
+    ghost use Rattle.scenario_text.specs.ScenarioGrammar.{IsScenario};
+    ghost use Rattle.scenario_text.specs.FloodParts.{IsSealed};
+
+    ghost invariant = { λ s. IsScenario (record { profile = s.profile; frames = s.frames; sends = s.sends; nodes = s.nodes.items; rates = s.rates.items; hosts = s.hosts.items; trace = s.trace.lines; script = s.script.items }) × IsSealed s.trace s.nodes.items };
+}
+
+impl Scenario {
+    /// The scenario of these parts, which some text says.
+    pub(crate) fn of_network(
+        profile: Profile,
+        frames: u32,
+        network: Network,
+        hosts: Vec<NodeId>,
+        script: Vec<ScriptLine>,
+    ) -> Scenario
+        requires { IsScenario (record { profile = profile; frames = frames; sends = network.sends; nodes = network.nodes; rates = network.rates; hosts = hosts.items; trace = network.trace; script = script.items }) }
+        ensures { result ≡ record { profile = profile; frames = frames; sends = network.sends; nodes = network.nodes; rates = network.rates; hosts = hosts.items; trace = network.trace; script = script.items } }
+    {
+        let Network {
+            sends,
+            nodes,
+            rates,
+            trace,
+        } = network;
+        Scenario {
+            profile,
+            frames,
+            sends,
+            nodes,
+            rates,
+            hosts,
+            trace,
+            script,
+        }
+    }
+
+    pub fn profile(&self) -> Profile
+        ensures value { result ≡ self.now.profile }
+        ensures said { IsScenario self.now }
+    {
+        self.profile
+    }
+
+    /// The number of frames, 1 to 4,096.
+    pub fn frames(&self) -> u32
+        ensures { result ≡ self.now.frames }
+    {
+        self.frames
+    }
+
+    /// How often a node sends at most in one flood, 1 to 4.
+    pub fn sends(&self) -> u8
+        ensures { result ≡ self.now.sends }
+    {
+        self.sends
+    }
+
+    /// The nodes, 2 to 64, by ascending id.
+    pub fn nodes(&self) -> &[NodeLine]
+        ensures { result.now ≡ self.now.nodes }
+    {
+        &self.nodes
+    }
+
+    /// The changes of the clocks' rates, by node and tick.
+    pub fn rates(&self) -> &[RateLine]
+        ensures { result.now ≡ self.now.rates }
+    {
+        &self.rates
+    }
+
+    /// The hosts, 1 to 4, by rank.
+    pub fn hosts(&self) -> &[NodeId]
+        ensures { result.now ≡ self.now.hosts }
+    {
+        &self.hosts
+    }
+
+    /// The links of the nodes, and where and when they are lost, cut or captured. It is sealed
+    /// with the nodes.
+    pub fn trace(&self) -> &Trace
+        ensures value { result.now.lines ≡ self.now.trace }
+        ensures sealed { IsSealed result.now self.now.nodes }
+    {
+        &self.trace
+    }
+
+    /// What the nodes are told to do, by ascending frame.
+    pub fn script(&self) -> &[ScriptLine]
+        ensures { result.now ≡ self.now.script }
+    {
+        &self.script
+    }
+}
