@@ -6,8 +6,11 @@ pub mod laws;
 mod listeners;
 mod medium;
 mod rivals;
-mod sending;
-mod station;
+pub mod sending;
+pub mod station;
 
 pub use hearers::Hearers;
 pub use medium::Medium;
+
+#[cfg(test)]
+mod tests;
