@@ -18,3 +18,4 @@ pub mod HearersInOrder
 pub mod AtFirst
 pub mod SameHistory
 pub mod Named
+pub mod WorkedHearings

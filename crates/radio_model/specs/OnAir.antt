@@ -1,7 +1,10 @@
 -- What is on the air: sendings, who hears them, and tunings.
 use Rattle.std.specs.Prelude.{ℕ}
+use Rattle.radio_model.specs.declared.sending.Sending.{Sending as Sent}
+
 -- on the channel of a rank a node sends a packet, from its start to its end
-pub use Rattle.radio_model.specs.declared.sending.Sending.{Sending}
+abbrev pub Sending : Type 0
+Sending = Sent
 
 -- a node hears a sending
 pub record Hearing : Type 0 where

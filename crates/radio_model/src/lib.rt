@@ -6,9 +6,11 @@ pub mod laws;
 mod listeners;
 mod medium;
 mod rivals;
-mod sending;
-mod station;
+pub mod sending;
+pub mod station;
 
 pub use hearers::Hearers;
 pub use medium::Medium;
-pub use sending::Sending;
+
+#[cfg(test)]
+mod tests;

@@ -11,7 +11,7 @@ use std::alloc::Global;
 
 /// So many ended sendings of one node are kept. The longest packet is on the air for less than 13 of the shortest, so
 /// one that ended before the last 13 overlaps none that still runs.
-pub const KEPT: usize = 13;
+const KEPT: usize = 13;
 
 /// Tuned to the channel of a rank since a tick.
 #[derive(Clone, Copy)]
@@ -42,7 +42,7 @@ pub struct Station {
 
 impl Station {
     /// A node that is tuned to nothing and sends nothing.
-    pub fn new(alloc: Global, node: NodeId, place: u8) -> Result<Station, Memory>
+    pub(crate) fn new(alloc: Global, node: NodeId, place: u8) -> Result<Station, Memory>
         ensures { IfOk result (λ st. st ≡ record { node = node; place = place; tuned = None; last = None; sending = None; ended = buffer [] 13 }) }
     {
         let Ok(ended) = HeapCircularBuffer::with_capacity(alloc, KEPT) else {
@@ -59,7 +59,7 @@ impl Station {
     }
 
     /// It is tuned to that channel from t on, or to nothing.
-    pub fn tune(&mut self, rank: Option<Rank>, t: u64)
+    pub(crate) fn tune(&mut self, rank: Option<Rank>, t: u64)
         ensures { self.new ≡ retuned rank t self.old }
     {
         match rank {
@@ -113,7 +113,7 @@ impl Station {
 
     /// It begins to send, until `end`. False comes exactly where it is not tuned or already sends, and then nothing
     /// changes.
-    pub fn start(&mut self, profile: &Profile, t: u64, packet: &Packet) -> bool
+    pub(crate) fn start(&mut self, profile: &Profile, t: u64, packet: &Packet) -> bool
         requires { t ≤ 2 ^ 46 }
         ensures value { result ≡ (is_some self.old.tuned && is_none self.old.sending) }
         ensures state { self.new ≡ started profile.now t packet.now self.old }
@@ -138,7 +138,7 @@ impl Station {
     }
 
     /// What it sends ends.
-    pub fn finish(&mut self)
+    pub(crate) fn finish(&mut self)
         ensures { self.new ≡ finished self.old }
     {
         if let Some(x) = self.sending.take() {
@@ -147,7 +147,7 @@ impl Station {
     }
 
     /// Whether it was tuned to that channel from `start` to t.
-    pub fn was_tuned(&self, rank: Rank, start: u64, t: u64) -> bool
+    pub(crate) fn was_tuned(&self, rank: Rank, start: u64, t: u64) -> bool
         ensures { result ≡ covers self.now rank start t }
     {
         let goes_on = match self.tuned {
@@ -168,7 +168,7 @@ impl Station {
     }
 
     /// Whether no sending of its own overlaps x.
-    pub fn is_quiet(&self, x: &Sending) -> bool
+    pub(crate) fn is_quiet(&self, x: &Sending) -> bool
         ensures { result ≡ not (list_any (overlaps x.now) (on_air self.now)) }
     {
         let sends = match &self.sending {
@@ -180,7 +180,7 @@ impl Station {
 }
 
 /// Whether both are on the air at some tick.
-pub fn overlap(x: &Sending, y: &Sending) -> bool
+pub(crate) fn overlap(x: &Sending, y: &Sending) -> bool
     ensures { result ≡ overlaps x.now y.now }
 {
     x.start < y.end && y.start < x.end
