@@ -14,7 +14,7 @@ returns-then-passes c =
     let below : i < length f.nodes = omega (arith, ap length c.nodes-nodes.ensures.value) in
     let at : line ≡ get_or f.nodes i line = ap (λ (l : List NodeLine). get_or l i read) c.nodes-nodes.ensures.value ∙ ap (λ (n : NodeLine). get_or f.nodes i n) c.index-nodes-i.is in
     let here : Some c.in-Some.p ≡ get_or c.args.orders.now i (Some c.in-Some.p) = rw (← c.in-Some.is) c.index-orders-i.is in
-    found f c.args.step c.args.to i c.args.orders.now line c.in-Some.p below c.requires at here (ap (λ (t : Lines). passes t 5 1 c.args.step line.node c.args.to) (sym c.trace.ensures) ∙ sym c.passes.ensures ∙ c.if-passes.true)
+    found f c.args.step c.args.to i c.args.orders.now line c.in-Some.p below c.requires at here (ap (λ (t : Lines). passes t 5 1 c.args.step line.node c.args.to) (sym c.trace.ensures.value) ∙ sym c.passes.ensures ∙ c.if-passes.true)
 
 pub loop-i-preserved : goal.loop-i-preserved
 loop-i-preserved c =
@@ -27,6 +27,6 @@ loop-i-preserved c =
     none_more f c.args.step c.args.to i line below at c.loop-i.invariant
     (elim c.match-orders-i.branch [
       | in-Some+else-passes w ↦
-          and_left_false _ _ (ap (λ (t : Lines). passes t 5 1 c.args.step line.node c.args.to) (sym w.trace.ensures) ∙ sym w.passes.ensures ∙ w.if-passes.false)
+          and_left_false _ _ (ap (λ (t : Lines). passes t 5 1 c.args.step line.node c.args.to) (sym w.trace.ensures.value) ∙ sym w.passes.ensures ∙ w.if-passes.false)
       | in_default w ↦ silent f c.args.step c.args.to i c.args.orders.now line c.index-orders-i.result below c.requires at c.index-orders-i.is w.in_default.is
     ])
