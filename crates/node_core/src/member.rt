@@ -1,4 +1,4 @@
-ghost use Rattle.std.specs.Prelude.{◌≡◌, ◌≤◌, ◌<◌, ◌^◌, ℕ, true, Some, None, IfOk, IfSome, length, slice_index, [], if◌then◌else◌};
+ghost use Rattle.std.specs.Prelude.{◌≡◌, ◌≤◌, ◌<◌, ◌^◌, ℕ, true, Some, None, IfOk, IfSome, length, slice_index, is_some, [], if◌then◌else◌};
 ghost use Rattle.std.specs.Option.{option_map};
 ghost use Rattle.lwb_base.specs.Profile.{contended};
 ghost use Rattle.time_reference.specs.Reference.{times_of};
@@ -31,16 +31,16 @@ use time_reference::Reference;
 // A node as a member of its rounds. The gap of its plan is of no meaning here.
 #[derive(Drop)]
 pub(crate) struct Member {
-    profile: Profile,
-    id: NodeId,
-    sends: u8,
-    boot: u8,
-    tuner: Tuner,
-    plan: Schedule,
-    streams: Streams,
-    table: Table,
-    own_slot: Option<u8>,
-    kept: ArrayVec<Kept, 4>,
+    pub(crate) profile: Profile,
+    pub(crate) id: NodeId,
+    pub(crate) sends: u8,
+    pub(crate) boot: u8,
+    pub(crate) tuner: Tuner,
+    pub(crate) plan: Schedule,
+    pub(crate) streams: Streams,
+    pub(crate) table: Table,
+    pub(crate) own_slot: Option<u8>,
+    pub(crate) kept: ArrayVec<Kept, 4>,
 }
 
 impl Model for Member {
@@ -62,14 +62,7 @@ impl Model for Member {
 fn no_plan() -> Schedule
     ensures { result.plan ≡ record { rank = 0; boot = 0; contend = 0; acks = []; owners = [] } }
 {
-    Schedule {
-        host: Rank::new(0).unwrap(),
-        host_boot: 0,
-        gap: 0,
-        contend: 0,
-        acks: Acks::new(),
-        owners: Owners::new(),
-    }
+    first_plan(Rank::new(0).unwrap(), 0, 0)
 }
 
 impl Member {
@@ -150,5 +143,94 @@ impl Member {
         ensures after { self.new ≡ record self.old { core = record self.old.core { streams = rule.put stream payload.now self.old.core.streams } } }
     {
         self.streams.put(stream, payload)
+    }
+
+    // Whether the node hosts the round of this frame.
+    pub(crate) fn hosts_now(&self, frame: u32) -> bool
+        ensures { result ≡ hosts_now frame self.now.core }
+    {
+        match self.tuner.tune() {
+            Tune::Host(_, due) => due == frame,
+            Tune::Hold(..) | Tune::Scan(..) => false,
+        }
+    }
+
+    // The frame ends. Whether the node begins to host with the next one.
+    #[tactic(auto, using(crate::proofs::Beginning::hosted_before))]
+    pub(crate) fn frame_ended(&mut self, frame: u32) -> bool
+        requires { frame ≤ 16777215 }
+        ensures after { self.new ≡ record self.old { core = frame_ended self.old.setup frame self.old.core } }
+        ensures begins { result ≡ is_some (begins self.old.core.tune self.new.core.tune) }
+    {
+        let before = self.tuner.tune();
+        let tune = self.tuner.frame_ended(frame);
+        self.own_slot = None;
+        match begun(before, tune) {
+            Some(rank) => {
+                self.plan = first_plan(rank, self.boot, self.profile.contend());
+                self.table = Table::new();
+                self.streams.hosting();
+                true
+            }
+            None => false,
+        }
+    }
+
+    // The round of its plan, whose slot 0 begins at this time.
+    pub(crate) fn round(&self, zero: u64) -> Round
+        requires { zero < 2 ^ 47 }
+        ensures value { result ≡ round_of self.now.setup.profile (times_of self.now.setup.profile zero) (length self.now.core.plan.owners) self.now.core.plan.contend }
+    {
+        let reference = Reference::with_zero(&self.profile, zero);
+        Round::new(
+            &self.profile,
+            reference,
+            self.plan.owners.count(),
+            self.plan.contend,
+        )
+    }
+
+    // What a slot of that round is for.
+    pub(crate) fn part(&self, round: &Round, slot: u8) -> Part
+        requires round { (z : ℕ) × (round.now ≡ round_of self.now.setup.profile (times_of self.now.setup.profile z) (length self.now.core.plan.owners) self.now.core.plan.contend) }
+        requires slot { slot ≤ last_slot self.now.core.plan }
+        ensures { result ≡ part_of self.now.core.plan slot }
+    {
+        let owners = self.plan.owners.count();
+        match round.kind(slot) {
+            Kind::Schedule => {
+                if slot == 0 {
+                    Part::Opening
+                } else {
+                    Part::Closing
+                }
+            }
+            Kind::Payload => Part::Data(self.plan.owners.at(usize::from(slot) - 1).unwrap()),
+            Kind::Request => Part::Contention(slot - owners),
+        }
+    }
+}
+
+// The plan of a host before its first round.
+fn first_plan(host: Rank, host_boot: u8, contend: u8) -> Schedule
+    ensures { result.plan ≡ record { rank = host; boot = host_boot; contend = contend; acks = []; owners = [] } }
+{
+    Schedule {
+        host,
+        host_boot,
+        gap: 0,
+        contend,
+        acks: Acks::new(),
+        owners: Owners::new(),
+    }
+}
+
+// The rank that a node begins to host, where its tune becomes that of a host.
+fn begun(before: Tune, after: Tune) -> Option<Rank>
+    ensures { result ≡ begins before after }
+{
+    match (before, after) {
+        (Tune::Scan(..), Tune::Host(rank, _)) => Some(rank),
+        _ => None,
     }
 }
