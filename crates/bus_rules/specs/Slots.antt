@@ -1,6 +1,7 @@
 -- One slot of a round at one node: what is done where its window opens, and where it closes.
-use Rattle.std.specs.Prelude.{ℕ, ◌+◌, ◌-◌, List, [], ◌∷◌, ◌++◌, Bool, true, false, ◌==◌, nat_lt, nat_le, if◌then◌else◌, Some, None, slice_index, length, option_map}
+use Rattle.std.specs.Prelude.{ℕ, ◌+◌, ◌-◌, List, [], ◌∷◌, ◌++◌, Bool, true, false, ◌&&◌, ◌==◌, nat_lt, nat_le, if◌then◌else◌, Some, None, slice_index, length, option_map}
 use Rattle.std.specs.declared.option.Option.{Option}
+use Rattle.lwb_base.specs.Profile.{Numbers}
 use Rattle.lwb_base.specs.Messages.{Ask, Plan, Schedule, node_of, stream_of}
 use Rattle.bus_rules.specs.declared.part.Part.{Part}
 use Rattle.bus_rules.specs.declared.part.Part.TheVariants.{Opening, Data as DataSlot, Contention, Closing}
@@ -107,9 +108,13 @@ slot_heard f Opening heard c = c
 slot_heard f (Contention i) heard c = c
 slot_heard f Closing heard c = c
 
+-- a host keeps a request for each contention slot, and its rounds have as many as its profile names
+abbrev pub most_kept : Numbers → ℕ
+most_kept p = if p.contend == 0 then 1 else p.contend
+
 -- the window of a slot closes in frame f. initiated: the node said something itself; last, what it accepted
 abbrev pub closed : Setup → ℕ → Part → Bool → Core → Option Message → Closed
 closed s f part initiated c None = record { core = slot_heard f part initiated c; delivered = None }
 closed s f part initiated c (Some (ScheduleOf x)) = record { core = schedule_accepted s.id f x c; delivered = None }
 closed s f part initiated c (Some (DataOf d)) = record { core = slot_heard f part true c; delivered = Some d }
-closed s f part initiated c (Some (RequestOf a)) = record { core = record c { kept = if hosts_now f c then c.kept ++ a ∷ [] else c.kept }; delivered = None }
+closed s f part initiated c (Some (RequestOf a)) = record { core = record c { kept = if hosts_now f c && nat_lt (length c.kept) (most_kept s.profile) then c.kept ++ a ∷ [] else c.kept }; delivered = None }

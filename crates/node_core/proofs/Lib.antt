@@ -1,2 +1,4 @@
 mod WorkedOrders
 pub mod Meanings
+pub mod Spoken
+pub mod Beginning

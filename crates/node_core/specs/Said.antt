@@ -31,6 +31,9 @@ bytes_of (ScheduleOf x) j = schedule_spelling x j 0
 bytes_of (DataOf d) j = data_spelling (data_packet d j)
 bytes_of (RequestOf a) j = request_spelling (request_packet a j)
 
+abbrev pub said_in : ℕ → Message → List ℕ
+said_in j m = bytes_of m j
+
 abbrev pub data_in : List ℕ → DataSaid
 data_in p = record { node = slice_index p 3; boot = slice_index p 4; stream = slice_index p 5; seq = 256 * slice_index p 6 + slice_index p 7; payload = drop 8 p }
 

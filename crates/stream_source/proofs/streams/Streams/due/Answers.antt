@@ -7,8 +7,8 @@ of_due : (b : Bool) (w wish : ℕ) → Some wish ≡ (if b then Some w else None
 of_due true w wish is = (refl, cc)
 of_due false w wish is = cc
 
-pub returns-in-Some : goal.returns-in-Some
-returns-in-Some c =
+pub returns-in-Some-clause-least : goal.returns-in-Some-clause-least
+returns-in-Some-clause-least c =
     let s = c.args.self.now in
     let i = c.loop-i.i in
     let here = of_due (is_due s i) (stream_at s i).wish c.in-Some.wish c.in-Some.ensures.value in

@@ -1,0 +1,32 @@
+use lwb_base::NodeId;
+use schedule_codec::Ack;
+use std::marker::Model;
+
+// A request that a host keeps until it plans, or what stands in a place for one that is not used.
+#[derive(Clone, Copy)]
+pub(crate) struct Kept {
+    pub(crate) ask: Ack,
+}
+
+impl Model for Kept {
+    ghost use Rattle.lwb_base.specs.Messages.{Ask};
+
+    ghost Value = { Ask };
+
+    ghost view = { λ k. k.ask };
+
+    ghost inverse = { λ a. record { ask = a } };
+}
+
+impl Default for Kept {
+    fn default() -> Kept {
+        Kept {
+            ask: Ack {
+                node: NodeId::new(1).unwrap(),
+                boot: 1,
+                stream: 0,
+                interval: 0,
+            },
+        }
+    }
+}
