@@ -2,6 +2,7 @@ use crate::FaultKind::{
     BadNumber, BadWord, Missing, NotUtf8, Order, Range, TooBig, TooMany, Twice, UnknownNode,
 };
 use crate::{Act, FaultKind, ParseFault, parse, parse_flood};
+use lwb_base::INPUT_LIMIT;
 use std::test::Fail;
 
 // Behind `sends 2` and the nodes 1, 2 and 3 with pairs of neighbours: the lines that follow, and the fault.
@@ -75,18 +76,14 @@ fn flood_texts_and_their_first_faults(rt: HostRuntime) -> Result<(), Fail> {
         let text = format!(in alloc;
             "sends 2\nnode 1 0\nnode 2 0\nnode 3 0\npair 1 2\npair 2 3\n{tail}"
         )?;
-        assert_eq!(rt;
-            parse_flood(alloc, text.as_bytes()).err(),
-            fault_of(fault),
-            "{text}"
-        );
+        let bytes = text.as_bytes();
+        assert!(rt; bytes.len() <= INPUT_LIMIT);
+        assert_eq!(rt; parse_flood(alloc, bytes).err(), fault_of(fault), "{text}");
     }
     for (text, fault) in TEXTS {
-        assert_eq!(rt;
-            parse_flood(alloc, text.as_bytes()).err(),
-            fault_of(fault),
-            "{text}"
-        );
+        let bytes = text.as_bytes();
+        assert!(rt; bytes.len() <= INPUT_LIMIT);
+        assert_eq!(rt; parse_flood(alloc, bytes).err(), fault_of(fault), "{text}");
     }
     Ok(())
 }
@@ -109,8 +106,10 @@ fn the_65th_node_is_one_too_many(rt: HostRuntime) -> Result<(), Fail> {
     for id in 1..66 {
         text.push_str(format!(in alloc; "node {id} 0\n")?.as_str())?;
     }
+    let bytes = text.as_bytes();
+    assert!(rt; bytes.len() <= INPUT_LIMIT);
     assert_eq!(rt;
-        parse_flood(alloc, text.as_bytes()).err(),
+        parse_flood(alloc, bytes).err(),
         fault_of(Some((65, TooMany)))
     );
     Ok(())
@@ -244,19 +243,15 @@ const BEHIND_BASE: [(&str, Option<(u32, FaultKind)>); 22] = [
 fn scenarios_and_their_first_faults(rt: HostRuntime) -> Result<(), Fail> {
     let alloc = rt.alloc();
     for (text, fault) in SCENARIOS {
-        assert_eq!(rt;
-            parse(alloc, text.as_bytes()).err(),
-            fault_of(fault),
-            "{text}"
-        );
+        let bytes = text.as_bytes();
+        assert!(rt; bytes.len() <= INPUT_LIMIT);
+        assert_eq!(rt; parse(alloc, bytes).err(), fault_of(fault), "{text}");
     }
     for (lines, fault) in BEHIND_BASE {
         let text = format!(in alloc; "{BASE}frames 12\n{lines}")?;
-        assert_eq!(rt;
-            parse(alloc, text.as_bytes()).err(),
-            fault_of(fault),
-            "{text}"
-        );
+        let bytes = text.as_bytes();
+        assert!(rt; bytes.len() <= INPUT_LIMIT);
+        assert_eq!(rt; parse(alloc, bytes).err(), fault_of(fault), "{text}");
     }
     assert_eq!(rt;
         parse(alloc, b"sends \xff\n").err(),
@@ -280,11 +275,9 @@ fn longest_payloads(rt: HostRuntime) -> Result<(), Fail> {
         for _ in 0..bytes {
             text.push_str("a5")?;
         }
-        assert_eq!(rt;
-            parse(alloc, text.as_bytes()).err(),
-            fault_of(fault),
-            "{text}"
-        );
+        let bytes = text.as_bytes();
+        assert!(rt; bytes.len() <= INPUT_LIMIT);
+        assert_eq!(rt; parse(alloc, bytes).err(), fault_of(fault), "{text}");
     }
     Ok(())
 }
@@ -296,21 +289,26 @@ fn too_many_of_a_kind(rt: HostRuntime) -> Result<(), Fail> {
     for _ in 0..200 {
         boots.push_str("on 0 1\non 0 1\noff 0 1\n")?;
     }
-    assert_eq!(rt; parse(alloc, boots.as_bytes()).err(), None);
+    let bytes = boots.as_bytes();
+    assert!(rt; bytes.len() <= INPUT_LIMIT);
+    assert_eq!(rt; parse(alloc, bytes).err(), None);
     boots.push_str("on 0 1\n")?;
-    assert_eq!(rt;
-        parse(alloc, boots.as_bytes()).err(),
-        fault_of(Some((607, TooMany)))
-    );
+    let bytes = boots.as_bytes();
+    assert!(rt; bytes.len() <= INPUT_LIMIT);
+    assert_eq!(rt; parse(alloc, bytes).err(), fault_of(Some((607, TooMany))));
 
     let mut script = format!(in alloc; "{BASE}frames 12\n")?;
     for _ in 0..20_000 {
         script.push_str("off 0 1\n")?;
     }
-    assert_eq!(rt; parse(alloc, script.as_bytes()).err(), None);
+    let bytes = script.as_bytes();
+    assert!(rt; bytes.len() <= INPUT_LIMIT);
+    assert_eq!(rt; parse(alloc, bytes).err(), None);
     script.push_str("rate 1 0 0\n")?;
+    let bytes = script.as_bytes();
+    assert!(rt; bytes.len() <= INPUT_LIMIT);
     assert_eq!(rt;
-        parse(alloc, script.as_bytes()).err(),
+        parse(alloc, bytes).err(),
         fault_of(Some((20_007, TooMany)))
     );
     Ok(())
@@ -328,10 +326,9 @@ fn more_nodes_than_the_frames_allow(rt: HostRuntime) -> Result<(), Fail> {
         text.push_str("# \n")?;
     }
     text.push_str("# the last of 150 lines")?;
-    assert_eq!(rt;
-        parse(alloc, text.as_bytes()).err(),
-        fault_of(Some((151, TooBig)))
-    );
+    let bytes = text.as_bytes();
+    assert!(rt; bytes.len() <= INPUT_LIMIT);
+    assert_eq!(rt; parse(alloc, bytes).err(), fault_of(Some((151, TooBig))));
     Ok(())
 }
 
