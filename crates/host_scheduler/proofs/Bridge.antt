@@ -1,15 +1,15 @@
 -- From the list of what is owed to the table's own rule.
-use Rattle.std.proofs.Common.{◌≡◌, ◌≢◌, ℕ, zero, suc, ◌+◌, ◌-◌, ◌*◌, ◌/◌, ◌^◌, ◌<◌, ◌≤◌, List, [], ◌∷◌, ◌++◌, Bool, true, false, nat_lt, nat_le, cond, is_some, length, get_or, take, map, filter, replicate, Option, Some, None, IsSome, ⊎_elim, refl, sym, ◌∙◌, ap, subst, arith}
+use Rattle.std.proofs.Common.{◌≡◌, ℕ, zero, suc, ◌+◌, ◌-◌, ◌*◌, ◌^◌, ◌<◌, ◌≤◌, List, [], ◌∷◌, ◌++◌, Bool, true, false, nat_lt, nat_le, cond, is_some, get_or, take, map, filter, replicate, Option, Some, ⊎_elim, refl, sym, ◌∙◌, ap, subst, arith}
 use Rattle.std.specs.List.{sum_by, All, slice_get}
 use Rattle.std.specs.Option.{IfSome}
 use Rattle.std.proofs.Math.Nat.{mul-le-mul, div-le_self}
 use Rattle.std.proofs.lemmas.Bool.{ltb-true}
 use Rattle.lwb_base.specs.Profile.{Numbers, IsProfile}
 use Rattle.std.proofs.lemmas.List.{get_or-map, length-map, map-append}
-use Rattle.std.proofs.lemmas.List.Elements.{All-nil, All-append, All-replicate, All-head, All-tail, All-map, All-filter, All-take, All-weaker, filter_passes}
+use Rattle.std.proofs.lemmas.List.Elements.{All-nil, All-append, All-replicate, All-head, All-tail, All-map, All-filter, All-take, filter_passes}
 use Rattle.std.proofs.lemmas.List.Sums.{sum_by-cons}
 use Rattle.std.proofs.lemmas.Option.{slice_get-get_or}
-use Rattle.bus_rules.specs.Tables.{Entry, Table, Ascends, entry_of, code_in}
+use Rattle.bus_rules.specs.Tables.{Entry, Table, Ascends, code_in}
 use Rattle.bus_rules.specs.Granting.{owed_to, in_turn, turn, turns, given, owners_by}
 use Rattle.stream_table.proofs.Order.{entry_at}
 use Rattle.host_scheduler.specs.declared.debts.Debt.{Debt}

@@ -1,17 +1,17 @@
 -- Codes and how often they stand in a list.
-use Rattle.std.proofs.Common.{◌≡◌, ◌≢◌, ℕ, zero, suc, ◌+◌, ◌-◌, ◌*◌, ◌^◌, ◌<◌, ◌≤◌, List, [], ◌∷◌, ◌++◌, Bool, true, false, ◌&&◌, ◌==◌, nat_lt, nat_le, cond, is_some, length, get_or, take, drop, map, filter, replicate, Option, Some, None, IsSome, option_map, ◌⊎◌, ⊎_elim, inl, inr, refl, sym, ◌∙◌, ap, subst, arith, eq-eqb, length-append}
-use Rattle.std.specs.List.{slice_get, sum_by, count_by, flat_map, find, All, Contains}
-use Rattle.std.specs.Option.{IfSome, option_map_or}
-use Rattle.std.specs.List.Sorted.{IsPermutation, IsNonDecreasing}
-use Rattle.std.proofs.lemmas.Bool.{ne_eqb, eqb-true, lt-ltb, le-leb, and_from, cases_eq}
-use Rattle.std.proofs.lemmas.List.{take_more, length-take-le, get_or-take, get_or_default}
-use Rattle.std.proofs.lemmas.List.Sums.{sum_by-cons, sum_by-append, sum_by_push, count_by-le-length}
+use Rattle.std.proofs.Common.{◌≡◌, ℕ, ◌+◌, ◌-◌, ◌^◌, ◌<◌, ◌≤◌, List, [], ◌∷◌, ◌++◌, Bool, true, false, ◌==◌, cond, is_some, length, get_or, take, map, Option, Some, None, IsSome, option_map, ⊎_elim, refl, sym, ◌∙◌, ap, subst, arith, eq-eqb}
+use Rattle.std.specs.List.{slice_get}
+use Rattle.std.specs.Option.{IfSome}
+use Rattle.std.specs.List.Sorted.{IsNonDecreasing}
+use Rattle.std.proofs.lemmas.Bool.{ne_eqb, lt-ltb, le-leb, and_from, cases_eq}
+use Rattle.std.proofs.lemmas.List.{take_more, length-take-le, get_or-take}
+use Rattle.std.proofs.lemmas.List.Sums.{sum_by_push, count_by-le-length}
 use Rattle.std.proofs.lemmas.Option.{get_or_from_slice_get, slice_get_within}
 use Rattle.schedule_codec.specs.OwnerLists.{takes_owner, may_follow}
-use Rattle.bus_rules.specs.Tables.{Entry, Table, has_code, Above, Ascends, entry_of}
-use Rattle.bus_rules.specs.Granting.{count_of, grant, share_in, owners_by}
+use Rattle.bus_rules.specs.Tables.{Entry, Table, entry_of}
+use Rattle.bus_rules.specs.Granting.{count_of, grant, share_in}
 use Rattle.stream_table.specs.Entries.{granted_once, grant_owner}
-use Rattle.host_scheduler.specs.Debts.{IsGrantable, granted_all}
+use Rattle.host_scheduler.specs.Debts.{granted_all}
 
 -- one code more
 once : (codes : List ℕ) (c : ℕ) (e : Entry) → granted_once c (grant (share_in codes) e) ≡ grant (share_in (codes ++ c ∷ [])) e

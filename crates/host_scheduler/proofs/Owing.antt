@@ -1,12 +1,12 @@
 -- What is owed, and the line of the turns.
-use Rattle.std.proofs.Common.{◌≡◌, ℕ, zero, suc, ◌+◌, ◌<◌, ◌≤◌, List, [], ◌∷◌, ◌++◌, Bool, true, false, ◌&&◌, nat_lt, nat_le, cond, length, get_or, take, drop, map, filter, replicate, Option, Some, None, option_map, refl, sym, ◌∙◌, ap, subst, arith, add-one, length-append, append_assoc}
-use Rattle.std.specs.List.{slice_get, sum_by, flat_map}
+use Rattle.std.proofs.Common.{◌≡◌, ℕ, zero, suc, ◌+◌, ◌<◌, ◌≤◌, List, [], ◌∷◌, ◌++◌, Bool, true, false, ◌&&◌, nat_lt, nat_le, cond, length, get_or, take, drop, map, filter, replicate, Option, Some, None, option_map, refl, sym, ◌∙◌, ap, arith, add-one, length-append, append_assoc}
+use Rattle.std.specs.List.{slice_get, sum_by}
 use Rattle.std.specs.Option.{option_map_or}
-use Rattle.std.proofs.lemmas.Bool.{ltb-true, ltb-false, lt-ltb, le-ltb, leb-true, leb-false, cases_Bool, cases_lt, le-leb, lt-leb}
+use Rattle.std.proofs.lemmas.Bool.{ltb-true, lt-ltb, leb-true}
 use Rattle.std.proofs.lemmas.List.{get_or_default, take_more, take_all, get_or-map, length-map, length-replicate, take-append-drop, length-take, length-take-le, append-nil, map_more}
 use Rattle.std.proofs.lemmas.List.Elements.{filter-append, filter_more}
 use Rattle.std.proofs.lemmas.List.Sums.{sum_by-cons, sum_by_more, sum_by-take-le}
-use Rattle.std.proofs.lemmas.Option.{slice_get-map, slice_get_within, get_or_from_slice_get, slice_get_past}
+use Rattle.std.proofs.lemmas.Option.{slice_get-map, slice_get_within, get_or_from_slice_get}
 use Rattle.bus_rules.specs.Tables.{Entry, Table, Ascends, entry_of, code_in}
 use Rattle.bus_rules.specs.Granting.{owed_to}
 use Rattle.stream_table.specs.Entries.{owed_by}

@@ -1,5 +1,5 @@
 -- The plan as the rule makes it.
-use Rattle.std.proofs.Common.{◌≡◌, ℕ, ◌+◌, ◌<◌, ◌≤◌, List, Bool, true, false, nat_le, if◌then◌else◌, map, refl, sym, ◌∙◌, ap}
+use Rattle.std.proofs.Common.{◌≡◌, ℕ, ◌+◌, List, Bool, true, false, nat_le, if◌then◌else◌, map, refl, ◌∙◌, ap}
 use Rattle.std.specs.List.{sum_by}
 use Rattle.bus_rules.specs.Tables.{Entry, Table, Ascends}
 use Rattle.bus_rules.specs.Granting.{owed_to, gap_of, grant, share_in, owners_by, given, last_code, granted_by, plan_round}

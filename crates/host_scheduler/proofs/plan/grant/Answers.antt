@@ -1,10 +1,8 @@
-use Rattle.std.proofs.Common.{◌≡◌, ◌≤◌, ◌<◌, ◌+◌, ◌∙◌, ◌++◌, [], ◌∷◌, ℕ, Bool, true, List, Option, Some, length, get_or, take, if◌then◌else◌, IsSome, map, refl, sym, ap, subst, arith}
+use Rattle.std.proofs.Common.{◌≡◌, ◌≤◌, ◌∙◌, ◌++◌, [], ◌∷◌, ℕ, Bool, true, List, Option, Some, length, get_or, take, if◌then◌else◌, sym, ap, subst, arith}
 use Rattle.std.proofs.lemmas.List.{take_more, length-take-le}
-use Rattle.std.specs.Option.{IfSome, SomeIff}
+use Rattle.std.specs.Option.{SomeIff}
 use Rattle.schedule_codec.specs.OwnerLists.{takes_owner}
-use Rattle.bus_rules.specs.Tables.{Table, entry_of}
 use Rattle.stream_table.specs.Entries.{grant_owner}
-use Rattle.host_scheduler.specs.Debts.{IsGrantable, granted_all}
 use Rattle.host_scheduler.proofs.Counted.{granted_more, nothing_granted, still_there, still_few, follows}
 use Rattle.host_scheduler.proofs.plan.grant.Goals as goal
 

@@ -1,9 +1,9 @@
-use Rattle.std.proofs.Common.{◌≡◌, ◌≤◌, ◌+◌, ◌∙◌, ℕ, List, IsSome, map, sym, ap, subst, arith}
+use Rattle.std.proofs.Common.{◌≡◌, ◌+◌, ◌∙◌, ℕ, List, IsSome, sym, ap, subst, arith}
 use Rattle.std.specs.List.{All}
 use Rattle.std.proofs.lemmas.List.Elements.{All-same, All-weaker}
 use Rattle.std.proofs.lemmas.List.Sorted.{All-permutation}
 use Rattle.bus_rules.specs.Tables.{Entry, Table, entry_of}
-use Rattle.bus_rules.specs.Granting.{owed_to, gap_of, grant, share_in, owners_by, plan_round}
+use Rattle.bus_rules.specs.Granting.{owed_to, gap_of, plan_round}
 use Rattle.host_scheduler.specs.Debts.{IsGrantable, slots_of, place_after, granted_all}
 use Rattle.host_scheduler.proofs.Bridge.{seconds_few}
 use Rattle.host_scheduler.proofs.Shares.{sorted_is, same_shares}

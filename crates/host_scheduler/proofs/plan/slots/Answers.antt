@@ -1,12 +1,11 @@
-use Rattle.std.proofs.Common.{◌≡◌, ◌≤◌, ◌+◌, ◌∙◌, ℕ, List, Bool, true, false, nat_le, if◌then◌else◌, length, take, sym, ap, subst, arith}
-use Rattle.std.specs.List.{All, sum_by}
+use Rattle.std.proofs.Common.{◌≡◌, ◌≤◌, ◌+◌, ◌∙◌, ℕ, List, true, false, nat_le, take, sym, ap, arith}
+use Rattle.std.specs.List.{sum_by}
 use Rattle.std.proofs.lemmas.Bool.{le-leb, lt-leb, cond-true, cond-false}
 use Rattle.std.proofs.lemmas.List.Elements.{All-same, All-weaker}
-use Rattle.bus_rules.specs.Tables.{Entry, Table}
 use Rattle.bus_rules.specs.Granting.{owed_to, owners_by, given, last_code}
 use Rattle.host_scheduler.specs.declared.debts.Debt.{Debt}
 use Rattle.host_scheduler.specs.Debts.{debts_of, all_owed, in_line, turns_of, IsCode, IsGrantable}
-use Rattle.host_scheduler.proofs.Bridge.{all_is, given_is, all_good, given_good, grantable, Owed}
+use Rattle.host_scheduler.proofs.Bridge.{all_is, given_is, all_good, given_good, grantable}
 use Rattle.host_scheduler.proofs.plan.slots.Goals as goal
 
 pub returns-then-total-le-SLOTS-clause-codes : goal.returns-then-total-le-SLOTS-clause-codes

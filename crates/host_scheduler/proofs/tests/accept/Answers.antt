@@ -1,10 +1,9 @@
-use Rattle.std.proofs.Common.{◌≡◌, ◌≤◌, ℕ, List, [], ◌∷◌, Bool, nat_lt, ◌==◌, not, cond, filter, sym, ap, subst, arith}
+use Rattle.std.proofs.Common.{◌≤◌, List, [], ◌∷◌, nat_lt, ◌==◌, not, cond, sym, subst, arith}
 use Rattle.std.specs.List.{All}
 use Rattle.std.proofs.lemmas.Bool.{cond_both}
-use Rattle.std.proofs.lemmas.List.Elements.{All-nil, All-cons, All-head, All-tail, All-filter}
+use Rattle.std.proofs.lemmas.List.Elements.{All-cons, All-head, All-tail, All-filter}
 use Rattle.lwb_base.specs.Messages.{Ask, code_of}
 use Rattle.bus_rules.specs.Tables.{Entry, Table, has_code, is_full, new_entry, with_entry, without, after_request}
-use Rattle.stream_table.specs.Requests.{ask_of}
 use Rattle.host_scheduler.proofs.tests.accept.Goals as goal
 
 abbrev Early : Entry → Type 0
@@ -26,4 +25,5 @@ after_early t a all =
 
 pub returns : goal.returns
 returns c =
-    subst (λ (t : Table). All Early t.entries) (sym c.request.ensures.after) (after_early c.args.table.now _ c.requires.early)
+    let asked : Ask = record { node = c.args.node; boot = 1; stream = 0; interval = c.args.interval } in
+    subst (λ (t : Table). All Early t.entries) (sym c.request.ensures.after) (after_early c.args.table.now asked c.requires.early)

@@ -1,7 +1,7 @@
-use Rattle.std.proofs.Common.{◌≡◌, ◌≤◌, ◌+◌, ◌∙◌, ◌++◌, ℕ, List, length, take, map, sym, ap, arith}
+use Rattle.std.proofs.Common.{◌≡◌, ◌+◌, ◌∙◌, ◌++◌, List, length, take, map, sym, ap, arith}
 use Rattle.host_scheduler.specs.declared.debts.Debt.{Debt}
 use Rattle.host_scheduler.specs.Debts.{in_line, beyond, turns_of, code_of}
-use Rattle.host_scheduler.proofs.Owing.{no_turn, next_turn, next_line, length_line, length_taken}
+use Rattle.host_scheduler.proofs.Owing.{no_turn, next_turn, next_line, length_taken}
 use Rattle.host_scheduler.proofs.turns.give.Goals as goal
 
 pub loop-turn-init : goal.loop-turn-init

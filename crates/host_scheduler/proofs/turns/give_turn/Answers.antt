@@ -1,4 +1,4 @@
-use Rattle.std.proofs.Common.{◌≡◌, ◌≤◌, ◌<◌, ◌+◌, ◌∙◌, ◌++◌, [], length, get_or, filter, take, refl, sym, ap, arith}
+use Rattle.std.proofs.Common.{◌≡◌, ◌+◌, ◌∙◌, [], length, get_or, take, refl, sym, ap, arith}
 use Rattle.std.proofs.lemmas.List.{take_all, append-nil, length-take-le}
 use Rattle.host_scheduler.specs.Debts.{owed_beyond}
 use Rattle.host_scheduler.proofs.Sifted.{sifted, length_filter}

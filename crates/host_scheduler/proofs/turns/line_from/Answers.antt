@@ -1,8 +1,8 @@
-use Rattle.std.proofs.Common.{◌≡◌, ◌≤◌, ◌<◌, ◌+◌, ◌∙◌, ◌++◌, ℕ, List, [], length, get_or, filter, take, sym, ap, arith}
+use Rattle.std.proofs.Common.{◌≡◌, ◌∙◌, ◌++◌, List, [], get_or, filter, take, sym, ap}
 use Rattle.std.proofs.lemmas.List.{take_all, append-nil}
 use Rattle.host_scheduler.specs.declared.debts.Debt.{Debt}
 use Rattle.host_scheduler.specs.Debts.{late, early}
-use Rattle.host_scheduler.proofs.Sifted.{sifted, length_filter}
+use Rattle.host_scheduler.proofs.Sifted.{sifted}
 use Rattle.host_scheduler.proofs.Owing.{nothing, read_at, line_is, line_room, late_room}
 use Rattle.host_scheduler.proofs.turns.line_from.Goals as goal
 
