@@ -1,0 +1,6 @@
+pub mod Sifted
+pub mod Owing
+pub mod Counted
+pub mod Shares
+pub mod Bridge
+pub mod Planned

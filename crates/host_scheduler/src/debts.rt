@@ -1,0 +1,57 @@
+ghost use Rattle.std.specs.Prelude.{◌≡◌, ◌+◌, ◌≤◌, ◌++◌, All, length, replicate, sum_by};
+ghost use Rattle.bus_rules.specs.Granting.{owed_to};
+ghost use Rattle.host_scheduler.specs.Debts.{debts_of, all_owed, IsCode, owed_in};
+
+use arrayvec::ArrayVec;
+use stream_table::Table;
+
+// What is owed to an owner.
+#[derive(Clone, Copy, Default)]
+pub(crate) struct Debt {
+    pub(crate) code: u16,
+    pub(crate) owed: u32,
+}
+
+// What is owed in a frame to each owner of a table, by ascending code.
+pub(crate) fn debts(table: &Table, seconds: u8, frame: u32) -> ArrayVec<Debt, 32>
+    requires seconds { seconds ≤ 5 }
+    requires accepted { All (λ e. e.accepted ≤ frame) table.now.entries }
+    requires frame { frame ≤ 16777219 }
+    ensures value { result.items ≡ debts_of (owed_to seconds frame) table.now.entries }
+    ensures codes { All (λ d. IsCode d.code) result.items }
+{
+    let _place = table.place();
+    let mut debts = ArrayVec::new();
+    for i in 0..32 {
+        let Some(owner) = table.owner_at(i) else {
+            return debts;
+        };
+        let owed = table.owed(seconds, owner, frame);
+        debts.push(Debt {
+            code: owner.code(),
+            owed,
+        });
+    }
+    debts
+}
+
+// Each code as often as it is owed, where that is at most 40 in all.
+pub(crate) fn all(debts: &[Debt]) -> ArrayVec<u16, 40>
+    requires { sum_by owed_in debts.now ≤ 40 }
+    ensures { result.items ≡ all_owed debts.now }
+{
+    let mut codes = ArrayVec::new();
+    for debt in debts {
+        push_times(&mut codes, debt.code, debt.owed);
+    }
+    codes
+}
+
+fn push_times(codes: &mut ArrayVec<u16, 40>, code: u16, times: u32)
+    requires { length codes.old.items + times ≤ 40 }
+    ensures { codes.new.items ≡ codes.old.items ++ replicate times code }
+{
+    for slot in 0..times {
+        codes.push(code);
+    }
+}
