@@ -1,5 +1,5 @@
 -- What holds of a window holds when a packet was heard in it.
-use Rattle.std.proofs.Common.{◌≡◌, ℕ, ◌+◌, ◌*◌, ◌-◌, ◌^◌, ◌<◌, ◌&&◌, List, Option, Some, None, Bool, true, false, not, ◌==◌, nat_lt, if◌then◌else◌, is_none, refl, sym, subst, arith}
+use Rattle.std.proofs.Common.{◌≡◌, ℕ, ◌^◌, ◌<◌, ◌&&◌, List, Option, Some, None, true, not, ◌==◌, nat_lt, is_none, subst, arith}
 use Rattle.std.proofs.lemmas.Bool.{cond_both, and_parts}
 use Rattle.std.specs.Option.{IfSome}
 use Rattle.lwb_base.specs.Profile.{Numbers}
