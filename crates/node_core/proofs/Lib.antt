@@ -2,3 +2,4 @@ mod WorkedOrders
 pub mod Meanings
 pub mod Spoken
 pub mod Beginning
+pub mod KeptWindows

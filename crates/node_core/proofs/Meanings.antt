@@ -1,10 +1,10 @@
 -- What is read off the bytes of a packet is what was spelled.
 use Rattle.std.proofs.Common.{◌≡◌, ℕ, ◌+◌, ◌*◌, ◌/◌, ◌%◌, List, refl, subst, ap, arith}
 use Rattle.lwb_packets.specs.DataPackets.{SpellsData, spelling as data_spelling}
-use Rattle.lwb_packets.specs.Requests.{SpellsRequest, spelling as request_spelling}
+use Rattle.lwb_packets.specs.Requests.{SpellsRequest}
 use Rattle.lwb_packets.specs.declared.data_packet.DataPacket.{DataPacket}
 use Rattle.lwb_packets.specs.declared.request.Request.{Request}
-use Rattle.bus_rules.specs.Slots.{Message, DataOf, RequestOf}
+use Rattle.bus_rules.specs.Slots.{DataOf, RequestOf}
 use Rattle.node_core.specs.declared.message.Heard.TheVariants.{Data as HeardData, Request as HeardRequest}
 use Rattle.node_core.specs.Said.{meaning, data_in, request_in}
 

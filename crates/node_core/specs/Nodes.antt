@@ -3,25 +3,11 @@ use Rattle.std.specs.Prelude.{ℕ, ◌+◌, ◌-◌, ◌*◌, min, List, length}
 use Rattle.std.specs.declared.option.Option.{Option}
 use Rattle.lwb_base.specs.Profile.{Numbers, airtime}
 use Rattle.time_reference.specs.Reference.{stopped, heard_zero}
-use Rattle.glossy_relay.specs.FloodState.{FloodState}
 use Rattle.glossy_relay.specs.Relaying.{slot_of, counter_of}
-use Rattle.bus_rules.specs.declared.part.Part.{Part}
-use Rattle.bus_rules.specs.Cores.{Core, booted}
-
--- what only a window has: what its slot is for, the last slot of the round, its flood, and the zero by the first schedule
--- that was accepted in it
-pub record Window : Type 0 where
-  pub part : Part
-  pub last : ℕ
-  pub flood : FloodState
-  pub reference : Option ℕ
-
-pub data Stage : Type 0 where
-  Idle : Stage
-  Scanning : Stage
-  AwaitFrame : Stage
-  AwaitSlot : ℕ → Stage
-  InWindow : ℕ → Window → Stage
+use Rattle.bus_rules.specs.declared.delivery.Delivery.{Delivery}
+use Rattle.bus_rules.specs.Cores.{Core, Setup, booted}
+use Rattle.node_core.specs.declared.stage.Stage.{Stage}
+use Rattle.node_core.specs.declared.stage.Stage.TheVariants.{Idle}
 
 -- zero: when slot 0 of the round that runs or comes next begins, by the node's clock
 pub record Node : Type 0 where
@@ -29,6 +15,12 @@ pub record Node : Type 0 where
   pub frame : ℕ
   pub zero : ℕ
   pub stage : Stage
+
+-- a node with what is fixed for it, and the delivery of its last step, if it is still there
+pub record NodeState : Type 0 where
+  pub setup : Setup
+  pub node : Node
+  pub delivery : Option Delivery
 
 -- a node with this boot, before its power comes on
 abbrev pub rebooted : ℕ → Node

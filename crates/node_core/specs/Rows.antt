@@ -23,7 +23,10 @@ use Rattle.bus_rules.specs.Tuning.{rank_of}
 use Rattle.bus_rules.specs.Cores.{Setup, booted, frame_ended, begins_host}
 use Rattle.bus_rules.specs.Slots.{Data, Message, ScheduleOf, DataOf, RequestOf, part_of, opened, closed}
 use Rattle.node_core.specs.Said.{bytes_of, message_of}
-use Rattle.node_core.specs.Nodes.{Node, Stage, Idle, Scanning, AwaitFrame, AwaitSlot, InWindow, Window, stopped_frame, frame_alarm, zero_of_host, opens_at, starts_at, closes_at, zero_from}
+use Rattle.node_core.specs.declared.stage.Stage.{Stage}
+use Rattle.node_core.specs.declared.stage.Stage.TheVariants.{Idle, Scanning, AwaitFrame, AwaitSlot, InWindow}
+use Rattle.node_core.specs.Windows.{Window}
+use Rattle.node_core.specs.Nodes.{Node, stopped_frame, frame_alarm, zero_of_host, opens_at, starts_at, closes_at, zero_from}
 
 -- what a row leaves: the new state, the orders, and a delivery, if there is one
 pub record Stepped : Type 0 where
@@ -220,9 +223,16 @@ at_alarm s n AwaitFrame = Some (frame_alarms s n)
 at_alarm s n (AwaitSlot j) = Some (window_opens s n j)
 at_alarm s n (InWindow j w) = Some (window_closes s n j w)
 
+abbrev pub in_window : Setup → Node → ℕ → List ℕ → Stage → Option Stepped
+in_window s n now p (InWindow j w) = Some (window_hears s n now j w p)
+in_window s n now p Idle = None
+in_window s n now p Scanning = None
+in_window s n now p AwaitFrame = None
+in_window s n now p (AwaitSlot j) = None
+
 abbrev pub at_heard : Setup → Node → ℕ → List ℕ → Stage → Option Stepped
 at_heard s n now p Scanning = scanner_hears s n now p (message_of p)
-at_heard s n now p (InWindow j w) = Some (window_hears s n now j w p)
+at_heard s n now p (InWindow j w) = in_window s n now p (InWindow j w)
 at_heard s n now p Idle = None
 at_heard s n now p AwaitFrame = None
 at_heard s n now p (AwaitSlot j) = None

@@ -5,6 +5,11 @@ mod closing;
 mod kept;
 mod member;
 mod message;
+mod node;
 mod opening;
+mod rows;
+mod stage;
 mod times;
 mod window;
+
+pub use node::{Node, Place};

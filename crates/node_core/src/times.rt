@@ -1,4 +1,4 @@
-ghost use Rattle.std.specs.Prelude.{◌≡◌, ◌≤◌, ◌<◌, ◌^◌, ◌+◌};
+ghost use Rattle.std.specs.Prelude.{◌≡◌, ◌≤◌, ◌<◌, ◌^◌, ◌+◌, ◌/◌};
 ghost use Rattle.node_core.specs.Nodes.{frame_alarm as alarm_of_frame, zero_of_host, zero_from, stopped_frame};
 
 use lwb_base::{Packet, Profile};
@@ -36,10 +36,21 @@ pub(crate) fn heard_zero(profile: &Profile, now: u64, schedule: &Packet) -> u64
     Reference::from_heard(profile, start, schedule.counter(), length, schedule.slot()).zero()
 }
 
+// The frame at this reading: one that begins within a lead counts.
+pub(crate) fn frame_at(profile: &Profile, now: u64) -> u32
+    requires { now < 2 ^ 46 }
+    ensures value { result ≡ stopped_frame ((now + profile.now.lead) / profile.now.frame) }
+    ensures range { result ≤ 16777215 }
+{
+    let _contend = profile.contend();
+    ((now + profile.lead()) / profile.frame()).min(u64::from(LAST_FRAME)) as u32
+}
+
 // The frame after this one.
 pub(crate) fn next_frame(frame: u32) -> u32
     requires { frame ≤ 16777215 }
-    ensures { result ≡ stopped_frame (frame + 1) }
+    ensures value { result ≡ stopped_frame (frame + 1) }
+    ensures range { result ≤ 16777215 }
 {
     LAST_FRAME.min(frame + 1)
 }

@@ -22,7 +22,7 @@ pub(crate) struct Window {
 }
 
 impl Model for Window {
-    ghost use Rattle.node_core.specs.Nodes.{Window as WindowOf};
+    ghost use Rattle.node_core.specs.Windows.{Window as WindowOf};
 
     ghost Value = { WindowOf };
 

@@ -1,0 +1,51 @@
+-- Where a node stands, and what holds of it at all times.
+use Rattle.std.specs.Prelude.{◌≡◌, ℕ, ◌+◌, ◌^◌, ◌<◌, ◌≤◌, ◌⊎◌, true, false, Some, None, List, [], ◌++◌, length, ⊤}
+use Rattle.std.specs.Option.{IfSome}
+use Rattle.lwb_base.specs.declared.order.Order.{Order}
+use Rattle.glossy_relay.specs.Relaying.{is_spelling}
+use Rattle.std.specs.declared.option.Option.{Option}
+use Rattle.bus_rules.specs.Plans.{last_slot}
+use Rattle.bus_rules.specs.Cores.{Core}
+use Rattle.node_core.specs.declared.node.Place as Place
+use Rattle.node_core.specs.declared.stage.Stage.{Stage}
+use Rattle.node_core.specs.declared.stage.Stage.TheVariants.{Idle, Scanning, AwaitFrame, AwaitSlot, InWindow}
+use Rattle.node_core.specs.Windows.{Window}
+use Rattle.node_core.specs.Nodes.{NodeState}
+use Rattle.node_core.specs.Rows.{Stepped, kind_for, is_schedule_part}
+
+abbrev pub place_of : Stage → Place.Place
+place_of Idle = Place.TheVariants.Off
+place_of Scanning = Place.TheVariants.Scanning
+place_of AwaitFrame = Place.TheVariants.AwaitFrame
+place_of (AwaitSlot j) = Place.TheVariants.AwaitSlot j
+place_of (InWindow j w) = Place.TheVariants.InWindow j
+
+-- the window of slot j: its round goes on by the plan, unless this slot may bring another one. Its flood is of the slot's
+-- kind, and what it carries too
+pub record IsWindow (c : Core) (j : ℕ) (w : Window) : Type 0 where
+  pub next : j < w.last → (j ≡ 0) ⊎ ((is_schedule_part w.part ≡ false) × (w.last ≡ last_slot c.plan))
+  pub kind : w.flood.kind ≡ kind_for w.part
+  pub carried : IfSome w.flood.first (λ p. is_spelling (kind_for w.part) p ≡ true)
+  pub reference : IfSome w.reference (λ z. z < 2 ^ 47)
+
+abbrev pub IsStage : Core → Stage → Type 0
+IsStage c Idle = ⊤
+IsStage c Scanning = ⊤
+IsStage c AwaitFrame = ⊤
+IsStage c (AwaitSlot j) = j ≤ last_slot c.plan
+IsStage c (InWindow j w) = IsWindow c j w
+
+pub record IsNode (c : Core) (frame z : ℕ) (stage : Stage) : Type 0 where
+  pub few : frame ≤ 16777215
+  pub early : z < 2 ^ 47
+  pub stands : IsStage c stage
+
+-- these orders were given to a radio, one after another, and as much less room is left
+pub record Gives (before after : List Order) (room left : ℕ) (orders : List Order) : Type 0 where
+  pub given : after ≡ before ++ orders
+  pub spent : left + length orders ≡ room
+
+-- the row that fits was gone through; where none fits, nothing changed and nothing was ordered
+abbrev pub Follows : NodeState → NodeState → List Order → List Order → ℕ → ℕ → Option Stepped → Type 0
+Follows old new before after room left None = (new ≡ old) × Gives before after room left []
+Follows old new before after room left (Some r) = (new ≡ record old { node = r.node; delivery = r.delivery }) × Gives before after room left r.orders

@@ -1,0 +1,122 @@
+ghost use Rattle.std.specs.Prelude.{◌≡◌, ◌≤◌, ◌<◌, Some, None, IfOk, if◌then◌else◌, length};
+ghost use Rattle.bus_rules.specs.Cores.{own_rank};
+ghost use Rattle.bus_rules.specs.Streams as rule;
+ghost use Rattle.stream_source.specs.declared.stream.Put.TheVariants.{Queued, Dropped};
+ghost use Rattle.node_core.specs.Members.{IsBoot};
+ghost use Rattle.node_core.specs.Nodes.{rebooted};
+ghost use Rattle.node_core.specs.Runs.{with_streams};
+ghost use Rattle.node_core.specs.Standing.{place_of};
+
+use crate::member::Member;
+use crate::stage::Stage;
+use bus_rules::{Delivery, Tune};
+use lwb_base::Payload;
+use std::marker::Model;
+use stream_source::Put;
+
+/// Where a node is in its frame.
+#[derive(Clone, Copy, Debug, PartialEq, Eq)]
+pub enum Place {
+    /// Its power never came on.
+    Off,
+    /// It listens for a schedule.
+    Scanning,
+    /// It waits for the end of the frame.
+    AwaitFrame,
+    /// It waits for this slot of a round.
+    AwaitSlot(u8),
+    /// It is in the window of this slot.
+    InWindow(u8),
+}
+
+/// The core of one node. It learns what happens from events, and gives orders to a radio.
+#[derive(Drop)]
+pub struct Node {
+    pub(crate) member: Member,
+    pub(crate) frame: u32,
+    pub(crate) zero: u64,
+    pub(crate) stage: Stage,
+    pub(crate) delivery: Option<Delivery>,
+}
+
+impl Model for Node {
+    ghost use Rattle.node_core.specs.Nodes.{NodeState};
+    ghost use Rattle.node_core.specs.Standing.{IsNode};
+
+    ghost Value = { NodeState };
+
+    ghost view = { λ n. record { setup = n.member.setup; node = record { core = n.member.core; frame = n.frame; zero = n.zero; stage = n.stage }; delivery = n.delivery } };
+
+    ghost invariant = { λ n. IsNode n.member.core n.frame n.zero n.stage };
+}
+
+impl Node {
+    /// As a new node, with this boot number, 1 to 200.
+    pub fn reboot(&mut self, boot: u8)
+        requires { IsBoot boot }
+        ensures { self.new ≡ record self.old { node = rebooted boot; delivery = None } }
+    {
+        self.stage = Stage::Idle;
+        self.member.reboot(boot);
+        self.frame = 0;
+        self.zero = 0;
+        self.delivery = None;
+    }
+
+    /// Sets the interval that a stream wishes, 1 to 120 seconds. Streams are 0 to 3.
+    pub fn declare(&mut self, stream: u8, interval: u8)
+        requires stream { stream ≤ 3 }
+        requires interval { (1 ≤ interval) × (interval ≤ 120) }
+        ensures { self.new ≡ record self.old { node = with_streams self.old.node (rule.declared stream interval self.old.node.core.streams) } }
+    {
+        self.member.declare(stream, interval);
+    }
+
+    /// The stream wishes nothing more, and what waits in it is gone.
+    pub fn leave(&mut self, stream: u8)
+        requires { stream ≤ 3 }
+        ensures { self.new ≡ record self.old { node = with_streams self.old.node (rule.left stream self.old.node.core.streams) } }
+    {
+        self.member.leave(stream);
+    }
+
+    /// Puts a packet at the end of a stream's queue; its payload is at most as long as the profile allows. `Dropped`, and
+    /// nothing changes, exactly where the stream wishes nothing, 16 packets wait in it, or its 65,535 numbers are used.
+    pub fn put(&mut self, stream: u8, payload: &Payload) -> Put
+        requires stream { stream ≤ 3 }
+        requires payload { length payload.now ≤ self.old.setup.profile.payload_max }
+        ensures answer { result ≡ (if rule.drops self.old.node.core.streams stream then Dropped else Queued (rule.stream_at self.old.node.core.streams stream).next) }
+        ensures after { self.new ≡ record self.old { node = with_streams self.old.node (rule.put stream payload.now self.old.node.core.streams) } }
+    {
+        self.member.put(stream, payload)
+    }
+
+    /// What it scans, holds or hosts.
+    pub fn tune(&self) -> Tune
+        ensures { result ≡ self.now.node.core.tune }
+    {
+        self.member.tune()
+    }
+
+    /// Where it is in its frame.
+    pub fn place(&self) -> Place
+        ensures { result ≡ place_of self.now.node.stage }
+    {
+        match self.stage {
+            Stage::Idle => Place::Off,
+            Stage::Scanning => Place::Scanning,
+            Stage::AwaitFrame => Place::AwaitFrame,
+            Stage::AwaitSlot(slot) => Place::AwaitSlot(slot),
+            Stage::InWindow(slot, _) => Place::InWindow(slot),
+        }
+    }
+
+    /// The delivery of the last step whose event fitted a row, once. None exactly where that step made none, it was taken,
+    /// or there was no such step.
+    pub fn delivered(&mut self) -> Option<Delivery>
+        ensures delivery { result ≡ self.old.delivery }
+        ensures once { self.new ≡ record self.old { delivery = None } }
+    {
+        self.delivery.take()
+    }
+}
