@@ -4,3 +4,5 @@ pub mod Windows
 pub mod TwoNodes
 pub mod FloodLog
 pub mod RunOnAir
+pub mod ClockLists
+pub mod FloodWorlds

@@ -5,3 +5,5 @@
 
 pub mod flood_laws;
 pub mod flood_log_laws;
+mod flood_world;
+mod member;

@@ -1,0 +1,23 @@
+use glossy_relay::Flood;
+use lwb_base::{NodeId, Packet};
+use radio_model::sending::Sending;
+
+// What a node of a flood is about.
+#[derive(Drop)]
+pub(crate) enum Act {
+    // It is tuned in and has nothing to send.
+    Listens,
+    // It is tuned in and starts to send this packet at that true tick.
+    Waits(u64, Packet),
+    Sends(Sending),
+    // It has gone off.
+    Off,
+}
+
+// One node of a flood.
+#[derive(Drop)]
+pub(crate) struct Member {
+    pub(crate) node: NodeId,
+    pub(crate) flood: Flood,
+    pub(crate) act: Act,
+}
