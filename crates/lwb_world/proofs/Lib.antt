@@ -17,3 +17,4 @@ pub mod FloodLogRun
 pub mod LogOutcome
 pub mod FloodSoFar
 pub mod WorldLists
+pub mod WorldStations
