@@ -18,3 +18,5 @@ pub mod LogOutcome
 pub mod FloodSoFar
 pub mod WorldLists
 pub mod WorldStations
+pub mod MemberPlaces
+pub mod NextMember

@@ -1,5 +1,5 @@
 -- The world of one flood: its medium, what each node is about, and the log so far. And what changes in it, and when.
-use Rattle.std.specs.Prelude.{◌≡◌, ℕ, ◌+◌, ◌<◌, ◌≤◌, ◌⊎◌, List, [], ◌∷◌, ◌++◌, map, All, Bool, true, false, ◌&&◌, ◌==◌, if◌then◌else◌, Some, None, length}
+use Rattle.std.specs.Prelude.{◌≡◌, ℕ, ◌+◌, ◌<◌, ◌≤◌, ◌⊎◌, List, [], ◌∷◌, ◌++◌, map, All, Bool, true, false, not, ◌&&◌, ◌||◌, ◌==◌, nat_lt, if◌then◌else◌, Some, None, length}
 use Rattle.std.specs.declared.option.Option.{Option}
 use Rattle.std.specs.List.{list_any}
 use Rattle.std.specs.Option.{IfSome}
@@ -64,6 +64,15 @@ moment_of Off = None
 -- ends come before starts of the same tick
 abbrev pub NotAfter : ℕ × Bool → ℕ × Bool → Type 0
 NotAfter k l = (k.0 < l.0) ⊎ ((k.0 ≡ l.0) × (k.1 ≡ true → l.1 ≡ true))
+
+abbrev pub comes_before : ℕ × Bool → ℕ × Bool → Bool
+comes_before k l = nat_lt k.0 l.0 || ((k.0 == l.0) && (not k.1 && l.1))
+
+-- what comes first of what was first, with its place, and the moment of place i
+abbrev pub sooner : Option (ℕ × ℕ × Bool) → ℕ → Option (ℕ × Bool) → Option (ℕ × ℕ × Bool)
+sooner next i None = next
+sooner None i (Some m) = Some (i, m)
+sooner (Some n) i (Some m) = if comes_before m (n.1, n.2) then Some (i, m) else Some n
 
 -- no other node does something before
 pub record IsNext (ms : List Member) (m : Member) : Type 0 where

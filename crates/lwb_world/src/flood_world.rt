@@ -1,43 +1,36 @@
-ghost use Rattle.std.specs.Prelude.{◌≡◌, ℕ, ◌<◌, ◌≤◌, ◌+◌, ◌^◌, IfOk, OnOk, IfSome, IfNone, Some, None, All, Contains, ◌↔◌, AllPairs, length, map, slice_index, slice_index_or, true};
+//! The world of a flood, and what changes in it.
+
+ghost use Rattle.std.specs.Prelude.{◌≡◌, ℕ, ◌<◌, ◌≤◌, ◌^◌, OnOk, IfSome, IfNone, All, Contains, ◌↔◌, AllPairs, length, map, slice_index_or, Some, None, true};
 ghost use Rattle.lwb_base.specs.Profile.{one};
-ghost use Rattle.bus_model.specs.FloodOfText.{ids};
-ghost use Rattle.scenario_text.specs.FloodParts.{IsSealed};
+ghost use Rattle.link_trace.specs.Sealed.{Traced};
 ghost use Rattle.radio_model.specs.declared.sending.Sending.{Sending};
 ghost use Rattle.radio_model.specs.Hearing.{Scene, Hears};
 ghost use Rattle.radio_model.specs.Holding.{Holds, as_it_stands};
-ghost use Rattle.radio_model.specs.Stations.{MediumState, IsTime, Ends, nodes_of, first_state, sending_of, station_of};
-ghost use Rattle.glossy_relay.specs.Relaying.{is_packet};
-ghost use Rattle.air_log.specs.FloodLaw.{CLOSING, sending_at, first_packet as first_packet_of};
-ghost use Rattle.lwb_world.specs.FloodWorlds.{World, opened, first_world, first_member as first_member_of, moment_of, NotAfter, IsNext, begun, gone, own_ended, ended, heard, closed_all};
-ghost use Rattle.lwb_world.specs.declared.member.Act.TheVariants.{Waits, Sends, Off};
+ghost use Rattle.radio_model.specs.Stations.{MediumState, IsTime, Ends, nodes_of, sending_of, station_of};
+ghost use Rattle.air_log.specs.FloodLaw.{sending_at};
+ghost use Rattle.lwb_world.specs.FloodWorlds.{World, node_of, moment_of, NotAfter, IsNext, begun, gone, own_ended, ended, heard, is_last, sent_entry as sent_entry_of, with_change, with_act, sooner as sooner_of, comes_before as comes_before_of};
+ghost use Rattle.lwb_world.specs.declared.member.Act.{Act as ActOf};
 
 use crate::member::{Act, Member};
 use air_log::{Air, Entry, HeardEntry, SentEntry, TunedEntry};
-use glossy_relay::{After, Flood, Reply};
+use glossy_relay::{After, Reply};
 use link_trace::Trace;
-use lwb_base::{Memory, NodeId, Packet, Payload, Profile, Rank};
-use lwb_packets::{DataPacket, Kind, encode_payload};
+use lwb_base::{Memory, NodeId, Packet, Profile, Rank};
 use radio_model::sending::Sending;
 use radio_model::{Hearers, Medium};
-use scenario_text::{FloodText, NodeLine};
-use std::alloc::Global;
 use std::marker::Model;
 use std::mem;
 use tick_clock::{DriftClock, turn_bounds};
 
-// The true ticks at which the nodes tune in, the starting node sends, and the nodes go off that have sendings left.
+// The true tick at which the nodes tune in.
 const OPENING: u64 = 1_344_000_000;
-
-const START: u64 = 1_344_064_000;
-
-const CLOSING: u64 = 1_346_096_000;
 
 // One flood as it runs: the medium, the nodes by ascending ids, and the log.
 #[derive(Drop)]
 pub(crate) struct FloodWorld {
-    medium: Medium,
-    members: Vec<Member>,
-    air: Air,
+    pub(crate) medium: Medium,
+    pub(crate) members: Vec<Member>,
+    pub(crate) air: Air,
 }
 
 impl Model for FloodWorld {
@@ -53,85 +46,143 @@ impl Model for FloodWorld {
 }
 
 impl FloodWorld {
-    // All nodes are tuned in, and the starting node waits to send.
-    pub(crate) fn new(alloc: Global, f: &FloodText) -> Result<FloodWorld, Memory>
-        ensures { IfOk result (λ w. w ≡ first_world f.now) }
+    // The place of the node that is the next to do something, or of one of them. None exactly where none has anything to do.
+    pub(crate) fn next(&self) -> Option<usize>
+        ensures none { IfNone result (All (λ m. moment_of m.act ≡ None) self.now.members) }
+        ensures some { IfSome result (λ i. (i < length self.now.members) × ((d : Member) → IsNext self.now.members (slice_index_or self.now.members i d))) }
     {
-        let nodes = node_ids(alloc, f.nodes())?;
-        let mut medium = Medium::new(alloc, &Profile::one(), nodes.as_slice())?;
-        open(&mut medium, nodes.as_slice());
-        Ok(FloodWorld {
-            medium,
-            members: members(alloc, f)?,
-            air: Air::new(alloc),
-        })
-    }
-}
-
-fn node_ids(alloc: Global, lines: &[NodeLine]) -> Result<Vec<NodeId>, Memory>
-    ensures { IfOk result (λ v. v.items ≡ ids lines.now) }
-{
-    let mut nodes = Vec::new(alloc);
-    for line in lines {
-        if nodes.push(line.node).is_err() {
-            return Err(Memory);
+        let mut next = None;
+        for (i, member) in self.members.iter().enumerate() {
+            next = sooner(next, i, &member.act);
+        }
+        match next {
+            Some((place, _, _)) => Some(place),
+            None => None,
         }
     }
-    Ok(nodes)
-}
 
-fn open(medium: &mut Medium, nodes: &[NodeId])
-    requires first { medium.old ≡ first_state one nodes.now }
-    ensures { medium.new ≡ opened nodes.now medium.old }
-{
-    for node in nodes {
-        medium.tune(*node, Some(Rank::new(0).unwrap()), OPENING);
-    }
-}
-
-fn members(alloc: Global, f: &FloodText) -> Result<Vec<Member>, Memory>
-    ensures { IfOk result (λ v. v.items ≡ map (first_member_of f.now) f.now.nodes) }
-{
-    let mut members = Vec::new(alloc);
-    for line in f.nodes() {
-        let member = first_member(f, line.node);
-        if members.push(member).is_err() {
-            return Err(Memory);
-        }
-    }
-    Ok(members)
-}
-
-fn first_member(f: &FloodText, node: NodeId) -> Member
-    ensures { (offset : ℕ) → result ≡ first_member_of f.now (record { node = node; offset = offset }) }
-{
-    if f.start() != node {
-        return Member {
+    // The node's ordered sending starts.
+    pub(crate) fn begin(&mut self, node: NodeId, start: u64, packet: Packet) -> Result<(), Memory>
+        requires node { Contains (nodes_of self.old.medium) node }
+        requires time { IsTime self.old.medium start }
+        ensures { OnOk result (self.new ≡ begun (sending_at node start packet) self.old) }
+    {
+        let x = Sending {
+            rank: channel(),
             node,
-            flood: Flood::listen(Kind::Payload, 1, f.sends()),
-            act: Act::Listens,
+            start,
+            end: start + Profile::one().airtime(packet.length()),
+            packet,
         };
+        if self.air.push(sent_entry(&x)).is_err() {
+            return Err(Memory);
+        }
+        self.medium.start(node, start, &x.packet);
+        set_act(&mut self.members, node, Act::Sends(x));
+        Ok(())
     }
-    let packet = first_packet(node);
-    Member {
-        node,
-        flood: Flood::initiate(&packet, f.sends()),
-        act: Act::Waits(START, packet),
+
+    // The node goes off.
+    pub(crate) fn leave(&mut self, node: NodeId, t: u64) -> Result<(), Memory>
+        requires node { Contains (nodes_of self.old.medium) node }
+        requires time { IsTime self.old.medium t }
+        ensures { OnOk result (self.new ≡ gone node t self.old) }
+    {
+        let entry = TunedEntry {
+            rank: channel(),
+            node,
+            start: OPENING,
+            end: t,
+        };
+        if self.air.push(Entry::Tuned(entry)).is_err() {
+            return Err(Memory);
+        }
+        self.medium.tune(node, None, t);
+        set_act(&mut self.members, node, Act::Off);
+        Ok(())
     }
 }
 
-// A data packet of the starting node in slot 1, of its first boot, stream 0 and number 0, with no payload.
-fn first_packet(start: NodeId) -> Packet
-    ensures value { result ≡ first_packet_of start }
-    ensures spelled { (is_packet result ≡ true) × (slice_index result 2 ≡ 0) }
+// What a node is about to do: when, and whether it is to start a sending; else one ends.
+fn moment(act: &Act) -> Option<(u64, bool)>
+    ensures { result ≡ moment_of act.now }
 {
-    encode_payload(&DataPacket {
-        slot: 1,
-        counter: 0,
-        node: start,
-        boot: 1,
-        stream: 0,
-        seq: 0,
-        payload: Payload::new(&[]).unwrap(),
+    match act {
+        Act::Waits(t, _) => Some((*t, true)),
+        Act::Sends(x) => Some((x.end, false)),
+        Act::Listens | Act::Off => None,
+    }
+}
+
+// What comes first of what was first, with its place, and what the node at place i is about to do.
+fn sooner(
+    next: Option<(usize, u64, bool)>,
+    i: usize,
+    act: &Act,
+) -> Option<(usize, u64, bool)>
+    ensures { result ≡ sooner_of next i (moment_of act.now) }
+{
+    let Some((t, starts)) = moment(act) else {
+        return next;
+    };
+    match next {
+        Some((_, u, waits)) if !comes_before(t, starts, u, waits) => next,
+        _ => Some((i, t, starts)),
+    }
+}
+
+// At one tick sendings end before others start.
+fn comes_before(t: u64, starts: bool, u: u64, waits: bool) -> bool
+    ensures { result ≡ comes_before_of (t, starts) (u, waits) }
+{
+    t < u || (t == u && !starts && waits)
+}
+
+// All is on the channel of rank 0.
+fn channel() -> Rank
+    ensures { result ≡ 0 }
+{
+    Rank::new(0).unwrap()
+}
+
+fn copy_of(packet: &Packet) -> Packet
+    ensures { result ≡ packet.now }
+{
+    Packet::new(packet.bytes()).unwrap()
+}
+
+fn sent_entry(x: &Sending) -> Entry
+    ensures { result ≡ sent_entry_of x.now }
+{
+    Entry::Sent(SentEntry {
+        rank: x.rank,
+        node: x.node,
+        start: x.start,
+        end: x.end,
+        packet: copy_of(&x.packet),
     })
+}
+
+// What the node is about from now on.
+fn set_act(members: &mut [Member], node: NodeId, act: Act)
+    requires node { Contains (map node_of members.old) node }
+    requires ascend { AllPairs (λ a b. a < b) (map node_of members.old) }
+    ensures { members.new ≡ with_change node (with_act act) members.old }
+{
+    let place = place_of(members, node);
+    members[place].act = act;
+}
+
+// The place of a node.
+fn place_of(members: &[Member], node: NodeId) -> usize
+    requires { Contains (map node_of members.now) node }
+    ensures below { result < length members.now }
+    ensures there { (d : Member) → (slice_index_or members.now result d).node ≡ node }
+{
+    for (i, member) in members.iter().enumerate() {
+        if member.node == node {
+            return i;
+        }
+    }
+    unreachable!()
 }

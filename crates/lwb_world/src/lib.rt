@@ -5,5 +5,6 @@
 
 pub mod flood_laws;
 pub mod flood_log_laws;
+mod flood_beginning;
 mod flood_world;
 mod member;
