@@ -9,6 +9,7 @@ pub mod Members
 pub mod Scenes
 pub mod Retuned
 pub mod OneCall
+pub mod NothingBefore
 pub mod AfterTuning
 pub mod AfterStarting
 pub mod AfterEnding
