@@ -1,8 +1,10 @@
 pub mod RivalLists
+pub mod OneStation
 pub mod Places
 pub mod Changes
 pub mod PlacedRivals
 pub mod Ending
+pub mod Agreement
 pub mod Settled
 pub mod Tunings
 pub mod Members

@@ -11,7 +11,7 @@ use Rattle.radio_model.specs.Holding.{Agree, Holds, lasting_at, as_it_stands, cl
 use Rattle.radio_model.specs.declared.station.Tuned.{Tuned}
 use Rattle.radio_model.specs.declared.station.Station.{Station}
 use Rattle.radio_model.proofs.Members.{in_option, in_head, in_tail, in_map, from_map}
-use Rattle.radio_model.proofs.Places.{node_kept}
+use Rattle.radio_model.proofs.OneStation.{node_stays}
 use Rattle.radio_model.proofs.Changes.{retuned_keeps}
 use Rattle.radio_model.proofs.Tunings.{Goes, Tells}
 use Rattle.radio_model.proofs.Scenes.{Lit, with_tuning, lit_or_lasts, lit_stands, lasts_stands, lit_more, lit_apart, lit_other, closed_is}
@@ -134,7 +134,7 @@ module _ (m : MediumState) (ascend : AllPairs (λ a b. a < b) (nodes_of m)) (a :
           | inr goes ↦ lasts_stands behind scene t u c k early (record {
             station = changed_at v change l.station;
             there = in_map (changed_at v change) m.stations l.station l.there;
-            node = node_kept change (retuned_keeps rank t) v l.station ∙ l.node;
+            node = node_stays change v (retuned_keeps rank t).node l.station ∙ l.node;
             goes = goes;
           })
         ]
@@ -164,7 +164,7 @@ module _ (m : MediumState) (ascend : AllPairs (λ a b. a < b) (nodes_of m)) (a :
         ]
         | inr l ↦
             let w = from_map (changed_at v change) m.stations l.station l.there in
-            let node : w.0.node ≡ u = sym (node_kept change (retuned_keeps rank t) v w.0) ∙ ap node_of w.2 ∙ l.node in
+            let node : w.0.node ≡ u = sym (node_stays change v (retuned_keeps rank t).node w.0) ∙ ap node_of w.2 ∙ l.node in
             was w.0 u c k w.1 node early (inr (subst (λ (s : Station). Goes s.tuned c k) (sym w.2) l.goes))
       ]
 
