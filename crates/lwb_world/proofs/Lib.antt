@@ -20,3 +20,6 @@ pub mod WorldLists
 pub mod WorldStations
 pub mod MemberPlaces
 pub mod NextMember
+pub mod FloodShapes
+pub mod FloodOpening
+pub mod FloodHearers

@@ -87,3 +87,17 @@ first_more ms i (Some n) (Some m) at is =
 
 pub is_next : (ms : List Member) (n : ℕ × ℕ × Bool) → IsFirst ms (length ms) (Some n) → (d : Member) → IsNext ms (get_or ms n.0 d)
 is_next ms n is d = record { moment = (n.1, n.2); own = is.1 d; first = λ k e less. is.2 k e less }
+
+same_at : (ms : List Member) (k : ℕ) (d e : Member) → k < length ms → get_or ms k d ≡ get_or ms k e
+same_at [] k d e below = absurd (omega arith)
+same_at (m ∷ ms) zero d e below = refl
+same_at (m ∷ ms) (suc k) d e below = same_at ms k d e (omega arith)
+
+pub first_with : (ms : List Member) (i : ℕ) (m : Member) (next result : Option (ℕ × ℕ × Bool)) → i < length ms → m ≡ get_or ms i m → IsFirst ms i next → result ≡ sooner next i (moment_of m.act) → IsFirst ms (i + 1) result
+first_with ms i m next result below at is same =
+    subst (IsFirst ms (i + 1)) (sym same) (first_more ms i next (moment_of m.act) (λ d. ap (λ (n : Member). moment_of n.act) (same_at ms i d m below ∙ sym at)) is)
+
+pub next_is : (ms ys : List Member) (i : ℕ) (next : Option (ℕ × ℕ × Bool)) (n : ℕ × ℕ × Bool) → ys ≡ ms → i ≡ length ys → IsFirst ys i next → next ≡ Some n → (n.0 < length ms) × ((d : Member) → IsNext ms (get_or ms n.0 d))
+next_is ms ys i next n same end first at =
+    let is : IsFirst ms (length ms) (Some n) = subst (λ (o : Option (ℕ × ℕ × Bool)). IsFirst ms (length ms) o) at (subst (λ (l : List Member). IsFirst l (length l) next) same (subst (λ (k : ℕ). IsFirst ys k next) end first)) in
+    (is.0, is_next ms n is)

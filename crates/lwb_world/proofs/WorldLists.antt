@@ -1,9 +1,9 @@
 -- The lists of a flood's world after a change: its nodes, and its log with one entry more.
-use Rattle.std.proofs.Common.{◌≡◌, ◌≢◌, ℕ, zero, suc, ◌≤◌, ◌<◌, List, [], ◌∷◌, ◌++◌, map, filter_map, Bool, true, Option, Some, None, ◌==◌, if◌then◌else◌, inl, inr, refl, sym, ◌∙◌, ap, subst, arith, length, get_or, eq-eqb}
+use Rattle.std.proofs.Common.{◌≡◌, ◌≢◌, ℕ, zero, suc, ◌≤◌, ◌<◌, List, [], ◌∷◌, ◌++◌, map, filter_map, take, Bool, true, Option, Some, None, ◌==◌, ◌+◌, if◌then◌else◌, inl, inr, refl, sym, ◌∙◌, ap, subst, arith, length, get_or, eq-eqb}
 use Rattle.std.specs.Prelude.{Contains, AllPairs, ◌⊎◌}
 use Rattle.std.specs.List.{cons_option}
 use Rattle.std.proofs.lemmas.Bool.{cond_both, cond-true, cond-false, eqb-true, eqb-false, ne_eqb}
-use Rattle.std.proofs.lemmas.List.{append-nil}
+use Rattle.std.proofs.lemmas.List.{append-nil, map_more}
 use Rattle.std.proofs.lemmas.List.Elements.{filter_map-append, Contains-push, Contains-push_cases, Contains-append_left}
 use Rattle.std.proofs.lemmas.List.Quantifiers.{all_pairs_push}
 use Rattle.glossy_relay.specs.FloodState.{FloodState}
@@ -132,3 +132,8 @@ pairs_push R xs y all last = all_pairs_push R xs y all (λ k d less. last (get_o
 
 pub in_order_push : (es : List Event) (e : Event) → InOrder es → ((d : Event) → Contains es d → ((sending_of d).end ≤ (sending_of e).end) × (d ≢ e)) → InOrder (es ++ e ∷ [])
 in_order_push es e order last = pairs_push (λ d e. ((sending_of d).end ≤ (sending_of e).end) × (d ≢ e)) es e order last
+
+-- a push of what a map gives at the next place
+pub map_pushed : {X Y : Type 0} (g : X → Y) (xs : List X) (i : ℕ) (x : X) (items : List Y) (y : Y) → i < length xs → x ≡ get_or xs i x → items ≡ map g (take i xs) → y ≡ g x → items ++ y ∷ [] ≡ map g (take (i + 1) xs)
+map_pushed g xs i x items y below at is value =
+    ap (λ (l : List _). l ++ y ∷ []) is ∙ ap (λ (z : _). map g (take i xs) ++ z ∷ []) (value ∙ ap g at) ∙ sym (map_more g xs i x below)

@@ -1,5 +1,5 @@
 -- The world of one flood: its medium, what each node is about, and the log so far. And what changes in it, and when.
-use Rattle.std.specs.Prelude.{◌≡◌, ℕ, ◌+◌, ◌<◌, ◌≤◌, ◌⊎◌, List, [], ◌∷◌, ◌++◌, map, All, Bool, true, false, not, ◌&&◌, ◌||◌, ◌==◌, nat_lt, if◌then◌else◌, Some, None, length}
+use Rattle.std.specs.Prelude.{◌≡◌, ℕ, ◌+◌, ◌<◌, ◌≤◌, ◌⊎◌, List, [], ◌∷◌, ◌++◌, map, All, AllPairs, Contains, ◌↔◌, Bool, true, false, not, ◌&&◌, ◌||◌, ◌==◌, nat_lt, if◌then◌else◌, Some, None, length}
 use Rattle.std.specs.declared.option.Option.{Option}
 use Rattle.std.specs.List.{list_any}
 use Rattle.std.specs.Option.{IfSome}
@@ -12,7 +12,10 @@ use Rattle.scenario_text.specs.FloodParts.{FloodParts}
 use Rattle.scenario_text.specs.declared.lines.NodeLine.{NodeLine}
 use Rattle.bus_model.specs.FloodOfText.{ids}
 use Rattle.radio_model.specs.declared.sending.Sending.{Sending}
-use Rattle.radio_model.specs.Stations.{MediumState, after, retuned, started, finished, first_state}
+use Rattle.radio_model.specs.Hearing.{Scene, Hears}
+use Rattle.radio_model.specs.Holding.{Holds, as_it_stands}
+use Rattle.link_trace.specs.Passes.{Lines}
+use Rattle.radio_model.specs.Stations.{MediumState, IsMedium, nodes_of, after, retuned, started, finished, first_state}
 use Rattle.air_log.specs.declared.entry.Entry.{Entry}
 use Rattle.air_log.specs.declared.entry.Entry.TheVariants.{Sent, Heard, Tuned}
 use Rattle.air_log.specs.FloodLaw.{OPENING, START, CLOSING, first_packet, first_flood}
@@ -27,6 +30,11 @@ pub record World : Type 0 where
 
 abbrev pub node_of : Member → ℕ
 node_of m = m.node
+
+-- its medium is one of the same nodes
+pub record IsShape (w : World) : Type 0 where
+  pub nodes : map node_of w.members ≡ nodes_of w.medium
+  pub medium : IsMedium w.medium
 
 -- a change at one node
 abbrev pub changed_at : ℕ → (Member → Member) → Member → Member
@@ -71,8 +79,8 @@ comes_before k l = nat_lt k.0 l.0 || ((k.0 == l.0) && (not k.1 && l.1))
 -- what comes first of what was first, with its place, and the moment of place i
 abbrev pub sooner : Option (ℕ × ℕ × Bool) → ℕ → Option (ℕ × Bool) → Option (ℕ × ℕ × Bool)
 sooner next i None = next
-sooner None i (Some m) = Some (i, m)
-sooner (Some n) i (Some m) = if comes_before m (n.1, n.2) then Some (i, m) else Some n
+sooner None i (Some m) = Some (i, m.0, m.1)
+sooner (Some n) i (Some m) = if comes_before m (n.1, n.2) then Some (i, m.0, m.1) else Some n
 
 -- no other node does something before
 pub record IsNext (ms : List Member) (m : Member) : Type 0 where
@@ -142,6 +150,23 @@ heard clock x v w = record w { members = with_change v (hearing_by clock x) w.me
 abbrev pub heard_by_all : (ℕ → ℕ → ℕ) → Sending → List ℕ → World → World
 heard_by_all clocks x [] w = w
 heard_by_all clocks x (v ∷ vs) w = heard_by_all clocks x vs (heard (clocks v) x v w)
+
+-- what the clock at the place of a node reads. Where there is none, it is the true tick
+abbrev pub readings_at : {C : Type 0} → (C → ℕ → ℕ) → List C → List ℕ → ℕ → ℕ → ℕ
+readings_at R cs [] v = λ t. t
+readings_at R [] (u ∷ us) v = λ t. t
+readings_at R (c ∷ cs) (u ∷ us) v = if u == v then R c else readings_at R cs us v
+
+-- these nodes hear a sending that ends: by the rule of the air, in a scene that the medium holds
+pub record IsHeardBy (lines : Lines) (x : Sending) (w : World) (vs : List ℕ) : Type 0 where
+  pub ascending : AllPairs (λ u v. u < v) vs
+  pub hearers : (a : Scene) → Holds w.medium a → a.lines ≡ lines → (v : ℕ) → Contains vs v ↔ (Contains (nodes_of w.medium) v × Hears (as_it_stands w.medium x.end a) v x)
+
+-- the world after the end of a sending, at its node and at those who hear it
+pub record Ended (lines : Lines) (clocks : ℕ → ℕ → ℕ) (x : Sending) (old new : World) : Type 0 where
+  pub hearers : List ℕ
+  pub heard : IsHeardBy lines x old hearers
+  pub is : new ≡ heard_by_all clocks x hearers (ended x old)
 
 -- at the end those that are still tuned in go off
 abbrev pub is_off : Act → Bool

@@ -8,11 +8,11 @@ ghost use Rattle.radio_model.specs.Stations.{first_state};
 ghost use Rattle.air_log.specs.FloodLaw.{first_packet as first_packet_of};
 ghost use Rattle.lwb_world.specs.FloodWorlds.{opened, first_world, first_member as first_member_of};
 
-use crate::flood_world::FloodWorld;
+use crate::flood_world::{FloodWorld, channel};
 use crate::member::{Act, Member};
 use air_log::Air;
 use glossy_relay::Flood;
-use lwb_base::{Memory, NodeId, Packet, Payload, Profile, Rank};
+use lwb_base::{Memory, NodeId, Packet, Payload, Profile};
 use lwb_packets::{DataPacket, Kind, encode_payload};
 use radio_model::Medium;
 use scenario_text::{FloodText, NodeLine};
@@ -56,7 +56,7 @@ fn open(medium: &mut Medium, nodes: &[NodeId])
     ensures { medium.new ≡ opened nodes.now medium.old }
 {
     for node in nodes {
-        medium.tune(*node, Some(Rank::new(0).unwrap()), OPENING);
+        medium.tune(*node, Some(channel()), OPENING);
     }
 }
 

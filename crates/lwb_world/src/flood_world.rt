@@ -1,6 +1,6 @@
 //! The world of a flood, and what changes in it.
 
-ghost use Rattle.std.specs.Prelude.{◌≡◌, ℕ, ◌<◌, ◌≤◌, ◌^◌, OnOk, IfSome, IfNone, All, Contains, ◌↔◌, AllPairs, length, map, slice_index_or, Some, None, true};
+ghost use Rattle.std.specs.Prelude.{◌≡◌, ℕ, ◌<◌, ◌≤◌, ◌^◌, OnOk, IfSome, IfNone, All, Contains, ◌↔◌, AllPairs, length, map, slice_index_or, Some, None, true, if◌then◌else◌};
 ghost use Rattle.lwb_base.specs.Profile.{one};
 ghost use Rattle.link_trace.specs.Sealed.{Traced};
 ghost use Rattle.radio_model.specs.declared.sending.Sending.{Sending};
@@ -8,7 +8,9 @@ ghost use Rattle.radio_model.specs.Hearing.{Scene, Hears};
 ghost use Rattle.radio_model.specs.Holding.{Holds, as_it_stands};
 ghost use Rattle.radio_model.specs.Stations.{MediumState, IsTime, Ends, nodes_of, sending_of, station_of};
 ghost use Rattle.air_log.specs.FloodLaw.{sending_at};
-ghost use Rattle.lwb_world.specs.FloodWorlds.{World, node_of, moment_of, NotAfter, IsNext, begun, gone, own_ended, ended, heard, is_last, sent_entry as sent_entry_of, with_change, with_act, sooner as sooner_of, comes_before as comes_before_of};
+ghost use Rattle.lwb_world.specs.FloodWorlds.{World, node_of, moment_of, NotAfter, IsNext, begun, gone, own_ended, ended, heard, is_last, sent_entry as sent_entry_of, with_change, with_act, sooner as sooner_of, comes_before as comes_before_of, heard_entry as heard_entry_of, hearing_by, after_own, heard_by_all, readings_at, Ended};
+ghost use Rattle.lwb_world.specs.declared.member.Member.{Member};
+ghost use Rattle.glossy_relay.specs.declared.flood.After.TheVariants.{More, Off as After_Off};
 ghost use Rattle.lwb_world.specs.declared.member.Act.{Act as ActOf};
 
 use crate::member::{Act, Member};
@@ -34,15 +36,13 @@ pub(crate) struct FloodWorld {
 }
 
 impl Model for FloodWorld {
-    ghost use Rattle.std.specs.Prelude.{◌≡◌, map};
-    ghost use Rattle.radio_model.specs.Stations.{nodes_of, IsMedium};
-    ghost use Rattle.lwb_world.specs.FloodWorlds.{World, node_of};
+    ghost use Rattle.lwb_world.specs.FloodWorlds.{World, IsShape};
 
     ghost Value = { World };
 
     ghost view = { λ w. record { medium = w.medium; members = w.members.items; air = w.air } };
 
-    ghost invariant = { λ w. (map node_of w.members.items ≡ nodes_of w.medium) × IsMedium w.medium };
+    ghost invariant = { λ w. IsShape (record { medium = w.medium; members = w.members.items; air = w.air }) };
 }
 
 impl FloodWorld {
@@ -101,6 +101,64 @@ impl FloodWorld {
         set_act(&mut self.members, node, Act::Off);
         Ok(())
     }
+
+    // The sending ends: at its node, which goes off if it was the last, and then at those who hear it.
+    pub(crate) fn end<C: DriftClock>(
+        &mut self,
+        trace: &Trace,
+        clocks: &[C],
+        x: Sending,
+    ) -> Result<(), Memory>
+        requires node { Contains (nodes_of self.old.medium) x.node }
+        requires time { IsTime self.old.medium x.end }
+        requires sends { Ends self.old.medium x.node x.end }
+        requires seal { trace.now.nodes ≡ nodes_of self.old.medium }
+        requires waits { All (λ m. m.node ≡ x.node → m.flood.waiting ≡ true) self.old.members }
+        requires early { x.end ≤ 2 ^ 45 }
+        requires clocks { length clocks.now ≡ length self.old.members }
+        ensures { OnOk result (Ended trace.now.lines (readings_at C.readings clocks.now (map node_of self.old.members)) x self.old self.new) }
+    {
+        let hearers = self.medium.end(trace, x.node, x.end);
+        let after = end_own(&mut self.members, x.node);
+        if after == After::Off {
+            self.leave(x.node, x.end)?;
+        }
+        self.hear_all(clocks, &hearers, &x)
+    }
+
+    // These nodes hear the sending that has ended.
+    fn hear_all<C: DriftClock>(
+        &mut self,
+        clocks: &[C],
+        hearers: &Hearers,
+        x: &Sending,
+    ) -> Result<(), Memory>
+        requires nodes { All (λ p. Contains (nodes_of self.old.medium) p.0) hearers.now }
+        requires early { x.now.end ≤ 2 ^ 45 }
+        requires clocks { length clocks.now ≡ length self.old.members }
+        ensures { OnOk result (self.new ≡ heard_by_all (readings_at C.readings clocks.now (map node_of self.old.members)) x.now (map (λ p. p.0) hearers.now) self.old) }
+    {
+        for i in 0..usize::from(hearers.count()) {
+            let (node, _) = hearers.at(i).unwrap();
+            let place = place_of(&self.members, node);
+            self.hear(place, &clocks[place], x)?;
+        }
+        Ok(())
+    }
+
+    // The node at that place hears it.
+    fn hear<C: DriftClock>(&mut self, place: usize, clock: &C, x: &Sending) -> Result<(), Memory>
+        requires place { place < length self.old.members }
+        requires early { x.now.end ≤ 2 ^ 45 }
+        ensures { (d : Member) → OnOk result (self.new ≡ heard (C.readings clock.now) x.now (slice_index_or self.old.members place d).node self.old) }
+    {
+        let node = self.members[place].node;
+        if self.air.push(heard_entry(node, x)).is_err() {
+            return Err(Memory);
+        }
+        hear_at(&mut self.members, place, clock, x);
+        Ok(())
+    }
 }
 
 // What a node is about to do: when, and whether it is to start a sending; else one ends.
@@ -122,12 +180,16 @@ fn sooner(
 ) -> Option<(usize, u64, bool)>
     ensures { result ≡ sooner_of next i (moment_of act.now) }
 {
-    let Some((t, starts)) = moment(act) else {
-        return next;
-    };
-    match next {
-        Some((_, u, waits)) if !comes_before(t, starts, u, waits) => next,
-        _ => Some((i, t, starts)),
+    match (moment(act), next) {
+        (None, _) => next,
+        (Some((t, starts)), None) => Some((i, t, starts)),
+        (Some((t, starts)), Some((_, u, waits))) => {
+            if comes_before(t, starts, u, waits) {
+                Some((i, t, starts))
+            } else {
+                next
+            }
+        }
     }
 }
 
@@ -139,7 +201,7 @@ fn comes_before(t: u64, starts: bool, u: u64, waits: bool) -> bool
 }
 
 // All is on the channel of rank 0.
-fn channel() -> Rank
+pub(crate) fn channel() -> Rank
     ensures { result ≡ 0 }
 {
     Rank::new(0).unwrap()
@@ -163,14 +225,55 @@ fn sent_entry(x: &Sending) -> Entry
     })
 }
 
+fn heard_entry(node: NodeId, x: &Sending) -> Entry
+    ensures { result ≡ heard_entry_of node x.now }
+{
+    Entry::Heard(HeardEntry {
+        rank: x.rank,
+        node,
+        from: x.node,
+        start: x.start,
+        end: x.end,
+        packet: copy_of(&x.packet),
+    })
+}
+
 // What the node is about from now on.
-fn set_act(members: &mut [Member], node: NodeId, act: Act)
-    requires node { Contains (map node_of members.old) node }
-    requires ascend { AllPairs (λ a b. a < b) (map node_of members.old) }
-    ensures { members.new ≡ with_change node (with_act act) members.old }
+fn set_act(members: &mut Vec<Member>, node: NodeId, act: Act)
+    requires node { Contains (map node_of members.old.items) node }
+    requires ascend { AllPairs (λ a b. a < b) (map node_of members.old.items) }
+    ensures { members.new.items ≡ with_change node (with_act act) members.old.items }
 {
     let place = place_of(members, node);
     members[place].act = act;
+}
+
+// The node's sending ended.
+fn end_own(members: &mut Vec<Member>, node: NodeId) -> After
+    requires node { Contains (map node_of members.old.items) node }
+    requires ascend { AllPairs (λ a b. a < b) (map node_of members.old.items) }
+    requires waits { All (λ m. m.node ≡ node → m.flood.waiting ≡ true) members.old.items }
+    ensures last { result ≡ (if is_last node members.old.items then After_Off else More) }
+    ensures members { members.new.items ≡ with_change node after_own members.old.items }
+{
+    let place = place_of(members, node);
+    let member = &mut members[place];
+    member.act = Act::Listens;
+    member.flood.sent()
+}
+
+// The node at that place hears a sending that has ended.
+fn hear_at<C: DriftClock>(members: &mut Vec<Member>, place: usize, clock: &C, x: &Sending)
+    requires place { place < length members.old.items }
+    requires ascend { AllPairs (λ a b. a < b) (map node_of members.old.items) }
+    requires early { x.now.end ≤ 2 ^ 45 }
+    ensures { (d : Member) → members.new.items ≡ with_change (slice_index_or members.old.items place d).node (hearing_by (C.readings clock.now) x.now) members.old.items }
+{
+    let member = &mut members[place];
+    match member.flood.heard(&x.packet) {
+        Reply::Relay(packet) => member.act = Act::Waits(turn_bounds(clock, x.end), packet),
+        Reply::Keep | Reply::Ignore => {}
+    }
 }
 
 // The place of a node.
