@@ -16,4 +16,5 @@ pub mod LogEntries
 pub mod FloodLogRun
 pub mod LogOutcome
 pub mod FloodSoFar
+pub mod FloodBegun
 pub mod WorldLists
