@@ -17,4 +17,5 @@ pub mod FloodLogRun
 pub mod LogOutcome
 pub mod FloodSoFar
 pub mod FloodBegun
+pub mod FloodEnded
 pub mod WorldLists
