@@ -16,6 +16,8 @@ pub mod LogEntries
 pub mod FloodLogRun
 pub mod LogOutcome
 pub mod FloodSoFar
+pub mod FloodBegun
+pub mod FloodEnded
 pub mod WorldLists
 pub mod WorldStations
 pub mod MemberPlaces
