@@ -18,5 +18,6 @@ pub mod LogOutcome
 pub mod FloodSoFar
 pub mod WorldLists
 pub mod WorldStations
+pub mod FloodHeard
 pub mod MemberPlaces
 pub mod NextMember
