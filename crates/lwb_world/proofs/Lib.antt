@@ -19,5 +19,6 @@ pub mod FloodSoFar
 pub mod WorldLists
 pub mod WorldStations
 pub mod FloodHeard
+pub mod FloodGone
 pub mod MemberPlaces
 pub mod NextMember
