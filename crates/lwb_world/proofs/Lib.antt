@@ -20,6 +20,8 @@ pub mod FloodBegun
 pub mod FloodEnded
 pub mod WorldLists
 pub mod WorldStations
+pub mod FloodHeard
+pub mod FloodGone
 pub mod MemberPlaces
 pub mod NextMember
 pub mod FloodShapes
