@@ -28,3 +28,5 @@ pub mod FloodShapes
 pub mod FloodOpening
 pub mod FloodHearers
 pub mod EndOfSending
+pub mod FloodMeasure
+pub mod FloodSteps

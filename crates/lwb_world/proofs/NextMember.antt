@@ -61,7 +61,7 @@ at_last : (ms : List Member) (i : ℕ) (P : Option (ℕ × Bool) → Type 0) (m 
 at_last ms i P m at last all k d less =
     elim (cases_lt k i) [
       | inl before ↦ all k d before
-      | inr not ↦ let same : i ≡ k = omega arith in subst P (sym (at d)  ∙ ap (λ (n : ℕ). moment_of (get_or ms n d).act) same) last
+      | inr not ↦ let same : i ≡ k = omega arith in subst P (sym (at d) ∙ ap (λ (n : ℕ). moment_of (get_or ms n d).act) same) last
     ]
 
 pub first_more : (ms : List Member) (i : ℕ) (next : Option (ℕ × ℕ × Bool)) (m : Option (ℕ × Bool)) → ((d : Member) → moment_of (get_or ms i d).act ≡ m) → IsFirst ms i next → IsFirst ms (i + 1) (sooner next i m)

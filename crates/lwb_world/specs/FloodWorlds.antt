@@ -1,5 +1,5 @@
 -- The world of one flood: its medium, what each node is about, and the log so far. And what changes in it, and when.
-use Rattle.std.specs.Prelude.{◌≡◌, ℕ, ◌+◌, ◌<◌, ◌≤◌, ◌⊎◌, List, [], ◌∷◌, ◌++◌, map, All, AllPairs, Contains, ◌↔◌, Bool, true, false, not, ◌&&◌, ◌||◌, ◌==◌, nat_lt, if◌then◌else◌, Some, None, length}
+use Rattle.std.specs.Prelude.{◌≡◌, ℕ, ◌+◌, ◌^◌, ◌<◌, ◌≤◌, ◌⊎◌, List, [], ◌∷◌, ◌++◌, map, All, AllPairs, Contains, ◌↔◌, Bool, true, false, not, ◌&&◌, ◌||◌, ◌==◌, nat_lt, if◌then◌else◌, Some, None, length}
 use Rattle.std.specs.declared.option.Option.{Option}
 use Rattle.std.specs.List.{list_any}
 use Rattle.std.specs.Option.{IfSome}
@@ -15,10 +15,10 @@ use Rattle.radio_model.specs.declared.sending.Sending.{Sending}
 use Rattle.radio_model.specs.Hearing.{Scene, Hears}
 use Rattle.radio_model.specs.Holding.{Holds, as_it_stands}
 use Rattle.link_trace.specs.Passes.{Lines}
-use Rattle.radio_model.specs.Stations.{MediumState, IsMedium, nodes_of, after, retuned, started, finished, first_state}
+use Rattle.radio_model.specs.Stations.{MediumState, IsMedium, IsTime, Ends, nodes_of, sending_of, station_of, after, retuned, started, finished, first_state}
 use Rattle.air_log.specs.declared.entry.Entry.{Entry}
 use Rattle.air_log.specs.declared.entry.Entry.TheVariants.{Sent, Heard, Tuned}
-use Rattle.air_log.specs.FloodLaw.{OPENING, START, CLOSING, first_packet, first_flood}
+use Rattle.air_log.specs.FloodLaw.{OPENING, START, CLOSING, first_packet, first_flood, sending_at}
 use Rattle.lwb_world.specs.declared.member.Act.{Act}
 use Rattle.lwb_world.specs.declared.member.Act.TheVariants.{Listens, Waits, Sends, Off}
 use Rattle.lwb_world.specs.declared.member.Member.{Member}
@@ -162,11 +162,33 @@ pub record IsHeardBy (lines : Lines) (x : Sending) (w : World) (vs : List ℕ) :
   pub ascending : AllPairs (λ u v. u < v) vs
   pub hearers : (a : Scene) → Holds w.medium a → a.lines ≡ lines → (v : ℕ) → Contains vs v ↔ (Contains (nodes_of w.medium) v × Hears (as_it_stands w.medium x.end a) v x)
 
+pub record CanEnd (lines : Lines) (w : World) (m : Member) (x : Sending) : Type 0 where
+  pub node : x.node ≡ m.node
+  pub time : IsTime w.medium x.end
+  pub ends : Ends w.medium x.node x.end
+  pub sends : sending_of (station_of w.medium x.node) ≡ Some x
+  pub held : (a : Scene) × Holds w.medium a × (a.lines ≡ lines)
+  pub waits : All (λ n. n.node ≡ x.node → n.flood.waiting ≡ true) w.members
+  pub early : x.end ≤ 2 ^ 45
+
 -- the world after the end of a sending, at its node and at those who hear it
 pub record Ended (lines : Lines) (clocks : ℕ → ℕ → ℕ) (x : Sending) (old new : World) : Type 0 where
   pub hearers : List ℕ
   pub heard : IsHeardBy lines x old hearers
   pub is : new ≡ heard_by_all clocks x hearers (ended x old)
+
+-- what the medium asks for where the next thing that a node does comes to pass, and what the world is then
+abbrev pub CanStep : Lines → World → Member → Act → Type 0
+CanStep lines w m Listens = Unit {0}
+CanStep lines w m (Waits t packet) = IsTime w.medium t
+CanStep lines w m (Sends x) = CanEnd lines w m x
+CanStep lines w m Off = Unit {0}
+
+abbrev pub Stepped : Lines → (ℕ → ℕ → ℕ) → World → World → Member → Act → Type 0
+Stepped lines clocks old new m Listens = new ≡ old
+Stepped lines clocks old new m (Waits t packet) = new ≡ begun (sending_at m.node t packet) old
+Stepped lines clocks old new m (Sends x) = Ended lines clocks x old new
+Stepped lines clocks old new m Off = new ≡ old
 
 -- at the end those that are still tuned in go off
 abbrev pub is_off : Act → Bool

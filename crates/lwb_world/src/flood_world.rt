@@ -1,6 +1,6 @@
 //! The world of a flood, and what changes in it.
 
-ghost use Rattle.std.specs.Prelude.{◌≡◌, ℕ, ◌<◌, ◌≤◌, ◌^◌, OnOk, IfSome, IfNone, All, Contains, ◌↔◌, AllPairs, length, map, slice_index_or, Some, None, true, if◌then◌else◌};
+ghost use Rattle.std.specs.Prelude.{◌≡◌, ◌++◌, List, ℕ, ◌<◌, ◌≤◌, ◌^◌, OnOk, IfSome, IfNone, All, Contains, ◌↔◌, AllPairs, length, map, slice_index_or, Some, None, true, if◌then◌else◌};
 ghost use Rattle.lwb_base.specs.Profile.{one};
 ghost use Rattle.link_trace.specs.Sealed.{Traced};
 ghost use Rattle.radio_model.specs.declared.sending.Sending.{Sending};
@@ -8,12 +8,12 @@ ghost use Rattle.radio_model.specs.Hearing.{Scene, Hears};
 ghost use Rattle.radio_model.specs.Holding.{Holds, as_it_stands};
 ghost use Rattle.radio_model.specs.Stations.{MediumState, IsTime, Ends, nodes_of, sending_of, station_of};
 ghost use Rattle.air_log.specs.FloodLaw.{sending_at};
-ghost use Rattle.lwb_world.specs.FloodWorlds.{World, node_of, moment_of, NotAfter, IsNext, begun, gone, own_ended, ended, heard, is_last, sent_entry as sent_entry_of, with_change, with_act, sooner as sooner_of, comes_before as comes_before_of, heard_entry as heard_entry_of, hearing_by, after_own, heard_by_all, readings_at, Ended};
+ghost use Rattle.lwb_world.specs.FloodWorlds.{World, node_of, moment_of, NotAfter, IsNext, begun, gone, own_ended, ended, heard, is_last, sent_entry as sent_entry_of, with_change, with_act, sooner as sooner_of, comes_before as comes_before_of, heard_entry as heard_entry_of, hearing_by, after_own, heard_by_all, readings_at, Ended, CanStep, Stepped, closed_by, closed_all};
 ghost use Rattle.lwb_world.specs.declared.member.Member.{Member};
 ghost use Rattle.glossy_relay.specs.declared.flood.After.TheVariants.{More, Off as After_Off};
 ghost use Rattle.lwb_world.specs.declared.member.Act.{Act as ActOf};
 
-use crate::member::{Act, Member};
+use crate::member::{Act, Member, copy_of_act, copy_of_packet, is_off};
 use air_log::{Air, Entry, HeardEntry, SentEntry, TunedEntry};
 use glossy_relay::{After, Reply};
 use link_trace::Trace;
@@ -26,6 +26,9 @@ use tick_clock::{DriftClock, turn_bounds};
 
 // The true tick at which the nodes tune in.
 const OPENING: u64 = 1_344_000_000;
+
+// The true tick at which those nodes go off that have sendings left.
+const CLOSING: u64 = 1_346_096_000;
 
 // One flood as it runs: the medium, the nodes by ascending ids, and the log.
 #[derive(Drop)]
@@ -59,6 +62,56 @@ impl FloodWorld {
             Some((place, _, _)) => Some(place),
             None => None,
         }
+    }
+
+    // The node at that place does the next thing that it is about to do.
+    pub(crate) fn step<C: DriftClock>(
+        &mut self,
+        trace: &Trace,
+        clocks: &[C],
+        place: usize,
+    ) -> Result<(), Memory>
+        requires place { place < length self.old.members }
+        requires seal { trace.now.nodes ≡ nodes_of self.old.medium }
+        requires clocks { length clocks.now ≡ length self.old.members }
+        requires can { (d : Member) → CanStep trace.now.lines self.old (slice_index_or self.old.members place d) (slice_index_or self.old.members place d).act }
+        ensures { (d : Member) → OnOk result (Stepped trace.now.lines (readings_at C.readings clocks.now (map node_of self.old.members)) self.old self.new (slice_index_or self.old.members place d) (slice_index_or self.old.members place d).act) }
+    {
+        let node = self.members[place].node;
+        match copy_of_act(&self.members[place].act) {
+            Act::Waits(start, packet) => self.begin(node, start, packet),
+            Act::Sends(x) => self.end(trace, clocks, x),
+            Act::Listens | Act::Off => Ok(()),
+        }
+    }
+
+    // Those that are still tuned in go off.
+    pub(crate) fn close(&mut self) -> Result<(), Memory>
+        requires { (us vs : List ℕ) → map node_of self.old.members ≡ us ++ vs → IsTime (closed_all us self.old).medium 1346096000 }
+        ensures { OnOk result (self.new ≡ closed_all (map node_of self.old.members) self.old) }
+    {
+        for place in 0..self.members.len() {
+            self.close_one(place)?;
+        }
+        Ok(())
+    }
+
+    fn close_one(&mut self, place: usize) -> Result<(), Memory>
+        requires place { place < length self.old.members }
+        requires time { IsTime self.old.medium 1346096000 }
+        ensures { (d : Member) → OnOk result (self.new ≡ closed_by (slice_index_or self.old.members place d).node self.old) }
+    {
+        let node = self.members[place].node;
+        if is_off(&self.members[place].act) {
+            return Ok(());
+        }
+        self.leave(node, CLOSING)
+    }
+
+    pub(crate) fn into_air(self) -> Air
+        ensures { result ≡ self.air }
+    {
+        self.air
     }
 
     // The node's ordered sending starts.
@@ -177,11 +230,7 @@ fn moment(act: &Act) -> Option<(u64, bool)>
 }
 
 // What comes first of what was first, with its place, and what the node at place i is about to do.
-fn sooner(
-    next: Option<(usize, u64, bool)>,
-    i: usize,
-    act: &Act,
-) -> Option<(usize, u64, bool)>
+fn sooner(next: Option<(usize, u64, bool)>, i: usize, act: &Act) -> Option<(usize, u64, bool)>
     ensures { result ≡ sooner_of next i (moment_of act.now) }
 {
     match (moment(act), next) {
@@ -211,12 +260,6 @@ pub(crate) fn channel() -> Rank
     Rank::new(0).unwrap()
 }
 
-fn copy_of(packet: &Packet) -> Packet
-    ensures { result ≡ packet.now }
-{
-    Packet::new(packet.bytes()).unwrap()
-}
-
 fn sent_entry(x: &Sending) -> Entry
     ensures { result ≡ sent_entry_of x.now }
 {
@@ -225,7 +268,7 @@ fn sent_entry(x: &Sending) -> Entry
         node: x.node,
         start: x.start,
         end: x.end,
-        packet: copy_of(&x.packet),
+        packet: copy_of_packet(&x.packet),
     })
 }
 
@@ -238,7 +281,7 @@ fn heard_entry(node: NodeId, x: &Sending) -> Entry
         from: x.node,
         start: x.start,
         end: x.end,
-        packet: copy_of(&x.packet),
+        packet: copy_of_packet(&x.packet),
     })
 }
 

@@ -3,8 +3,11 @@
 //! Each law is the contract of a function that does nothing.
 #![tactic(auto)]
 
+mod flood_beginning;
 pub mod flood_laws;
 pub mod flood_log_laws;
-mod flood_beginning;
 mod flood_world;
 mod member;
+mod true_time;
+
+pub use true_time::flood_air;
