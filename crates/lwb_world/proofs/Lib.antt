@@ -27,3 +27,4 @@ pub mod NextMember
 pub mod FloodShapes
 pub mod FloodOpening
 pub mod FloodHearers
+pub mod FloodOver
