@@ -38,9 +38,6 @@ use Rattle.lwb_world.proofs.FloodHeard.{heard_event}
 use Rattle.lwb_world.proofs.FloodOpening.{sound_nodes}
 
 -- the events of a node and the entries of the log
-same_ended : (x y : Sending) → Ended x ≡ Ended y → x ≡ y
-same_ended x y is = cc
-
 some_same : {X : Type 0} (x y : X) → Some x ≡ Some y → x ≡ y
 some_same x y is = cc
 

@@ -28,3 +28,4 @@ pub mod FloodShapes
 pub mod FloodOpening
 pub mod FloodHearers
 pub mod FloodOver
+pub mod FloodFirst
