@@ -29,3 +29,4 @@ pub mod FloodOpening
 pub mod FloodHearers
 pub mod FloodOver
 pub mod FloodFirst
+pub mod FloodClosing
