@@ -74,13 +74,13 @@ same_test false true to from = from refl
 same_test false false to from = refl
 
 stays_is : (ms : List Member) → Distinct (map node_of ms) → (m : Member) → Contains ms m → list_any (stays m.node) ms ≡ is_off m.act
-stays_is ms distinct m there =
-    same_test (list_any (stays m.node) ms) (is_off m.act)
-    (λ some.
+stays_is ms distinct m there = same_test (list_any (stays m.node) ms) (is_off m.act) itself (λ off. any_of (stays m.node) ms m there (and_from (m.node == m.node) (is_off m.act) (eq-eqb m.node m.node refl) off))
+  where
+    itself : list_any (stays m.node) ms ≡ true → is_off m.act ≡ true
+    itself some =
         let n = some_of (stays m.node) ms some in
         let both = and_parts (n.0.node == m.node) (is_off n.0.act) n.2 in
-        subst (λ (k : Member). is_off k.act ≡ true) (one_of_mark node_of ms distinct n.0 m n.1 there (eqb-true n.0.node m.node both.0)) both.1)
-    (λ off. any_of (stays m.node) ms m there (and_from (m.node == m.node) (is_off m.act) (eq-eqb m.node m.node refl) off))
+        subst (λ (k : Member). is_off k.act ≡ true) (one_of_mark node_of ms distinct n.0 m n.1 there (eqb-true n.0.node m.node both.0)) both.1
 
 pub closed_at : (w : World) → IsShape w → (i : ℕ) (m : Member) → i < length w.members → m ≡ get_or w.members i m → closed_by m.node w ≡ (if is_off m.act then w else gone m.node CLOSING w)
 closed_at w is i m below at =

@@ -1,5 +1,6 @@
 -- The medium and the nodes of a flood's world are of the same ids, and stay so.
-use Rattle.std.proofs.Common.{◌≡◌, ℕ, map, Option, None, refl, sym, ◌∙◌, subst}
+use Rattle.std.proofs.Common.{◌≡◌, ℕ, map, Option, None, List, refl, sym, ◌∙◌, ap, subst}
+use Rattle.air_log.specs.declared.entry.Entry.{Entry}
 use Rattle.lwb_base.specs.Profile.{Numbers}
 use Rattle.radio_model.specs.declared.sending.Sending.{Sending}
 use Rattle.radio_model.specs.Stations.{MediumState, IsMedium, nodes_of, after, retuned, started, finished}
@@ -42,3 +43,7 @@ module _ (inside old new : World) (is : IsShape inside) (view : inside ≡ old) 
 
   pub heard_stays : (clock : ℕ → ℕ) (x : Sending) (v : ℕ) → new ≡ heard clock x v old → IsShape new
   heard_stays clock x v same = subst IsShape (sym same) (heard_shape old (subst IsShape view is) clock x v)
+
+pub hearing_shape : (inside : World) → IsShape inside → (clock : ℕ → ℕ) (x : Sending) (v : ℕ) (members : List Member) (air : List Entry) → members ≡ with_change v (hearing_by clock x) inside.members
+    → IsShape (record { medium = inside.medium; members = members; air = air })
+hearing_shape inside is clock x v members air same = record { nodes = ap (map node_of) same ∙ (heard_shape inside is clock x v).nodes; medium = is.medium }

@@ -30,3 +30,4 @@ pub mod FloodHearers
 pub mod FloodOver
 pub mod FloodFirst
 pub mod FloodClosing
+pub mod EndOfSending

@@ -111,7 +111,9 @@ impl FloodWorld {
     ) -> Result<(), Memory>
         requires node { Contains (nodes_of self.old.medium) x.node }
         requires time { IsTime self.old.medium x.end }
-        requires sends { Ends self.old.medium x.node x.end }
+        requires ends { Ends self.old.medium x.node x.end }
+        requires sends { sending_of (station_of self.old.medium x.node) ≡ Some x }
+        requires held { (a : Scene) × Holds self.old.medium a × (a.lines ≡ trace.now.lines) }
         requires seal { trace.now.nodes ≡ nodes_of self.old.medium }
         requires waits { All (λ m. m.node ≡ x.node → m.flood.waiting ≡ true) self.old.members }
         requires early { x.end ≤ 2 ^ 45 }
@@ -119,11 +121,13 @@ impl FloodWorld {
         ensures { OnOk result (Ended trace.now.lines (readings_at C.readings clocks.now (map node_of self.old.members)) x self.old self.new) }
     {
         let hearers = self.medium.end(trace, x.node, x.end);
-        let after = end_own(&mut self.members, x.node);
-        if after == After::Off {
-            self.leave(x.node, x.end)?;
+        match end_own(&mut self.members, x.node) {
+            After::More => self.hear_all(clocks, &hearers, &x),
+            After::Off => {
+                self.leave(x.node, x.end)?;
+                self.hear_all(clocks, &hearers, &x)
+            }
         }
-        self.hear_all(clocks, &hearers, &x)
     }
 
     // These nodes hear the sending that has ended.
