@@ -43,7 +43,7 @@ use Rattle.lwb_world.proofs.FloodBegun.{waits_differ, same_sends, sends_by, one_
 listens_differ : (x : Sending) → Listens ≡ Sends x → ⊥
 listens_differ x is = absurd (cc)
 
-sends_off : (x : Sending) → Sends x ≡ Off → ⊥
+pub sends_off : (x : Sending) → Sends x ≡ Off → ⊥
 sends_off x is = absurd (cc)
 
 not_heard : (s t : FloodState) (x y : Sending) → (let o : Occasion = record { before = s; event = Ended x } in o ≡ record { before = t; event = Heard y }) → ⊥

@@ -27,6 +27,9 @@ pub mod NextMember
 pub mod FloodShapes
 pub mod FloodOpening
 pub mod FloodHearers
+pub mod FloodOver
+pub mod FloodFirst
+pub mod FloodClosing
 pub mod EndOfSending
 pub mod FloodMeasure
 pub mod FloodSteps
