@@ -32,7 +32,7 @@ none_last v (m ∷ ms) none =
     ap (λ (b : Bool). (b && (m.flood.sent + 1 == m.flood.limit)) || is_last v ms) (ne_eqb m.node v (λ is. none (subst (Contains (map node_of (m ∷ ms))) is (contains_head m.node (map node_of ms)))))
     ∙ none_last v ms (λ there. none (contains_tail m.node (map node_of ms) v there))
 
-last_is : (v : ℕ) (ms : List Member) (m : Member) → Distinct (map node_of ms) → Contains ms m → m.node ≡ v → is_last v ms ≡ (m.flood.sent + 1 == m.flood.limit)
+pub last_is : (v : ℕ) (ms : List Member) (m : Member) → Distinct (map node_of ms) → Contains ms m → m.node ≡ v → is_last v ms ≡ (m.flood.sent + 1 == m.flood.limit)
 last_is v [] m distinct there is = absurd (not_in_none m there)
 last_is v (n ∷ ms) m distinct there is =
     elim (contains_cases n ms m there) [

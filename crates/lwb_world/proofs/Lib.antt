@@ -33,3 +33,5 @@ pub mod FloodClosing
 pub mod EndOfSending
 pub mod FloodMeasure
 pub mod FloodSteps
+pub mod FloodLoop
+pub mod ClosingLoop

@@ -87,10 +87,10 @@ impl FloodWorld {
 
     // Those that are still tuned in go off.
     pub(crate) fn close(&mut self) -> Result<(), Memory>
-        requires { (us vs : List ℕ) → map node_of self.old.members ≡ us ++ vs → IsTime (closed_all us self.old).medium 1346096000 }
+        requires { IsTime self.old.medium 1346096000 }
         ensures { OnOk result (self.new ≡ closed_all (map node_of self.old.members) self.old) }
     {
-        for place in 0..self.members.len() {
+        for place in 0..self.members.as_slice().len() {
             self.close_one(place)?;
         }
         Ok(())
