@@ -2,6 +2,7 @@ pub mod Digits
 pub mod Known
 pub mod FloodExamples
 pub mod ScenarioExamples
+pub mod CanonicalExamples
 pub mod LineFeeds
 pub mod LinesRead
 pub mod NodeIds
