@@ -3,6 +3,7 @@ pub mod Known
 pub mod FloodExamples
 pub mod ScenarioExamples
 pub mod CanonicalExamples
+pub mod CanonicalParts
 pub mod LineFeeds
 pub mod LinesRead
 pub mod NodeIds
