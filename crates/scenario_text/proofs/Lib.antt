@@ -2,6 +2,8 @@ pub mod Digits
 pub mod Known
 pub mod FloodExamples
 pub mod ScenarioExamples
+pub mod CanonicalExamples
+pub mod CanonicalParts
 pub mod LineFeeds
 pub mod LinesRead
 pub mod NodeIds
