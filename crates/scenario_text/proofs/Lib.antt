@@ -11,3 +11,4 @@ pub mod RatesKept
 pub mod FloodKeeps
 pub mod ScenarioKeeps
 pub mod LinksBack
+pub mod TextBack

@@ -6,6 +6,7 @@ mod flood;
 mod flood_draft;
 mod flood_line;
 mod flood_text;
+pub mod laws;
 mod line_writers;
 mod lines;
 mod list_writers;
