@@ -12,3 +12,4 @@ pub mod FloodKeeps
 pub mod ScenarioKeeps
 pub mod LinksBack
 pub mod TextBack
+pub mod NumbersBack
