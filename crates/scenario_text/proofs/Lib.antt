@@ -13,3 +13,4 @@ pub mod ScenarioKeeps
 pub mod LinksBack
 pub mod TextBack
 pub mod NumbersBack
+pub mod LinesSaid
