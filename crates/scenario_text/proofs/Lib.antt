@@ -14,3 +14,6 @@ pub mod LinksBack
 pub mod TextBack
 pub mod NumbersBack
 pub mod LinesSaid
+pub mod CanonicalFacts
+pub mod LineRuns
+pub mod CanonicalGoes

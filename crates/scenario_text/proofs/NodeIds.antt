@@ -11,11 +11,11 @@ use Rattle.scenario_text.specs.Network.{with_node}
 use Rattle.scenario_text.specs.FloodDrafts.{Rises}
 use Rattle.scenario_text.specs.declared.lines.NodeLine.{NodeLine}
 
-abbrev below : NodeLine → NodeLine → Bool
+abbrev pub below : NodeLine → NodeLine → Bool
 below n m = nat_lt m.node n.node
 
 -- the node behind those with lesser ids
-abbrev put : NodeLine → List NodeLine → List NodeLine
+abbrev pub put : NodeLine → List NodeLine → List NodeLine
 put n [] = n ∷ []
 put n (m ∷ ms) = cond (below n m) (m ∷ put n ms) (n ∷ m ∷ ms)
 

@@ -22,7 +22,7 @@ last_more : (r : RateLine) (rs : List RateLine) (i : ℕ) → last_rate (r ∷ r
 last_more r rs i = ap (find (is_of i)) (reverse-append (r ∷ []) rs) ∙ find-append (is_of i) (reverse rs) (reverse (r ∷ []))
 
 -- what holds of all holds of the last
-last_holds : (P : RateLine → Type 0) (i : ℕ) (rs : List RateLine) → AllByRecursion P rs → IfSome (last_rate rs i) P
+pub last_holds : (P : RateLine → Type 0) (i : ℕ) (rs : List RateLine) → AllByRecursion P rs → IfSome (last_rate rs i) P
 last_holds P i [] all = tt
 last_holds P i (r ∷ rs) all = subst (λ (o : Option RateLine). IfSome o P) (sym (last_more r rs i)) (either (last_rate rs i) (last_holds P i rs all.1))
   where
@@ -33,6 +33,15 @@ last_holds P i (r ∷ rs) all = subst (λ (o : Option RateLine). IfSome o P) (sy
         here : (b : Bool) → IfSome (cond b (Some r) None) P
         here true = all.0
         here false = tt
+
+-- and is of the node
+pub last_of : (rs : List RateLine) (i : ℕ) → IfSome (last_rate rs i) (λ r. r.node ≡ i)
+last_of [] i = tt
+last_of (r ∷ rs) i = subst (λ (o : Option RateLine). IfSome o (λ r. r.node ≡ i)) (sym (last_more r rs i)) (either (last_rate rs i) (last_of rs i))
+  where
+    either : (o : Option RateLine) → IfSome o (λ r. r.node ≡ i) → IfSome (option_or o (cond (is_of i r) (Some r) None)) (λ r. r.node ≡ i)
+    either (Some l) is = is
+    either None is = cond_both (is_of i r) (Some r) None (λ (o : Option RateLine). IfSome o (λ r. r.node ≡ i)) (λ here. eqb-true r.node i here) (λ other. tt)
 
 -- the last rate of a node begins last, if it has any
 abbrev Tops : Option RateLine → ℕ → List RateLine → Type 0
