@@ -39,7 +39,7 @@ use Rattle.scenario_text.proofs.LineRuns.{Step, step, Goes, goes_list, goes_appe
 use Rattle.scenario_text.proofs.CanonicalFacts.{Power, no_power, after_act, can_boot, power_after, Boots, mid, said_act, said_link, said_loss, said_cut, said_capture, Fits, HasBytes, FitsAct, IsNode, IsRateOf, IsHost, judge, IsSaid}
 use Rattle.scenario_text.proofs.RatesKept.{map_all, last_holds, last_of}
 
-small_id : (i : ℕ) → is_id i ≡ true → Small i
+pub small_id : (i : ℕ) → is_id i ≡ true → Small i
 small_id i is = let high = leb-true i 200 (and_parts (nat_le 1 i) (nat_le i 200) is).1 in omega (arith, high)
 
 -- the node above all others is the last
@@ -52,7 +52,7 @@ unknown_above : (n : NodeLine) (ns : List NodeLine) → AllByRecursion (λ m. m.
 unknown_above n [] all = refl
 unknown_above n (m ∷ ns) all = let lt = all.0 in or_from (m.node == n.node) (knows ns n.node) (ne_eqb m.node n.node (λ is. omega (arith, is, lt))) (unknown_above n ns all.1)
 
-abbrev with_nodes : ScenarioParts → List NodeLine → Scenario
+abbrev pub with_nodes : ScenarioParts → List NodeLine → Scenario
 with_nodes s ns = mid s ns [] [] no_lines [] no_power 0
 
 step_node : (s : ScenarioParts) → IsSaid s → (ns : List NodeLine) (n : NodeLine) (ms : List NodeLine) → ns ++ n ∷ ms ≡ s.nodes
@@ -84,7 +84,7 @@ above_last r rs i is all = by_last (last_rate rs i) (last_of rs i) (last_holds (
     by_last None of holds = refl
     by_last (Some q) of holds = lt-ltb q.from r.from (holds (of ∙ sym is))
 
-abbrev with_rates : ScenarioParts → List RateLine → Scenario
+abbrev pub with_rates : ScenarioParts → List RateLine → Scenario
 with_rates s rs = mid s s.nodes rs [] no_lines [] no_power (length rs)
 
 frame_bound : (p : Numbers) → IsProfile p → p.frame ≤ 320000000
@@ -122,7 +122,7 @@ not_among : (h : ℕ) (hs : List ℕ) → AllByRecursion (λ g. (g == h) ≡ fal
 not_among h [] all = refl
 not_among h (g ∷ hs) all = or_from (g == h) _ all.0 (not_among h hs all.1)
 
-abbrev with_hosts : ScenarioParts → List ℕ → Scenario
+abbrev pub with_hosts : ScenarioParts → List ℕ → Scenario
 with_hosts s hs = mid s s.nodes s.rates hs no_lines [] no_power (length s.rates)
 
 step_host : (s : ScenarioParts) → IsSaid s → (hs : List ℕ) (h : ℕ) (gs : List ℕ) (rank : ℕ) → rank ≡ length hs → hs ++ h ∷ gs ≡ s.hosts
@@ -149,13 +149,13 @@ goes_hosts s is hs (h ∷ gs) rank at split =
     (with_hosts s (hs ++ h ∷ []), (step_host s is hs h gs rank at split, goes_hosts s is (hs ++ h ∷ []) gs (rank + 1) (omega (arith, at, length_push hs h)) (append_assoc hs (h ∷ []) gs ∙ split)))
 
 -- links
-abbrev of_links : List LinkLine → Lines
+abbrev pub of_links : List LinkLine → Lines
 of_links ls = record { links = ls; losses = []; cuts = []; captures = [] }
 
-abbrev with_links : ScenarioParts → List LinkLine → Scenario
+abbrev pub with_links : ScenarioParts → List LinkLine → Scenario
 with_links s ls = mid s s.nodes s.rates s.hosts (of_links ls) [] no_power (length s.rates)
 
-small_ends : (u v : ℕ) → are_ends u v ≡ true → Small u × Small v
+pub small_ends : (u v : ℕ) → are_ends u v ≡ true → Small u × Small v
 small_ends u v ends =
     let both = and_parts (is_id u && is_id v) (not (u == v)) ends in
     let ids = and_parts (is_id u) (is_id v) both.0 in

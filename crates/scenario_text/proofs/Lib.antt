@@ -17,3 +17,5 @@ pub mod LinesSaid
 pub mod CanonicalFacts
 pub mod LineRuns
 pub mod CanonicalGoes
+pub mod ScriptGoes
+pub mod CanonicalSays
