@@ -1,5 +1,5 @@
 -- What is true of a scenario that some text says, part by part.
-use Rattle.std.proofs.Common.{◌≡◌, ℕ, ◌+◌, ◌*◌, ◌<◌, ◌≤◌, List, [], ◌∷◌, Bool, true, false, if◌then◌else◌, ◌&&◌, ◌||◌, ◌==◌, nat_lt, Some, length, replicate}
+use Rattle.std.proofs.Common.{◌≡◌, ℕ, ◌+◌, ◌*◌, ◌<◌, ◌≤◌, List, [], ◌∷◌, Bool, true, false, if◌then◌else◌, ◌&&◌, ◌||◌, ◌==◌, nat_lt, Option, Some, None, length, replicate}
 use Rattle.std.specs.Prelude.{slice_set}
 use Rattle.std.specs.Int.RustNames.{unsigned_abs}
 use Rattle.std.specs.List.{AllByRecursion, slice_index, slice_index_or}
@@ -124,9 +124,22 @@ pub record IsHost (ns : List NodeLine) (h : ℕ) : Type 0 where
   pub id : is_id h ≡ true
   pub known : knows ns h ≡ true
 
--- the draft by which the numbers and ids of lines are judged
+-- a draft by which the numbers and ids of lines are judged
+abbrev pub judged : Numbers → Option ℕ → List NodeLine → Scenario
+judged p frames ns = record {
+  network = record { sends = None; nodes = ns; rates = []; trace = no_lines; scripted = 0 };
+  first = false;
+  after_two = false;
+  profile = p;
+  frames = frames;
+  hosts = [];
+  script = [];
+  on = [];
+  boots = [];
+}
+
 abbrev pub judge : ScenarioParts → Scenario
-judge s = mid s s.nodes [] [] no_lines [] no_power 0
+judge s = judged s.profile (Some s.frames) s.nodes
 
 pub record IsSaid (s : ScenarioParts) : Type 0 where
   pub profile : IsProfile s.profile

@@ -19,3 +19,4 @@ pub mod LineRuns
 pub mod CanonicalGoes
 pub mod ScriptGoes
 pub mod CanonicalSays
+pub mod DraftFacts
