@@ -87,7 +87,7 @@ above_last r rs i is all = by_last (last_rate rs i) (last_of rs i) (last_holds (
 abbrev pub with_rates : ScenarioParts → List RateLine → Scenario
 with_rates s rs = mid s s.nodes rs [] no_lines [] no_power (length rs)
 
-frame_bound : (p : Numbers) → IsProfile p → p.frame ≤ 320000000
+pub frame_bound : (p : Numbers) → IsProfile p → p.frame ≤ 320000000
 frame_bound p (inl is) = subst (λ (q : Numbers). q.frame ≤ 320000000) (sym is) (omega arith)
 frame_bound p (inr is) = subst (λ (q : Numbers). q.frame ≤ 320000000) (sym is.0) (omega arith)
 

@@ -20,3 +20,4 @@ pub mod CanonicalGoes
 pub mod ScriptGoes
 pub mod CanonicalSays
 pub mod DraftFacts
+pub mod DraftKept

@@ -1,5 +1,5 @@
 use Rattle.scenario_text.proofs.CanonicalSays.{canonical_says}
-use Rattle.scenario_text.proofs.DraftFacts.{none_later, with_line_climbs, trace_more}
+use Rattle.scenario_text.proofs.DraftKept.{fine_first, line_fine}
 use Rattle.scenario_text.proofs.laws.canonical_texts_say_the_same.Goals as goal
 
 pub returns : goal.returns
