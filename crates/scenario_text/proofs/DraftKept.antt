@@ -49,7 +49,7 @@ allowed d l none =
     record { range = range.0; known = known.0; order = order.0; fresh = fresh.0; room = room.0 }
 
 -- the bytes of a payload
-abbrev IsRead : ScenarioLine → Type 0
+abbrev pub IsRead : ScenarioLine → Type 0
 IsRead (line.Put f i s (Some p)) = AllByRecursion (λ b. b < 256) p
 IsRead other = Unit {0}
 

@@ -21,3 +21,4 @@ pub mod ScriptGoes
 pub mod CanonicalSays
 pub mod DraftFacts
 pub mod DraftKept
+pub mod SaidParts

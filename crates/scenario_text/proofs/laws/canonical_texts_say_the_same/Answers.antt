@@ -1,5 +1,5 @@
 use Rattle.scenario_text.proofs.CanonicalSays.{canonical_says}
-use Rattle.scenario_text.proofs.DraftKept.{fine_first, line_fine}
+use Rattle.scenario_text.proofs.SaidParts.{fine_lines}
 use Rattle.scenario_text.proofs.laws.canonical_texts_say_the_same.Goals as goal
 
 pub returns : goal.returns
