@@ -21,4 +21,5 @@ pub mod ScriptGoes
 pub mod CanonicalSays
 pub mod DraftFacts
 pub mod DraftKept
+pub mod RatesInTurn
 pub mod SaidParts

@@ -14,7 +14,7 @@ use Rattle.scenario_text.specs.FloodDrafts.{Rises, Follows}
 use Rattle.scenario_text.specs.declared.lines.NodeLine.{NodeLine}
 use Rattle.scenario_text.specs.declared.lines.RateLine.{RateLine}
 
-abbrev is_of : ℕ → RateLine → Bool
+abbrev pub is_of : ℕ → RateLine → Bool
 is_of i r = r.node == i
 
 -- the last of the others, or the first
@@ -129,7 +129,7 @@ filter_other i j (r ∷ rs) differ =
     cond-false (is_of j r) (r ∷ filter (is_of j) fs) (filter (is_of j) fs) not ∙ filter_other i j rs differ)
     (λ other. filter_other i j rs differ)
 
-above_unknown : (n : NodeLine) (ns : List NodeLine) → AllByRecursion (λ m. n.node < m.node) ns → knows ns n.node ≡ false
+pub above_unknown : (n : NodeLine) (ns : List NodeLine) → AllByRecursion (λ m. n.node < m.node) ns → knows ns n.node ≡ false
 above_unknown n [] all = refl
 above_unknown n (m ∷ ns) all =
     let first = all.0 in

@@ -25,7 +25,10 @@ use Rattle.scenario_text.specs.declared.lines.RateLine.{RateLine}
 use Rattle.scenario_text.specs.declared.scenario_line.ScenarioLine.{ScenarioLine}
 use Rattle.scenario_text.specs.declared.scenario_line.ScenarioLine.TheVariants.{InNetwork, Profile, Contend, Frames, Host, On, Off, Stream, Leave, Put, Lose, Cut, Capture}
 use Rattle.scenario_text.proofs.FloodKeeps.{unless_keeps}
-use Rattle.scenario_text.proofs.DraftFacts.{IsFine}
+use Rattle.scenario_text.proofs.RatesKept.{map_all, all_by_node}
+use Rattle.scenario_text.proofs.RatesInTurn.{in_turn_again, no_more, turns_follow}
+use Rattle.scenario_text.proofs.CanonicalFacts.{IsNode, IsRateOf, IsHost, IsSaid}
+use Rattle.scenario_text.proofs.DraftFacts.{IsScript, IsTrace, IsFine}
 use Rattle.scenario_text.proofs.DraftKept.{IsRead, fine_first, line_fine}
 
 -- the bytes of a payload
@@ -99,3 +102,111 @@ lines_fine n d e (text ∷ texts) fine is = one (after_line d text) (read_fine d
 
 pub fine_lines : (d : Scenario) (texts : List (List ℕ)) → after_lines after_line 1 no_scenario texts ≡ Ok d → IsFine d
 fine_lines d texts is = lines_fine 1 no_scenario d texts fine_first is
+
+-- ids of known nodes
+known_id : (ns : List NodeLine) (v : ℕ) → AllByRecursion (λ n. is_id n.node ≡ true) ns → knows ns v ≡ true → is_id v ≡ true
+known_id [] v ids known = absurd (false≢true known)
+known_id (n ∷ ns) v ids known =
+    elim (or_cases (n.node == v) (knows ns v) known) [ inl here ↦ ap is_id (sym (eqb-true n.node v here)) ∙ ids.0 | inr later ↦ known_id ns v ids.1 later ]
+
+nodes_are : (ns : List NodeLine) → AllByRecursion (λ n. is_id n.node ≡ true) ns → AllByRecursion (λ n. n.offset ≤ 256000) ns → AllByRecursion IsNode ns
+nodes_are [] ids offsets = tt
+nodes_are (n ∷ ns) ids offsets = (record { id = ids.0; offset = offsets.0 }, nodes_are ns ids.1 offsets.1)
+
+rates_are : (p : Numbers) (ns : List NodeLine) (rs : List RateLine) → AllByRecursion (λ n. is_id n.node ≡ true) ns → AllByRecursion (IsRate ns) rs → AllByRecursion (λ r. r.from ≤ last_tick p) rs
+    → AllByRecursion (IsRateOf p ns) rs
+rates_are p ns [] ids rates ticks = tt
+rates_are p ns (r ∷ rs) ids rates ticks =
+    let first = rates.0 in
+    (record { id = known_id ns r.node ids first.known; known = first.known; early = ticks.0; small = first.small }, rates_are p ns rs ids rates.1 ticks.1)
+
+abbrev whole : Scenario → ℕ → ℕ → ScenarioParts
+whole d n f = record {
+  profile = d.profile;
+  frames = f;
+  sends = n;
+  nodes = d.network.nodes;
+  rates = rates_by_node d.network.nodes d.network.rates;
+  hosts = d.hosts;
+  trace = d.network.trace;
+  script = d.script;
+}
+
+whole_said : (d : Scenario) (n f : ℕ) → IsFine d → d.network.sends ≡ Some n → d.frames ≡ Some f → 2 ≤ length d.network.nodes → 1 ≤ length d.hosts → length d.network.nodes * f ≤ 16384 → IsSaid (whole d n f)
+whole_said d n f fine sends frames two host small =
+    let ns = d.network.nodes in
+    let rs = d.network.rates in
+    let net = fine.network in
+    let script : IsScript d.profile (Some f) ns d.script = subst (λ (o : Option ℕ). IsScript d.profile o ns d.script) frames fine.script in
+    let trace : IsTrace d.profile (Some f) ns d.network.trace = subst (λ (o : Option ℕ). IsTrace d.profile o ns d.network.trace) frames fine.trace in
+    let counted = fine.counted in
+    let few = fine.few in
+    record {
+      profile = fine.profile;
+      frames = subst (λ (o : Option ℕ). IfSome o (λ g. (1 ≤ g) × (g ≤ 4096))) frames fine.frames;
+      sends = subst (λ (o : Option ℕ). IfSome o (λ m. (1 ≤ m) × (m ≤ 4))) sends net.sends;
+      some_nodes = two;
+      few_nodes = net.few_nodes;
+      nodes = nodes_are ns fine.ids net.offsets;
+      rises = net.rises;
+      rates = all_by_node (IsRateOf d.profile ns) ns rs (rates_are d.profile ns rs fine.ids net.rates fine.ticks);
+      follows = turns_follow ns rs net.rises net.follows;
+      in_turn = in_turn_again ns rs net.rises;
+      some_hosts = host;
+      few_hosts = fine.hosts.few;
+      hosts = map_all (λ h. knows ns h ≡ true) (IsHost ns) d.hosts (λ h known. record { id = known_id ns h fine.ids known; known = known }) fine.hosts.known;
+      distinct = fine.hosts.distinct;
+      links = trace.links;
+      links_climb = trace.links_climb;
+      script = script.fits;
+      script_climbs = script.climbs;
+      boots = script.boots;
+      losses = trace.losses;
+      losses_climb = trace.losses_climb;
+      cuts = trace.cuts;
+      cuts_climb = trace.cuts_climb;
+      captures = trace.captures;
+      captures_climb = trace.captures_climb;
+      scripted = omega (arith, counted, few, no_more ns rs net.rises);
+      small = small;
+    }
+
+ok_unless : {A E : Type 0} (b : Bool) (r : Result A E) (k : E) (s : A) → (if b then Err k else r) ≡ Ok s → (b ≡ false) × (r ≡ Ok s)
+ok_unless true r k s is = cc
+ok_unless false r k s is = (refl, is)
+
+ok_where : (b : Bool) (x : ScenarioParts) (k : FaultKind) (s : ScenarioParts) → ◌≡◌ {A = Result ScenarioParts FaultKind} (if b then Ok x else Err k) (Ok s) → (b ≡ true) × (x ≡ s)
+ok_where true x k s is = (refl, subst (λ (r : Result ScenarioParts FaultKind). IfOk r (λ y. x ≡ y)) is refl)
+ok_where false x k s is = cc
+
+finished_said : (d : Scenario) (s : ScenarioParts) → IsFine d → finished d ≡ Ok s → IsSaid s
+finished_said d s fine is = by_parts d.network.sends d.frames refl refl is
+  where
+    by_parts : (o g : Option ℕ) → d.network.sends ≡ o → d.frames ≡ g → finished_parts d (network_parts d.network o) g ≡ Ok s → IsSaid s
+    by_parts None g sends frames is = cc
+    by_parts (Some n) None sends frames is = by_two (nat_le 2 (length d.network.nodes)) is
+      where
+        by_two : (b : Bool) → finished_parts d (if b then Some (record { sends = n; nodes = d.network.nodes; rates = rates_by_node d.network.nodes d.network.rates; trace = d.network.trace }) else None) None ≡ Ok s → IsSaid s
+        by_two true is = cc
+        by_two false is = cc
+    by_parts (Some n) (Some f) sends frames is = by_two (nat_le 2 (length d.network.nodes)) refl is
+      where
+        by_two : (b : Bool) → nat_le 2 (length d.network.nodes) ≡ b
+            → finished_parts d (if b then Some (record { sends = n; nodes = d.network.nodes; rates = rates_by_node d.network.nodes d.network.rates; trace = d.network.trace }) else None) (Some f) ≡ Ok s → IsSaid s
+        by_two false two is = cc
+        by_two true two is =
+            let hosts = ok_unless (length d.hosts == 0) (if_small (whole d n f)) Missing s is in
+            let small = ok_where (nat_le (length d.network.nodes * f) 16384) (whole d n f) TooBig s hosts.1 in
+            let some = eqb-false (length d.hosts) 0 hosts.0 in
+            subst IsSaid small.1 (whole_said d n f fine sends frames (leb-true 2 (length d.network.nodes) two) (omega (arith, some)) (leb-true (length d.network.nodes * f) 16384 small.0))
+
+pub said_is : (s : ScenarioParts) → IsScenario s → IsSaid s
+said_is s said = by_lines (after_lines after_line 1 no_scenario (lines said.0)) refl said.1
+  where
+    by_lines : (r : Result Scenario (ℕ × FaultKind)) → after_lines after_line 1 no_scenario (lines said.0) ≡ r → (r >>= (λ e. in_line (length (lines said.0) + 1) (finished e))) ≡ Ok s → IsSaid s
+    by_lines (Err k) read is = cc
+    by_lines (Ok d) read is = by_end (finished d) refl is
+      where
+        by_end : (q : Result ScenarioParts FaultKind) → finished d ≡ q → in_line (length (lines said.0) + 1) q ≡ Ok s → IsSaid s
+        by_end (Err k) done is = cc
+        by_end (Ok x) done is = finished_said d s (fine_lines d (lines said.0) read) (done ∙ ap Ok (subst (λ (q : Result ScenarioParts (ℕ × FaultKind)). IfOk q (λ y. x ≡ y)) is refl))
