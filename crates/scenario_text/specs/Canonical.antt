@@ -21,7 +21,7 @@ use Rattle.scenario_text.specs.declared.script.Act.TheVariants.{On, Off, Declare
 abbrev pub numbered : List ℕ → List ℕ → List (List ℕ)
 numbered letters numbers = letters ∷ map decimal numbers
 
--- 1 for the first profile; the second with contention slots is 2 as well
+-- the profile by the seconds of its frames: 4 in the first, 5 in the second, which may have contention slots
 abbrev pub profile_number : Numbers → ℕ
 profile_number p = if p.seconds == 4 then 1 else 2
 

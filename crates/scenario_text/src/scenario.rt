@@ -66,7 +66,7 @@ impl Scenario {
         }
     }
 
-    /// The scenario of these parts. They stand in their orders, their canonical text is accepted and says them, and the
+    /// The scenario of these parts, each list in its order. Their canonical text is accepted and says them, and the
     /// trace is sealed with the nodes.
     pub fn of_parts(
         profile: &Profile,

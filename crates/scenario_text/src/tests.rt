@@ -376,15 +376,22 @@ fn the_parts_of_a_scenario(rt: HostRuntime) -> Result<(), Fail> {
 const PRINTED: [(&str, &str); 3] = [
     (
         "sends 2\nnode 1 0\nnode 2 0\nhost 0 1\npair 1 2\nframes 6\non 0 1\non 0 2\n",
-        "profile 1\nframes 6\nsends 2\nnode 1 0\nnode 2 0\nhost 0 1\nlink 1 2\nlink 2 1\non 0 1\non 0 2\n",
+        "profile 1\nframes 6\nsends 2\nnode 1 0\nnode 2 0\nhost 0 1\nlink 1 2\nlink 2 1\non 0 1\n\
+         on 0 2\n",
     ),
     (
-        "sends 2\nnode 1 0\nnode 2 0\nhost 0 1\npair 1 2\nframes 12\non 0 1\non 0 2\nstream 0 2 0 4\nput 0 2 0 aa\n",
-        "profile 1\nframes 12\nsends 2\nnode 1 0\nnode 2 0\nhost 0 1\nlink 1 2\nlink 2 1\non 0 1\non 0 2\nstream 0 2 0 4\nput 0 2 0 aa\n",
+        "sends 2\nnode 1 0\nnode 2 0\nhost 0 1\npair 1 2\nframes 12\non 0 1\non 0 2\n\
+         stream 0 2 0 4\nput 0 2 0 aa\n",
+        "profile 1\nframes 12\nsends 2\nnode 1 0\nnode 2 0\nhost 0 1\nlink 1 2\nlink 2 1\non 0 1\n\
+         on 0 2\nstream 0 2 0 4\nput 0 2 0 aa\n",
     ),
     (
-        "profile 2\ncontend 3\nnode 9 7\nnode 4 0\nhost 0 9\nhost 1 4\nsends 1\npair 9 4\nrate 9 5 -20\nrate 4 6 0\nframes 3\ncapture 1 45 2 9 4\nlose 1 0 11 9 4\nlose 0 0 0 9 4\n\tput 0 9 3 - \r\ncut 2 1 0 4\nput 0 9 0 00Af\nleave 1 9 3\noff 2 4",
-        "profile 2\ncontend 3\nframes 3\nsends 1\nnode 4 0\nnode 9 7\nrate 4 6 0\nrate 9 5 -20\nhost 0 9\nhost 1 4\nlink 4 9\nlink 9 4\nput 0 9 3 -\nput 0 9 0 00af\nleave 1 9 3\noff 2 4\nlose 0 0 0 9 4\nlose 1 0 11 9 4\ncut 2 1 0 4\ncapture 1 45 2 9 4\n",
+        "profile 2\ncontend 3\nnode 9 7\nnode 4 0\nhost 0 9\nhost 1 4\nsends 1\npair 9 4\n\
+         rate 9 5 -20\nrate 4 6 0\nframes 3\ncapture 1 45 2 9 4\nlose 1 0 11 9 4\nlose 0 0 0 9 4\n\
+         \tput 0 9 3 - \r\ncut 2 1 0 4\nput 0 9 0 00Af\nleave 1 9 3\noff 2 4",
+        "profile 2\ncontend 3\nframes 3\nsends 1\nnode 4 0\nnode 9 7\nrate 4 6 0\nrate 9 5 -20\n\
+         host 0 9\nhost 1 4\nlink 4 9\nlink 9 4\nput 0 9 3 -\nput 0 9 0 00af\nleave 1 9 3\n\
+         off 2 4\nlose 0 0 0 9 4\nlose 1 0 11 9 4\ncut 2 1 0 4\ncapture 1 45 2 9 4\n",
     ),
 ];
 
