@@ -1,5 +1,5 @@
 -- The canonical text as it is written, list by list.
-use Rattle.std.proofs.Common.{◌≡◌, ℕ, ◌+◌, ◌<◌, List, [], ◌∷◌, ◌++◌, take, length, get_or, map, flat_map, codes, refl, sym, ◌∙◌, ap, arith}
+use Rattle.std.proofs.Common.{◌≡◌, ℕ, ◌+◌, ◌<◌, List, [], ◌∷◌, ◌++◌, take, length, get_or, map, flat_map, codes, sym, ◌∙◌, ap, arith}
 use Rattle.std.proofs.lemmas.Grind.{flat_map-append}
 use Rattle.std.proofs.lemmas.List.{take_more, append-nil, append_assoc, length-take-le}
 use Rattle.std.proofs.lemmas.List.Folds.{flat_map-map}

@@ -1,6 +1,6 @@
 -- The canonical text of a scenario, as lines of words: the lines are in one order, each number and payload has one spelling,
 -- one space stands between words, and a line feed behind each line.
-use Rattle.std.specs.Prelude.{ℕ, ◌+◌, List, [], ◌∷◌, ◌++◌, map, ◌==◌, if◌then◌else◌, codes, decimal, flat_map}
+use Rattle.std.specs.Prelude.{◌≡◌, ℕ, ◌+◌, List, [], ◌∷◌, ◌++◌, map, ◌==◌, if◌then◌else◌, codes, decimal, flat_map, Ok}
 use Rattle.std.specs.Fmt.{signed_decimal}
 use Rattle.std.specs.List.{join_with_byte}
 use Rattle.lwb_base.specs.Profile.{Numbers}
@@ -9,6 +9,7 @@ use Rattle.link_trace.specs.declared.lines.LoseLine.{LoseLine}
 use Rattle.link_trace.specs.declared.lines.CutLine.{CutLine}
 use Rattle.link_trace.specs.declared.lines.CaptureLine.{CaptureLine}
 use Rattle.scenario_text.specs.Payloads.{payload_word}
+use Rattle.scenario_text.specs.ScenarioGrammar.{scenario_of}
 use Rattle.scenario_text.specs.ScenarioParts.{ScenarioParts}
 use Rattle.scenario_text.specs.declared.lines.NodeLine.{NodeLine}
 use Rattle.scenario_text.specs.declared.lines.RateLine.{RateLine}
@@ -20,7 +21,7 @@ use Rattle.scenario_text.specs.declared.script.Act.TheVariants.{On, Off, Declare
 abbrev pub numbered : List ℕ → List ℕ → List (List ℕ)
 numbered letters numbers = letters ∷ map decimal numbers
 
--- 1 for the first profile; the second with contention slots is 2 as well
+-- the profile by the seconds of its frames: 4 in the first, 5 in the second, which may have contention slots
 abbrev pub profile_number : Numbers → ℕ
 profile_number p = if p.seconds == 4 then 1 else 2
 
@@ -78,3 +79,7 @@ render lines = flat_map line_text lines
 
 abbrev pub canonical : ScenarioParts → List ℕ
 canonical s = render (canonical_lines s)
+
+-- the canonical text has no refusal, and says these parts: then they stand in their orders
+abbrev pub IsSaid : ScenarioParts → Type 0
+IsSaid s = scenario_of (canonical s) ≡ Ok s

@@ -7,6 +7,6 @@ pub mod FloodGrammar
 pub mod FloodDrafts
 pub mod Payloads
 pub mod ScenarioParts
-pub mod Canonical
 pub mod ScenarioGrammar
+pub mod Canonical
 pub mod ScenarioDrafts

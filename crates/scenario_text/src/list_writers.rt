@@ -20,6 +20,7 @@ pub fn write_hosts(text: &mut String, hosts: &[NodeId]) -> Result<(), AllocError
     Ok(())
 }
 
+/// Writes the `node` lines.
 pub fn write_nodes(text: &mut String, lines: &[NodeLine]) -> Result<(), AllocError>
     ensures { OnOk result (string_bytes text.new ≡ string_bytes text.old ++ flat_map (λ l. line_text (node_words l)) lines.now) }
 {
@@ -29,6 +30,7 @@ pub fn write_nodes(text: &mut String, lines: &[NodeLine]) -> Result<(), AllocErr
     Ok(())
 }
 
+/// Writes the `rate` lines.
 pub fn write_rates(text: &mut String, lines: &[RateLine]) -> Result<(), AllocError>
     ensures { OnOk result (string_bytes text.new ≡ string_bytes text.old ++ flat_map (λ l. line_text (rate_words l)) lines.now) }
 {
@@ -38,6 +40,7 @@ pub fn write_rates(text: &mut String, lines: &[RateLine]) -> Result<(), AllocErr
     Ok(())
 }
 
+/// Writes the `link` lines.
 pub fn write_links(text: &mut String, lines: &[LinkLine]) -> Result<(), AllocError>
     ensures { OnOk result (string_bytes text.new ≡ string_bytes text.old ++ flat_map (λ l. line_text (link_words l)) lines.now) }
 {
@@ -47,6 +50,7 @@ pub fn write_links(text: &mut String, lines: &[LinkLine]) -> Result<(), AllocErr
     Ok(())
 }
 
+/// Writes the lines of the script.
 pub fn write_script(text: &mut String, lines: &[ScriptLine]) -> Result<(), AllocError>
     ensures { OnOk result (string_bytes text.new ≡ string_bytes text.old ++ flat_map (λ l. line_text (script_words l)) lines.now) }
 {
@@ -56,6 +60,7 @@ pub fn write_script(text: &mut String, lines: &[ScriptLine]) -> Result<(), Alloc
     Ok(())
 }
 
+/// Writes the `lose` lines.
 pub fn write_losses(text: &mut String, lines: &[LoseLine]) -> Result<(), AllocError>
     ensures { OnOk result (string_bytes text.new ≡ string_bytes text.old ++ flat_map (λ l. line_text (loss_words l)) lines.now) }
 {
@@ -65,6 +70,7 @@ pub fn write_losses(text: &mut String, lines: &[LoseLine]) -> Result<(), AllocEr
     Ok(())
 }
 
+/// Writes the `cut` lines.
 pub fn write_cuts(text: &mut String, lines: &[CutLine]) -> Result<(), AllocError>
     ensures { OnOk result (string_bytes text.new ≡ string_bytes text.old ++ flat_map (λ l. line_text (cut_words l)) lines.now) }
 {
@@ -74,6 +80,7 @@ pub fn write_cuts(text: &mut String, lines: &[CutLine]) -> Result<(), AllocError
     Ok(())
 }
 
+/// Writes the `capture` lines.
 pub fn write_captures(text: &mut String, lines: &[CaptureLine]) -> Result<(), AllocError>
     ensures { OnOk result (string_bytes text.new ≡ string_bytes text.old ++ flat_map (λ l. line_text (capture_words l)) lines.now) }
 {

@@ -1,4 +1,4 @@
-use Rattle.std.proofs.Common.{rules, ◌≡◌, ◌++◌, string_bytes, codes, take, [], ◌∷◌, ◌∙◌, ap, List, ℕ, arith, get_or, ◌<◌, length, sym}
+use Rattle.std.proofs.Common.{rules, ◌≡◌, ◌++◌, string_bytes, codes, take, [], ◌∷◌, ◌∙◌, ap, List, ℕ, get_or, ◌<◌, length, sym}
 use Rattle.std.proofs.lemmas.List.{append_assoc}
 use Rattle.scenario_text.specs.Canonical.{line_text, render, host_lines, numbered}
 use Rattle.scenario_text.proofs.CanonicalParts.{hosts_more}
