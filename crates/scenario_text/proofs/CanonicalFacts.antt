@@ -141,7 +141,7 @@ judged p frames ns = record {
 abbrev pub judge : ScenarioParts → Scenario
 judge s = judged s.profile (Some s.frames) s.nodes
 
-pub record IsSaid (s : ScenarioParts) : Type 0 where
+pub record KeepsRules (s : ScenarioParts) : Type 0 where
   pub profile : IsProfile s.profile
   pub frames : (1 ≤ s.frames) × (s.frames ≤ 4096)
   pub sends : (1 ≤ s.sends) × (s.sends ≤ 4)

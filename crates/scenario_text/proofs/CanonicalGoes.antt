@@ -36,7 +36,7 @@ use Rattle.scenario_text.proofs.NodeIds.{with_node-put, put}
 use Rattle.scenario_text.proofs.NumbersBack.{ReadsSigned, signed_back, ReadsPayload, payload_back}
 use Rattle.scenario_text.proofs.LinesSaid.{Says, Small, says_profile, says_contend, says_frames, says_sends, says_node, says_rate, says_host, says_link, says_on, says_off, says_stream, says_leave, says_put, says_lose, says_cut, says_capture}
 use Rattle.scenario_text.proofs.LineRuns.{Step, step, Goes, goes_list, goes_append, middle, front_all, climbs_before, climbs_front, with_line_last, none_among}
-use Rattle.scenario_text.proofs.CanonicalFacts.{Power, no_power, after_act, can_boot, power_after, Boots, mid, said_act, said_link, said_loss, said_cut, said_capture, Fits, HasBytes, FitsAct, IsNode, IsRateOf, IsHost, judge, IsSaid}
+use Rattle.scenario_text.proofs.CanonicalFacts.{Power, no_power, after_act, can_boot, power_after, Boots, mid, said_act, said_link, said_loss, said_cut, said_capture, Fits, HasBytes, FitsAct, IsNode, IsRateOf, IsHost, judge, KeepsRules}
 use Rattle.scenario_text.proofs.RatesKept.{map_all, last_holds, last_of}
 
 pub small_id : (i : ℕ) → is_id i ≡ true → Small i
@@ -55,7 +55,7 @@ unknown_above n (m ∷ ns) all = let lt = all.0 in or_from (m.node == n.node) (k
 abbrev pub with_nodes : ScenarioParts → List NodeLine → Scenario
 with_nodes s ns = mid s ns [] [] no_lines [] no_power 0
 
-step_node : (s : ScenarioParts) → IsSaid s → (ns : List NodeLine) (n : NodeLine) (ms : List NodeLine) → ns ++ n ∷ ms ≡ s.nodes
+step_node : (s : ScenarioParts) → KeepsRules s → (ns : List NodeLine) (n : NodeLine) (ms : List NodeLine) → ns ++ n ∷ ms ≡ s.nodes
     → Step (with_nodes s ns) (node_words n) (with_nodes s (ns ++ n ∷ []))
 step_node s is ns n ms split =
     let node = middle IsNode ns n ms (subst (AllByRecursion IsNode) (sym split) is.nodes) in
@@ -91,7 +91,7 @@ pub frame_bound : (p : Numbers) → IsProfile p → p.frame ≤ 320000000
 frame_bound p (inl is) = subst (λ (q : Numbers). q.frame ≤ 320000000) (sym is) (omega arith)
 frame_bound p (inr is) = subst (λ (q : Numbers). q.frame ≤ 320000000) (sym is.0) (omega arith)
 
-step_rate : (s : ScenarioParts) → IsSaid s → (rs : List RateLine) (r : RateLine) (qs : List RateLine) → rs ++ r ∷ qs ≡ s.rates
+step_rate : (s : ScenarioParts) → KeepsRules s → (rs : List RateLine) (r : RateLine) (qs : List RateLine) → rs ++ r ∷ qs ≡ s.rates
     → Step (with_rates s rs) (rate_words r) (with_rates s (rs ++ r ∷ []))
 step_rate s is rs r qs split =
     let rate = middle (IsRateOf s.profile s.nodes) rs r qs (subst (AllByRecursion (IsRateOf s.profile s.nodes)) (sym split) is.rates) in
@@ -125,7 +125,7 @@ not_among h (g ∷ hs) all = or_from (g == h) _ all.0 (not_among h hs all.1)
 abbrev pub with_hosts : ScenarioParts → List ℕ → Scenario
 with_hosts s hs = mid s s.nodes s.rates hs no_lines [] no_power (length s.rates)
 
-step_host : (s : ScenarioParts) → IsSaid s → (hs : List ℕ) (h : ℕ) (gs : List ℕ) (rank : ℕ) → rank ≡ length hs → hs ++ h ∷ gs ≡ s.hosts
+step_host : (s : ScenarioParts) → KeepsRules s → (hs : List ℕ) (h : ℕ) (gs : List ℕ) (rank : ℕ) → rank ≡ length hs → hs ++ h ∷ gs ≡ s.hosts
     → Step (with_hosts s hs) (numbered (codes "host") (rank ∷ h ∷ [])) (with_hosts s (hs ++ h ∷ []))
 step_host s is hs h gs rank at split =
     let host = middle (IsHost s.nodes) hs h gs (subst (AllByRecursion (IsHost s.nodes)) (sym split) is.hosts) in
@@ -143,7 +143,7 @@ step_host s is hs h gs rank at split =
     })
     refl
 
-pub goes_hosts : (s : ScenarioParts) → IsSaid s → (hs gs : List ℕ) (rank : ℕ) → rank ≡ length hs → hs ++ gs ≡ s.hosts → Goes (with_hosts s hs) (host_lines rank gs) (with_hosts s s.hosts)
+pub goes_hosts : (s : ScenarioParts) → KeepsRules s → (hs gs : List ℕ) (rank : ℕ) → rank ≡ length hs → hs ++ gs ≡ s.hosts → Goes (with_hosts s hs) (host_lines rank gs) (with_hosts s s.hosts)
 goes_hosts s is hs [] rank at split = ap (with_hosts s) (sym (append-nil hs) ∙ split)
 goes_hosts s is hs (h ∷ gs) rank at split =
     (with_hosts s (hs ++ h ∷ []), (step_host s is hs h gs rank at split, goes_hosts s is (hs ++ h ∷ []) gs (rank + 1) (omega (arith, at, length_push hs h)) (append_assoc hs (h ∷ []) gs ∙ split)))
@@ -161,7 +161,7 @@ small_ends u v ends =
     let ids = and_parts (is_id u) (is_id v) both.0 in
     (small_id u ids.0, small_id v ids.1)
 
-step_link : (s : ScenarioParts) → IsSaid s → (ls : List LinkLine) (l : LinkLine) (ms : List LinkLine) → ls ++ l ∷ ms ≡ s.trace.links
+step_link : (s : ScenarioParts) → KeepsRules s → (ls : List LinkLine) (l : LinkLine) (ms : List LinkLine) → ls ++ l ∷ ms ≡ s.trace.links
     → Step (with_links s ls) (link_words l) (with_links s (ls ++ l ∷ []))
 step_link s is ls l ms split =
     let fits = middle (λ (x : LinkLine). Fits (judge s) (said_link x)) ls l ms (subst (AllByRecursion (λ (x : LinkLine). Fits (judge s) (said_link x))) (sym split) is.links) in
@@ -172,11 +172,11 @@ step_link s is ls l ms split =
     (record { range = fits.range; known = fits.known; order = refl; fresh = none_among by_link (is_link l.from l.to) l ls (tells_link l.from l.to) before; room = refl })
     (ap (with_links s) (with_line_last by_link l ls before))
 
-pub goes_nodes : (s : ScenarioParts) → IsSaid s → Goes (with_nodes s []) (map node_words s.nodes) (with_nodes s s.nodes)
+pub goes_nodes : (s : ScenarioParts) → KeepsRules s → Goes (with_nodes s []) (map node_words s.nodes) (with_nodes s s.nodes)
 goes_nodes s is = goes_list node_words (with_nodes s) s.nodes (step_node s is) [] s.nodes refl
 
-pub goes_rates : (s : ScenarioParts) → IsSaid s → Goes (with_rates s []) (map rate_words s.rates) (with_rates s s.rates)
+pub goes_rates : (s : ScenarioParts) → KeepsRules s → Goes (with_rates s []) (map rate_words s.rates) (with_rates s s.rates)
 goes_rates s is = goes_list rate_words (with_rates s) s.rates (step_rate s is) [] s.rates refl
 
-pub goes_links : (s : ScenarioParts) → IsSaid s → Goes (with_links s []) (map link_words s.trace.links) (with_links s s.trace.links)
+pub goes_links : (s : ScenarioParts) → KeepsRules s → Goes (with_links s []) (map link_words s.trace.links) (with_links s s.trace.links)
 goes_links s is = goes_list link_words (with_links s) s.trace.links (step_link s is) [] s.trace.links refl

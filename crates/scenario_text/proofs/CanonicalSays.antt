@@ -36,7 +36,7 @@ use Rattle.scenario_text.proofs.NodeIds.{with_node-put, put}
 use Rattle.scenario_text.proofs.NumbersBack.{ReadsSigned, signed_back, ReadsPayload, payload_back}
 use Rattle.scenario_text.proofs.LinesSaid.{Says, Small, says_profile, says_contend, says_frames, says_sends, says_node, says_rate, says_host, says_link, says_on, says_off, says_stream, says_leave, says_put, says_lose, says_cut, says_capture}
 use Rattle.scenario_text.proofs.LineRuns.{Step, step, Allowed, goes_words, goes_after, Goes, goes_list, goes_append, middle, front_all, climbs_before, climbs_front, with_line_last, none_among}
-use Rattle.scenario_text.proofs.CanonicalFacts.{Power, no_power, after_act, can_boot, power_after, Boots, mid, said_act, said_link, said_loss, said_cut, said_capture, Fits, HasBytes, FitsAct, IsNode, IsRateOf, IsHost, judge, IsSaid}
+use Rattle.scenario_text.proofs.CanonicalFacts.{Power, no_power, after_act, can_boot, power_after, Boots, mid, said_act, said_link, said_loss, said_cut, said_capture, Fits, HasBytes, FitsAct, IsNode, IsRateOf, IsHost, judge, KeepsRules}
 use Rattle.scenario_text.proofs.RatesKept.{map_all, last_holds, last_of}
 use Rattle.std.specs.List.{join_with_byte}
 use Rattle.std.specs.Str.Lines.{lines}
@@ -83,7 +83,7 @@ goes_top : (p : Numbers) → IsProfile p → (b : Bool) × Goes no_scenario (top
 goes_top p (inl is) = subst (λ (q : Numbers). (b : Bool) × Goes no_scenario (top_lines q) (after_top q b)) (sym is) goes_one
 goes_top p (inr is) = subst (λ (q : Numbers). (b : Bool) × Goes no_scenario (top_lines q) (after_top q b)) (sym is.0) (goes_contended p.contend is.1)
 
-goes_first : (s : ScenarioParts) (b : Bool) → IsSaid s
+goes_first : (s : ScenarioParts) (b : Bool) → KeepsRules s
     → Goes (after_top s.profile b) (numbered (codes "frames") (s.frames ∷ []) ∷ numbered (codes "sends") (s.sends ∷ []) ∷ map node_words s.nodes) (with_nodes s s.nodes)
 goes_first s b is =
     let framed : Scenario = record (after_top s.profile false) { frames = Some s.frames } in
@@ -106,7 +106,7 @@ goes_from d e g ls is goes = subst (λ (x : Scenario). Goes x ls g) (sym is) goe
 counted_as : (s : ScenarioParts) (t : Lines) (ls : List ScriptLine) (w : Power) (m n : ℕ) → m ≡ n → mid s s.nodes s.rates s.hosts t ls w m ≡ mid s s.nodes s.rates s.hosts t ls w n
 counted_as s t ls w m n is = ap (mid s s.nodes s.rates s.hosts t ls w) is
 
-goes_all : (s : ScenarioParts) → IsSaid s → Goes no_scenario (canonical_lines s) (with_captures s s.trace.captures)
+goes_all : (s : ScenarioParts) → KeepsRules s → Goes no_scenario (canonical_lines s) (with_captures s s.trace.captures)
 unfolding canonical_lines
 goes_all s is =
     let top = goes_top s.profile is.profile in
@@ -138,7 +138,7 @@ goes_all s is =
     (goes_from (with_cuts s s.trace.cuts) (with_captures s []) (with_captures s s.trace.captures) (map capture_words s.trace.captures)
     (counted_as s (record { links = s.trace.links; losses = s.trace.losses; cuts = s.trace.cuts; captures = [] }) s.script w (r + c + l + u) (r + c + l + u + 0) (omega arith)) (goes_captures s is))
 
-ends : (s : ScenarioParts) → IsSaid s → finished (with_captures s s.trace.captures) ≡ Ok s
+ends : (s : ScenarioParts) → KeepsRules s → finished (with_captures s s.trace.captures) ≡ Ok s
 ends s is =
     let d : Scenario = with_captures s s.trace.captures in
     let p : Parts = record { sends = s.sends; nodes = s.nodes; rates = rates_by_node s.nodes s.rates; trace = s.trace } in
@@ -150,7 +150,7 @@ ends s is =
     ∙ cond-true (nat_le (length s.nodes * s.frames) 16384) (Ok whole) (Err TooBig) (le-leb (length s.nodes * s.frames) 16384 is.small)
     ∙ ap (λ (rs : List RateLine). Ok (record s { rates = rs })) is.in_turn
 
-pub canonical_says : (s : ScenarioParts) → IsSaid s → scenario_of (canonical s) ≡ Ok s
+pub canonical_says : (s : ScenarioParts) → KeepsRules s → scenario_of (canonical s) ≡ Ok s
 canonical_says s is =
     let goes = goes_all s is in
     let text : List ℕ = canonical s in

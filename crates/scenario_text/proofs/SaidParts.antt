@@ -18,6 +18,7 @@ use Rattle.scenario_text.specs.Network.{Drafted, Parts, is_id, network_parts, ne
 use Rattle.scenario_text.specs.Payloads.{is_payload, payload, payload_bytes, hex_bytes, hex_value}
 use Rattle.scenario_text.specs.ScenarioGrammar.{Scenario, no_scenario, last_tick, line_fault, with_scenario_line, after_words, after_line, scenario_line, scenario_numbers, begins, finished, finished_parts, if_small, scenario_of, IsScenario}
 use Rattle.scenario_text.specs.ScenarioParts.{ScenarioParts}
+use Rattle.scenario_text.specs.Canonical.{canonical}
 use Rattle.scenario_text.specs.declared.fault.FaultKind.{FaultKind}
 use Rattle.scenario_text.specs.declared.fault.FaultKind.TheVariants.{NotUtf8, BadNumber, Missing, TooBig}
 use Rattle.scenario_text.specs.declared.lines.NodeLine.{NodeLine}
@@ -27,8 +28,9 @@ use Rattle.scenario_text.specs.declared.scenario_line.ScenarioLine.TheVariants.{
 use Rattle.scenario_text.proofs.FloodKeeps.{unless_keeps}
 use Rattle.scenario_text.proofs.RatesKept.{map_all, all_by_node}
 use Rattle.scenario_text.proofs.RatesInTurn.{in_turn_again, no_more, turns_follow}
-use Rattle.scenario_text.proofs.CanonicalFacts.{IsNode, IsRateOf, IsHost, IsSaid}
+use Rattle.scenario_text.proofs.CanonicalFacts.{IsNode, IsRateOf, IsHost, KeepsRules}
 use Rattle.scenario_text.proofs.DraftFacts.{IsScript, IsTrace, IsFine}
+use Rattle.scenario_text.proofs.CanonicalSays.{canonical_says}
 use Rattle.scenario_text.proofs.DraftKept.{IsRead, fine_first, line_fine}
 
 -- the bytes of a payload
@@ -132,7 +134,7 @@ whole d n f = record {
   script = d.script;
 }
 
-whole_said : (d : Scenario) (n f : ℕ) → IsFine d → d.network.sends ≡ Some n → d.frames ≡ Some f → 2 ≤ length d.network.nodes → 1 ≤ length d.hosts → length d.network.nodes * f ≤ 16384 → IsSaid (whole d n f)
+whole_said : (d : Scenario) (n f : ℕ) → IsFine d → d.network.sends ≡ Some n → d.frames ≡ Some f → 2 ≤ length d.network.nodes → 1 ≤ length d.hosts → length d.network.nodes * f ≤ 16384 → KeepsRules (whole d n f)
 whole_said d n f fine sends frames two host small =
     let ns = d.network.nodes in
     let rs = d.network.rates in
@@ -179,34 +181,38 @@ ok_where : (b : Bool) (x : ScenarioParts) (k : FaultKind) (s : ScenarioParts) �
 ok_where true x k s is = (refl, subst (λ (r : Result ScenarioParts FaultKind). IfOk r (λ y. x ≡ y)) is refl)
 ok_where false x k s is = cc
 
-finished_said : (d : Scenario) (s : ScenarioParts) → IsFine d → finished d ≡ Ok s → IsSaid s
+finished_said : (d : Scenario) (s : ScenarioParts) → IsFine d → finished d ≡ Ok s → KeepsRules s
 finished_said d s fine is = by_parts d.network.sends d.frames refl refl is
   where
-    by_parts : (o g : Option ℕ) → d.network.sends ≡ o → d.frames ≡ g → finished_parts d (network_parts d.network o) g ≡ Ok s → IsSaid s
+    by_parts : (o g : Option ℕ) → d.network.sends ≡ o → d.frames ≡ g → finished_parts d (network_parts d.network o) g ≡ Ok s → KeepsRules s
     by_parts None g sends frames is = cc
     by_parts (Some n) None sends frames is = by_two (nat_le 2 (length d.network.nodes)) is
       where
-        by_two : (b : Bool) → finished_parts d (if b then Some (record { sends = n; nodes = d.network.nodes; rates = rates_by_node d.network.nodes d.network.rates; trace = d.network.trace }) else None) None ≡ Ok s → IsSaid s
+        by_two : (b : Bool) → finished_parts d (if b then Some (record { sends = n; nodes = d.network.nodes; rates = rates_by_node d.network.nodes d.network.rates; trace = d.network.trace }) else None) None ≡ Ok s → KeepsRules s
         by_two true is = cc
         by_two false is = cc
     by_parts (Some n) (Some f) sends frames is = by_two (nat_le 2 (length d.network.nodes)) refl is
       where
         by_two : (b : Bool) → nat_le 2 (length d.network.nodes) ≡ b
-            → finished_parts d (if b then Some (record { sends = n; nodes = d.network.nodes; rates = rates_by_node d.network.nodes d.network.rates; trace = d.network.trace }) else None) (Some f) ≡ Ok s → IsSaid s
+            → finished_parts d (if b then Some (record { sends = n; nodes = d.network.nodes; rates = rates_by_node d.network.nodes d.network.rates; trace = d.network.trace }) else None) (Some f) ≡ Ok s → KeepsRules s
         by_two false two is = cc
         by_two true two is =
             let hosts = ok_unless (length d.hosts == 0) (if_small (whole d n f)) Missing s is in
             let small = ok_where (nat_le (length d.network.nodes * f) 16384) (whole d n f) TooBig s hosts.1 in
             let some = eqb-false (length d.hosts) 0 hosts.0 in
-            subst IsSaid small.1 (whole_said d n f fine sends frames (leb-true 2 (length d.network.nodes) two) (omega (arith, some)) (leb-true (length d.network.nodes * f) 16384 small.0))
+            subst KeepsRules small.1 (whole_said d n f fine sends frames (leb-true 2 (length d.network.nodes) two) (omega (arith, some)) (leb-true (length d.network.nodes * f) 16384 small.0))
 
-pub said_is : (s : ScenarioParts) → IsScenario s → IsSaid s
+pub said_is : (s : ScenarioParts) → IsScenario s → KeepsRules s
 said_is s said = by_lines (after_lines after_line 1 no_scenario (lines said.0)) refl said.1
   where
-    by_lines : (r : Result Scenario (ℕ × FaultKind)) → after_lines after_line 1 no_scenario (lines said.0) ≡ r → (r >>= (λ e. in_line (length (lines said.0) + 1) (finished e))) ≡ Ok s → IsSaid s
+    by_lines : (r : Result Scenario (ℕ × FaultKind)) → after_lines after_line 1 no_scenario (lines said.0) ≡ r → (r >>= (λ e. in_line (length (lines said.0) + 1) (finished e))) ≡ Ok s → KeepsRules s
     by_lines (Err k) read is = cc
     by_lines (Ok d) read is = by_end (finished d) refl is
       where
-        by_end : (q : Result ScenarioParts FaultKind) → finished d ≡ q → in_line (length (lines said.0) + 1) q ≡ Ok s → IsSaid s
+        by_end : (q : Result ScenarioParts FaultKind) → finished d ≡ q → in_line (length (lines said.0) + 1) q ≡ Ok s → KeepsRules s
         by_end (Err k) done is = cc
         by_end (Ok x) done is = finished_said d s (fine_lines d (lines said.0) read) (done ∙ ap Ok (subst (λ (q : Result ScenarioParts (ℕ × FaultKind)). IfOk q (λ y. x ≡ y)) is refl))
+
+-- a text that is the canonical one
+pub says_again : (s : ScenarioParts) (text : List ℕ) → text ≡ canonical s → IsScenario s → scenario_of text ≡ Ok s
+says_again s text is said = ap scenario_of is ∙ canonical_says s (said_is s said)

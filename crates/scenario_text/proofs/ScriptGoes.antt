@@ -36,11 +36,11 @@ use Rattle.scenario_text.proofs.NodeIds.{with_node-put, put}
 use Rattle.scenario_text.proofs.NumbersBack.{ReadsSigned, signed_back, ReadsPayload, payload_back}
 use Rattle.scenario_text.proofs.LinesSaid.{Says, Small, says_profile, says_contend, says_frames, says_sends, says_node, says_rate, says_host, says_link, says_on, says_off, says_stream, says_leave, says_put, says_lose, says_cut, says_capture}
 use Rattle.scenario_text.proofs.LineRuns.{Step, step, Allowed, Goes, goes_list, goes_append, middle, front_all, climbs_before, climbs_front, with_line_last, none_among}
-use Rattle.scenario_text.proofs.CanonicalFacts.{Power, no_power, after_act, can_boot, power_after, Boots, mid, said_act, said_link, said_loss, said_cut, said_capture, Fits, HasBytes, FitsAct, IsNode, IsRateOf, IsHost, judge, IsSaid}
+use Rattle.scenario_text.proofs.CanonicalFacts.{Power, no_power, after_act, can_boot, power_after, Boots, mid, said_act, said_link, said_loss, said_cut, said_capture, Fits, HasBytes, FitsAct, IsNode, IsRateOf, IsHost, judge, KeepsRules}
 use Rattle.scenario_text.proofs.RatesKept.{map_all, last_holds, last_of}
 use Rattle.scenario_text.proofs.CanonicalGoes.{small_id, small_ends, of_links}
 
-frame_small : (s : ScenarioParts) (f : ℕ) → IsSaid s → nat_lt f s.frames ≡ true → Small f
+frame_small : (s : ScenarioParts) (f : ℕ) → KeepsRules s → nat_lt f s.frames ≡ true → Small f
 frame_small s f is below = let lt = ltb-true f s.frames below in let few = is.frames.1 in omega (arith, lt, few)
 
 -- the script
@@ -85,7 +85,7 @@ payload_bound : (p : Numbers) → IsProfile p → p.payload_max ≤ 96
 payload_bound p (inl is) = subst (λ (q : Numbers). q.payload_max ≤ 96) (sym is) (omega arith)
 payload_bound p (inr is) = subst (λ (q : Numbers). q.payload_max ≤ 96) (sym is.0) (omega arith)
 
-act_says : (s : ScenarioParts) (f i : ℕ) (a : Act) → IsSaid s → Fits (judge s) (said_act f i a) → HasBytes a → Says (act_words f i a) (said_act f i a)
+act_says : (s : ScenarioParts) (f i : ℕ) (a : Act) → KeepsRules s → Fits (judge s) (said_act f i a) → HasBytes a → Says (act_words f i a) (said_act f i a)
 act_says s f i On is fits bytes = let p = and_parts (nat_lt f s.frames) (is_id i) fits.range in says_on f i (frame_small s f is p.0) (small_id i p.1)
 act_says s f i Off is fits bytes = let p = and_parts (nat_lt f s.frames) (is_id i) fits.range in says_off f i (frame_small s f is p.0) (small_id i p.1)
 act_says s f i (Declare x y) is fits bytes =
@@ -113,7 +113,7 @@ act_says s f i (Put x b) is fits bytes =
 abbrev pub with_script : ScenarioParts → List ScriptLine → Scenario
 with_script s ls = mid s s.nodes s.rates s.hosts (of_links s.trace.links) ls (power_after no_power ls) (length s.rates + length ls)
 
-step_script : (s : ScenarioParts) → IsSaid s → (ls : List ScriptLine) (l : ScriptLine) (ms : List ScriptLine) → ls ++ l ∷ ms ≡ s.script
+step_script : (s : ScenarioParts) → KeepsRules s → (ls : List ScriptLine) (l : ScriptLine) (ms : List ScriptLine) → ls ++ l ∷ ms ≡ s.script
     → Step (with_script s ls) (script_words l) (with_script s (ls ++ l ∷ []))
 step_script s is ls l ms split =
     let at = middle (FitsAct (judge s)) ls l ms (subst (AllByRecursion (FitsAct (judge s))) (sym split) is.script) in
@@ -132,14 +132,14 @@ step_script s is ls l ms split =
     ∙ ap (λ (x : Power). mid s s.nodes s.rates s.hosts t (ls ++ l ∷ []) x (n + 1)) (sym (power_more no_power ls l))
     ∙ ap (λ (m : ℕ). mid s s.nodes s.rates s.hosts t (ls ++ l ∷ []) (power_after no_power (ls ++ l ∷ [])) m) count)
 
-pub goes_script : (s : ScenarioParts) → IsSaid s → Goes (with_script s []) (map script_words s.script) (with_script s s.script)
+pub goes_script : (s : ScenarioParts) → KeepsRules s → Goes (with_script s []) (map script_words s.script) (with_script s s.script)
 goes_script s is = goes_list script_words (with_script s) s.script (step_script s is) [] s.script refl
 
 -- losses
 last_slot_small : (p : Numbers) → last_slot p ≤ 45
 last_slot_small p = cond_both (p.contend == 0) 42 45 (λ (n : ℕ). n ≤ 45) (λ none. omega arith) (λ some. omega arith)
 
-small_step : (s : ScenarioParts) (f j k : ℕ) → IsSaid s → is_step (judge s) f j k ≡ true → Small f × (Small j × Small k)
+small_step : (s : ScenarioParts) (f j k : ℕ) → KeepsRules s → is_step (judge s) f j k ≡ true → Small f × (Small j × Small k)
 small_step s f j k is step =
     let o = and_parts (nat_lt f s.frames && nat_le j (last_slot s.profile)) (nat_le k 11) step in
     let p = and_parts (nat_lt f s.frames) (nat_le j (last_slot s.profile)) o.0 in
@@ -154,7 +154,7 @@ full s t n = mid s s.nodes s.rates s.hosts t s.script (power_after no_power s.sc
 abbrev pub with_losses : ScenarioParts → List LoseLine → Scenario
 with_losses s ls = full s (record { links = s.trace.links; losses = ls; cuts = []; captures = [] }) (length s.rates + length s.script + length ls)
 
-step_loss : (s : ScenarioParts) → IsSaid s → (ls : List LoseLine) (l : LoseLine) (ms : List LoseLine) → ls ++ l ∷ ms ≡ s.trace.losses
+step_loss : (s : ScenarioParts) → KeepsRules s → (ls : List LoseLine) (l : LoseLine) (ms : List LoseLine) → ls ++ l ∷ ms ≡ s.trace.losses
     → Step (with_losses s ls) (loss_words l) (with_losses s (ls ++ l ∷ []))
 step_loss s is ls l ms split =
     let fits = middle (λ (x : LoseLine). Fits (judge s) (said_loss x)) ls l ms (subst (AllByRecursion (λ (x : LoseLine). Fits (judge s) (said_loss x))) (sym split) is.losses) in
@@ -178,14 +178,14 @@ step_loss s is ls l ms split =
     (ap (λ (x : List LoseLine). full s (record { links = s.trace.links; losses = x; cuts = []; captures = [] }) (n + 1)) (with_line_last by_loss l ls before)
     ∙ ap (full s (record { links = s.trace.links; losses = ls ++ l ∷ []; cuts = []; captures = [] })) count)
 
-pub goes_losses : (s : ScenarioParts) → IsSaid s → Goes (with_losses s []) (map loss_words s.trace.losses) (with_losses s s.trace.losses)
+pub goes_losses : (s : ScenarioParts) → KeepsRules s → Goes (with_losses s []) (map loss_words s.trace.losses) (with_losses s s.trace.losses)
 goes_losses s is = goes_list loss_words (with_losses s) s.trace.losses (step_loss s is) [] s.trace.losses refl
 
 -- cuts
 abbrev pub with_cuts : ScenarioParts → List CutLine → Scenario
 with_cuts s ls = full s (record { links = s.trace.links; losses = s.trace.losses; cuts = ls; captures = [] }) (length s.rates + length s.script + length s.trace.losses + length ls)
 
-step_cut : (s : ScenarioParts) → IsSaid s → (ls : List CutLine) (l : CutLine) (ms : List CutLine) → ls ++ l ∷ ms ≡ s.trace.cuts
+step_cut : (s : ScenarioParts) → KeepsRules s → (ls : List CutLine) (l : CutLine) (ms : List CutLine) → ls ++ l ∷ ms ≡ s.trace.cuts
     → Step (with_cuts s ls) (cut_words l) (with_cuts s (ls ++ l ∷ []))
 step_cut s is ls l ms split =
     let fits = middle (λ (x : CutLine). Fits (judge s) (said_cut x)) ls l ms (subst (AllByRecursion (λ (x : CutLine). Fits (judge s) (said_cut x))) (sym split) is.cuts) in
@@ -208,7 +208,7 @@ step_cut s is ls l ms split =
     (ap (λ (x : List CutLine). full s (record { links = s.trace.links; losses = s.trace.losses; cuts = x; captures = [] }) (n + 1)) (with_line_last by_cut l ls before)
     ∙ ap (full s (record { links = s.trace.links; losses = s.trace.losses; cuts = ls ++ l ∷ []; captures = [] })) count)
 
-pub goes_cuts : (s : ScenarioParts) → IsSaid s → Goes (with_cuts s []) (map cut_words s.trace.cuts) (with_cuts s s.trace.cuts)
+pub goes_cuts : (s : ScenarioParts) → KeepsRules s → Goes (with_cuts s []) (map cut_words s.trace.cuts) (with_cuts s s.trace.cuts)
 goes_cuts s is = goes_list cut_words (with_cuts s) s.trace.cuts (step_cut s is) [] s.trace.cuts refl
 
 -- captures
@@ -217,7 +217,7 @@ with_captures s ls =
     full s (record { links = s.trace.links; losses = s.trace.losses; cuts = s.trace.cuts; captures = ls })
     (length s.rates + length s.script + length s.trace.losses + length s.trace.cuts + length ls)
 
-step_capture : (s : ScenarioParts) → IsSaid s → (ls : List CaptureLine) (l : CaptureLine) (ms : List CaptureLine) → ls ++ l ∷ ms ≡ s.trace.captures
+step_capture : (s : ScenarioParts) → KeepsRules s → (ls : List CaptureLine) (l : CaptureLine) (ms : List CaptureLine) → ls ++ l ∷ ms ≡ s.trace.captures
     → Step (with_captures s ls) (capture_words l) (with_captures s (ls ++ l ∷ []))
 step_capture s is ls l ms split =
     let fits = middle (λ (x : CaptureLine). Fits (judge s) (said_capture x)) ls l ms (subst (AllByRecursion (λ (x : CaptureLine). Fits (judge s) (said_capture x))) (sym split) is.captures) in
@@ -241,5 +241,5 @@ step_capture s is ls l ms split =
     (ap (λ (x : List CaptureLine). full s (record { links = s.trace.links; losses = s.trace.losses; cuts = s.trace.cuts; captures = x }) (n + 1)) (with_line_last by_capture l ls before)
     ∙ ap (full s (record { links = s.trace.links; losses = s.trace.losses; cuts = s.trace.cuts; captures = ls ++ l ∷ [] })) count)
 
-pub goes_captures : (s : ScenarioParts) → IsSaid s → Goes (with_captures s []) (map capture_words s.trace.captures) (with_captures s s.trace.captures)
+pub goes_captures : (s : ScenarioParts) → KeepsRules s → Goes (with_captures s []) (map capture_words s.trace.captures) (with_captures s s.trace.captures)
 goes_captures s is = goes_list capture_words (with_captures s) s.trace.captures (step_capture s is) [] s.trace.captures refl

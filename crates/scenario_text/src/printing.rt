@@ -1,4 +1,5 @@
-ghost use Rattle.std.specs.Prelude.{◌≡◌, ◌++◌, IfOk, OnOk, string_bytes, codes, [], ◌∷◌};
+ghost use Rattle.std.specs.Prelude.{◌≡◌, ◌++◌, Ok, IfOk, OnOk, string_bytes, codes, [], ◌∷◌};
+ghost use Rattle.scenario_text.specs.ScenarioGrammar.{scenario_of};
 ghost use Rattle.scenario_text.specs.Canonical.{canonical, line_text, render, numbered, profile_number, contend_lines};
 
 use crate::list_writers::{
@@ -11,9 +12,11 @@ use std::alloc::{AllocError, Global};
 use std::fmt::Write;
 
 /// The canonical text of a scenario: one space between words, a line feed after each line, the lines in one order,
-/// and each number and payload in its one spelling.
+/// and each number and payload in its one spelling. Parsed again it gives the same scenario.
+#[tactic(auto, using(crate::proofs::SaidParts::says_again))]
 pub fn print(alloc: Global, s: &Scenario) -> Result<String, Memory>
-    ensures { IfOk result (λ text. string_bytes text ≡ canonical s.now) }
+    ensures text { IfOk result (λ text. string_bytes text ≡ canonical s.now) }
+    ensures back { IfOk result (λ text. scenario_of (string_bytes text) ≡ Ok s.now) }
 {
     match text_of(alloc, s) {
         Ok(text) => Ok(text),
