@@ -1,5 +1,5 @@
 ghost use Rattle.std.specs.Prelude.{◌≡◌, ◌++◌, Ok, IfOk, OnOk, string_bytes, codes, [], ◌∷◌};
-ghost use Rattle.scenario_text.specs.ScenarioGrammar.{scenario_of};
+ghost use Rattle.scenario_text.specs.ScenarioGrammar.{scenario_of, IsScenario};
 ghost use Rattle.scenario_text.specs.Canonical.{canonical, line_text, render, numbered, profile_number, contend_lines};
 
 use crate::list_writers::{
@@ -26,7 +26,8 @@ pub fn print(alloc: Global, s: &Scenario) -> Result<String, Memory>
 
 #[tactic(auto, using(crate::proofs::CanonicalParts::in_turn))]
 fn text_of(alloc: Global, s: &Scenario) -> Result<String, AllocError>
-    ensures { IfOk result (λ text. string_bytes text ≡ canonical s.now) }
+    ensures text { IfOk result (λ text. string_bytes text ≡ canonical s.now) }
+    ensures said { IsScenario s.now }
 {
     let mut text = String::new(alloc);
     write_profile(&mut text, s.profile())?;
