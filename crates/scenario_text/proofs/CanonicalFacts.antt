@@ -1,5 +1,5 @@
 -- What is true of a scenario that some text says, part by part.
-use Rattle.std.proofs.Common.{◌≡◌, ℕ, ◌+◌, ◌*◌, ◌<◌, ◌≤◌, List, [], ◌∷◌, Bool, true, false, if◌then◌else◌, ◌&&◌, ◌||◌, ◌==◌, nat_lt, Option, Some, None, length, replicate}
+use Rattle.std.proofs.Common.{◌≡◌, ℕ, ◌+◌, ◌*◌, ◌<◌, ◌≤◌, List, [], ◌∷◌, Bool, true, false, if◌then◌else◌, ◌||◌, ◌==◌, nat_lt, Option, Some, None, length, replicate}
 use Rattle.std.specs.Prelude.{slice_set}
 use Rattle.std.specs.Int.RustNames.{unsigned_abs}
 use Rattle.std.specs.List.{AllByRecursion, slice_index, slice_index_or}
@@ -14,7 +14,7 @@ use Rattle.link_trace.specs.declared.lines.CutLine.{CutLine}
 use Rattle.link_trace.specs.declared.lines.CaptureLine.{CaptureLine}
 use Rattle.scenario_text.specs.FloodParts.{knows}
 use Rattle.scenario_text.specs.FloodDrafts.{Climbs, Rises, Follows}
-use Rattle.scenario_text.specs.Network.{is_id, are_ends, rates_by_node}
+use Rattle.scenario_text.specs.Network.{is_id, rates_by_node}
 use Rattle.scenario_text.specs.ScenarioGrammar.{Scenario, last_tick, line_in_range, line_knows_ids}
 use Rattle.scenario_text.specs.ScenarioParts.{ScenarioParts}
 use Rattle.scenario_text.specs.declared.lines.NodeLine.{NodeLine}

@@ -1,43 +1,34 @@
 -- The canonical lines are allowed one after another, list by list.
-use Rattle.std.proofs.Common.{◌≡◌, ℕ, zero, suc, ◌+◌, ◌-◌, ◌*◌, ◌<◌, ◌≤◌, List, [], ◌∷◌, ◌++◌, Bool, true, false, not, if◌then◌else◌, ◌&&◌, ◌||◌, ◌==◌, nat_lt, nat_le, Option, Some, None, Ok, IfSome, map, length, codes, is_some, reverse, refl, sym, ◌∙◌, ap, subst, arith, inl, inr}
-use Rattle.std.proofs.lemmas.Bool.{cond-true, cond-false, cond_both, and_from, and_parts, or_from, not_from_false, lt-ltb, le-leb, leb-true, ltb-true, eq-eqb, ne_eqb}
+use Rattle.std.proofs.Common.{◌≡◌, ℕ, suc, ◌+◌, ◌<◌, ◌≤◌, List, [], ◌∷◌, ◌++◌, true, false, not, ◌&&◌, ◌==◌, nat_lt, nat_le, Option, Some, None, IfSome, map, length, codes, refl, sym, ◌∙◌, ap, subst, arith, inl, inr}
+use Rattle.std.proofs.lemmas.Bool.{cond-true, and_from, and_parts, or_from, not_from_false, lt-ltb, le-leb, leb-true, eq-eqb, ne_eqb}
 use Rattle.std.proofs.lemmas.List.{append-nil, append_assoc, length_push, length-append}
-use Rattle.std.specs.Prelude.{slice_get}
-use Rattle.std.specs.Int.RustNames.{unsigned_abs}
-use Rattle.std.specs.List.{AllByRecursion, list_any, find, slice_index, slice_index_or}
-use Rattle.std.specs.Option.{option_map_or, option_or}
+use Rattle.std.specs.List.{AllByRecursion, list_any}
+use Rattle.std.specs.Option.{option_map_or}
 use Rattle.std.specs.Fmt.{signed_decimal}
 use Rattle.std.specs.declared.cmp.Ordering.TheVariants.{Less}
-use Rattle.lwb_base.specs.Profile.{Numbers, IsProfile, one, contended}
-use Rattle.link_trace.proofs.Orders.{tells_link, tells_loss, tells_cut, tells_capture}
-use Rattle.link_trace.specs.Order.{by_link, by_loss, by_cut, by_capture, with_line}
-use Rattle.link_trace.specs.Passes.{Lines, is_link, is_loss, is_cut, is_capture}
+use Rattle.lwb_base.specs.Profile.{Numbers, IsProfile}
+use Rattle.link_trace.proofs.Orders.{tells_link}
+use Rattle.link_trace.specs.Order.{by_link}
+use Rattle.link_trace.specs.Passes.{Lines, is_link}
 use Rattle.link_trace.specs.Sealed.{no_lines}
 use Rattle.link_trace.specs.declared.lines.LinkLine.{LinkLine}
-use Rattle.link_trace.specs.declared.lines.LoseLine.{LoseLine}
-use Rattle.link_trace.specs.declared.lines.CutLine.{CutLine}
-use Rattle.link_trace.specs.declared.lines.CaptureLine.{CaptureLine}
 use Rattle.scenario_text.specs.FloodParts.{knows}
 use Rattle.scenario_text.specs.FloodDrafts.{Climbs, Rises, Follows}
 use Rattle.scenario_text.specs.Words.{has_minus, magnitude, number}
-use Rattle.scenario_text.specs.Network.{is_id, are_ends, last_rate, with_node, ppm}
-use Rattle.scenario_text.specs.Canonical.{numbered, node_words, rate_words, host_lines, link_words, script_words, act_words, loss_words, cut_words, capture_words}
-use Rattle.scenario_text.specs.ScenarioGrammar.{Scenario, last_tick, last_slot, line_in_range, line_knows_ids, line_in_order, line_is_new, line_has_room, in_script_order, last_script_line, with_scenario_line}
+use Rattle.scenario_text.specs.Network.{is_id, are_ends, last_rate}
+use Rattle.scenario_text.specs.Canonical.{numbered, node_words, rate_words, host_lines, link_words}
+use Rattle.scenario_text.specs.ScenarioGrammar.{Scenario, last_tick}
 use Rattle.scenario_text.specs.ScenarioParts.{ScenarioParts}
 use Rattle.scenario_text.specs.declared.lines.NodeLine.{NodeLine}
 use Rattle.scenario_text.specs.declared.lines.RateLine.{RateLine}
-use Rattle.scenario_text.specs.declared.network_line.NetworkLine.TheVariants.{Sends, Node, Rate, Link}
-use Rattle.scenario_text.specs.declared.scenario_line.ScenarioLine.{ScenarioLine}
+use Rattle.scenario_text.specs.declared.network_line.NetworkLine.TheVariants.{Node, Rate}
 use Rattle.scenario_text.specs.declared.scenario_line.ScenarioLine.TheVariants as line
-use Rattle.scenario_text.specs.declared.script.ScriptLine.{ScriptLine}
-use Rattle.scenario_text.specs.declared.script.Act.{Act}
-use Rattle.scenario_text.specs.declared.script.Act.TheVariants.{On, Off, Declare, Leave, Put}
 use Rattle.scenario_text.proofs.NodeIds.{with_node-put, put}
-use Rattle.scenario_text.proofs.NumbersBack.{ReadsSigned, signed_back, ReadsPayload, payload_back}
-use Rattle.scenario_text.proofs.LinesSaid.{Says, Small, says_profile, says_contend, says_frames, says_sends, says_node, says_rate, says_host, says_link, says_on, says_off, says_stream, says_leave, says_put, says_lose, says_cut, says_capture}
-use Rattle.scenario_text.proofs.LineRuns.{Step, step, Goes, goes_list, goes_append, middle, front_all, climbs_before, climbs_front, with_line_last, none_among}
-use Rattle.scenario_text.proofs.CanonicalFacts.{Power, no_power, after_act, can_boot, power_after, Boots, mid, said_act, said_link, said_loss, said_cut, said_capture, Fits, HasBytes, FitsAct, IsNode, IsRateOf, IsHost, judge, KeepsRules}
-use Rattle.scenario_text.proofs.RatesKept.{map_all, last_holds, last_of}
+use Rattle.scenario_text.proofs.NumbersBack.{signed_back}
+use Rattle.scenario_text.proofs.LinesSaid.{Small, says_node, says_rate, says_host, says_link}
+use Rattle.scenario_text.proofs.LineRuns.{Step, step, Goes, goes_list, middle, climbs_before, climbs_front, with_line_last, none_among}
+use Rattle.scenario_text.proofs.CanonicalFacts.{no_power, mid, said_link, Fits, IsNode, IsRateOf, IsHost, judge, KeepsRules}
+use Rattle.scenario_text.proofs.RatesKept.{last_holds, last_of}
 
 pub small_id : (i : ℕ) → is_id i ≡ true → Small i
 small_id i is = let high = leb-true i 200 (and_parts (nat_le 1 i) (nat_le i 200) is).1 in omega (arith, high)

@@ -1,44 +1,18 @@
 -- The canonical text says what it was made of.
-use Rattle.std.proofs.Common.{◌≡◌, ℕ, zero, suc, ◌+◌, ◌-◌, ◌*◌, ◌<◌, ◌≤◌, List, [], ◌∷◌, ◌++◌, Bool, true, false, not, if◌then◌else◌, ◌&&◌, ◌||◌, ◌==◌, nat_lt, nat_le, Option, Some, None, Ok, IfSome, map, length, codes, is_some, reverse, refl, sym, ◌∙◌, ap, subst, arith, inl, inr}
-use Rattle.std.proofs.lemmas.Bool.{cond-true, cond-false, cond_both, and_from, and_parts, or_from, not_from_false, lt-ltb, le-leb, leb-true, ltb-true, eq-eqb, ne_eqb}
-use Rattle.std.proofs.lemmas.List.{append-nil, append_assoc, length_push, length-append}
-use Rattle.std.specs.Prelude.{slice_get}
-use Rattle.std.specs.Int.RustNames.{unsigned_abs}
-use Rattle.std.specs.List.{AllByRecursion, list_any, find, slice_index, slice_index_or}
-use Rattle.std.specs.Option.{option_map_or, option_or}
-use Rattle.std.specs.Fmt.{signed_decimal}
-use Rattle.std.specs.declared.cmp.Ordering.TheVariants.{Less}
+use Rattle.std.proofs.Common.{◌≡◌, ℕ, zero, suc, ◌+◌, ◌*◌, ◌≤◌, List, [], ◌∷◌, ◌++◌, Bool, true, false, ◌==◌, nat_le, Option, Some, None, Ok, map, length, codes, refl, sym, ◌∙◌, ap, subst, arith, inl, inr}
+use Rattle.std.proofs.lemmas.Bool.{cond-true, cond-false, and_from, le-leb, ne_eqb}
 use Rattle.lwb_base.specs.Profile.{Numbers, IsProfile, one, contended}
-use Rattle.link_trace.proofs.Orders.{tells_link, tells_loss, tells_cut, tells_capture}
-use Rattle.link_trace.specs.Order.{by_link, by_loss, by_cut, by_capture, with_line}
-use Rattle.link_trace.specs.Passes.{Lines, is_link, is_loss, is_cut, is_capture}
-use Rattle.link_trace.specs.Sealed.{no_lines}
-use Rattle.link_trace.specs.declared.lines.LinkLine.{LinkLine}
-use Rattle.link_trace.specs.declared.lines.LoseLine.{LoseLine}
-use Rattle.link_trace.specs.declared.lines.CutLine.{CutLine}
-use Rattle.link_trace.specs.declared.lines.CaptureLine.{CaptureLine}
-use Rattle.scenario_text.specs.FloodParts.{knows}
-use Rattle.scenario_text.specs.FloodDrafts.{Climbs, Rises, Follows}
-use Rattle.scenario_text.specs.Words.{has_minus, magnitude, number}
-use Rattle.scenario_text.specs.Network.{is_id, are_ends, last_rate, with_node, ppm}
-use Rattle.scenario_text.specs.Canonical.{canonical, canonical_lines, render, profile_number, contend_lines, numbered, node_words, rate_words, host_lines, link_words, script_words, act_words, loss_words, cut_words, capture_words}
-use Rattle.scenario_text.specs.ScenarioGrammar.{Scenario, last_tick, last_slot, line_in_range, line_knows_ids, line_in_order, line_is_new, line_has_room, in_script_order, last_script_line, with_scenario_line, no_scenario, after_line, finished, finished_parts, if_small, scenario_of}
+use Rattle.link_trace.specs.Passes.{Lines}
+use Rattle.scenario_text.specs.Canonical.{canonical, canonical_lines, profile_number, contend_lines, numbered, node_words, rate_words, host_lines, link_words, script_words, loss_words, cut_words, capture_words}
+use Rattle.scenario_text.specs.ScenarioGrammar.{Scenario, no_scenario, after_line, finished, finished_parts, if_small, scenario_of}
 use Rattle.scenario_text.specs.ScenarioParts.{ScenarioParts}
-use Rattle.scenario_text.specs.declared.lines.NodeLine.{NodeLine}
 use Rattle.scenario_text.specs.declared.lines.RateLine.{RateLine}
-use Rattle.scenario_text.specs.declared.network_line.NetworkLine.TheVariants.{Sends, Node, Rate, Link}
-use Rattle.scenario_text.specs.declared.scenario_line.ScenarioLine.{ScenarioLine}
+use Rattle.scenario_text.specs.declared.network_line.NetworkLine.TheVariants.{Sends}
 use Rattle.scenario_text.specs.declared.scenario_line.ScenarioLine.TheVariants as line
 use Rattle.scenario_text.specs.declared.script.ScriptLine.{ScriptLine}
-use Rattle.scenario_text.specs.declared.script.Act.{Act}
-use Rattle.scenario_text.specs.declared.script.Act.TheVariants.{On, Off, Declare, Leave, Put}
-use Rattle.scenario_text.proofs.NodeIds.{with_node-put, put}
-use Rattle.scenario_text.proofs.NumbersBack.{ReadsSigned, signed_back, ReadsPayload, payload_back}
-use Rattle.scenario_text.proofs.LinesSaid.{Says, Small, says_profile, says_contend, says_frames, says_sends, says_node, says_rate, says_host, says_link, says_on, says_off, says_stream, says_leave, says_put, says_lose, says_cut, says_capture}
-use Rattle.scenario_text.proofs.LineRuns.{Step, step, Allowed, goes_words, goes_after, Goes, goes_list, goes_append, middle, front_all, climbs_before, climbs_front, with_line_last, none_among}
-use Rattle.scenario_text.proofs.CanonicalFacts.{Power, no_power, after_act, can_boot, power_after, Boots, mid, said_act, said_link, said_loss, said_cut, said_capture, Fits, HasBytes, FitsAct, IsNode, IsRateOf, IsHost, judge, KeepsRules}
-use Rattle.scenario_text.proofs.RatesKept.{map_all, last_holds, last_of}
-use Rattle.std.specs.List.{join_with_byte}
+use Rattle.scenario_text.proofs.LinesSaid.{says_profile, says_contend, says_frames, says_sends}
+use Rattle.scenario_text.proofs.LineRuns.{Step, step, goes_words, goes_after, Goes, goes_append}
+use Rattle.scenario_text.proofs.CanonicalFacts.{Power, no_power, power_after, mid, KeepsRules}
 use Rattle.std.specs.Str.Lines.{lines}
 use Rattle.std.proofs.Common.{Err, Result}
 use Rattle.scenario_text.specs.Network.{Parts, network_parts, rates_by_node}
@@ -62,22 +36,35 @@ step_two = step no_scenario (numbered (codes "profile") (2 ∷ [])) (line.Profil
 goes_contended : (c : ℕ) → c ≤ 4 → (b : Bool) × Goes no_scenario (top_lines (contended c)) (after_top (contended c) b)
 goes_contended zero few = (true, (after_top (contended 0) true, (step_two, refl)))
 goes_contended (suc c) few =
-    let some : contend_lines (suc c) ≡ numbered (codes "contend") (suc c ∷ []) ∷ [] = cond-false (suc c == 0) [] (numbered (codes "contend") (suc c ∷ []) ∷ []) (ne_eqb (suc c) 0 (λ is. omega (arith, is))) in
-    (false,
-    subst (λ (ls : List (List (List ℕ))). Goes no_scenario (numbered (codes "profile") (2 ∷ []) ∷ ls) (after_top (contended (suc c)) false)) (sym some)
-    (after_top (contended 0) true,
-    (step_two,
-    (after_top (contended (suc c)) false,
-    (step (after_top (contended 0) true) (numbered (codes "contend") (suc c ∷ [])) (line.Contend (suc c)) (after_top (contended (suc c)) false) (says_contend (suc c) (omega (arith, few)))
-    (record { range = and_from (nat_le 1 (suc c)) (nat_le (suc c) 4) (le-leb 1 (suc c) (omega arith)) (le-leb (suc c) 4 few); known = refl; order = refl; fresh = refl; room = refl }) refl,
-    refl)))))
+    let some : contend_lines (suc c) ≡ numbered (codes "contend") (suc c ∷ []) ∷ [] = cond-false (suc c == 0) [] (numbered (codes "contend") (suc c ∷ []) ∷ []) (ne_eqb (suc c) 0 (λ is. omega (arith, is))) in (
+      false,
+      subst (λ (ls : List (List (List ℕ))). Goes no_scenario (numbered (codes "profile") (2 ∷ []) ∷ ls) (after_top (contended (suc c)) false)) (sym some) (
+        after_top (contended 0) true,
+        (
+          step_two,
+          (
+            after_top (contended (suc c)) false,
+            (
+              step (after_top (contended 0) true) (numbered (codes "contend") (suc c ∷ [])) (line.Contend (suc c)) (after_top (contended (suc c)) false) (says_contend (suc c) (omega (arith, few)))
+                  (record { range = and_from (nat_le 1 (suc c)) (nat_le (suc c) 4) (le-leb 1 (suc c) (omega arith)) (le-leb (suc c) 4 few); known = refl; order = refl; fresh = refl; room = refl }) refl,
+              refl,
+            ),
+          ),
+        ),
+      ),
+    )
 
 goes_one : (b : Bool) × Goes no_scenario (top_lines one) (after_top one b)
-goes_one =
-    (false,
-    (after_top one false,
-    (step no_scenario (numbered (codes "profile") (1 ∷ [])) (line.Profile 1) (after_top one false) (says_profile 1 (omega arith)) (record { range = refl; known = refl; order = refl; fresh = refl; room = refl }) refl,
-    refl)))
+goes_one = (
+  false,
+  (
+    after_top one false,
+    (
+      step no_scenario (numbered (codes "profile") (1 ∷ [])) (line.Profile 1) (after_top one false) (says_profile 1 (omega arith)) (record { range = refl; known = refl; order = refl; fresh = refl; room = refl }) refl,
+      refl,
+    ),
+  ),
+)
 
 goes_top : (p : Numbers) → IsProfile p → (b : Bool) × Goes no_scenario (top_lines p) (after_top p b)
 goes_top p (inl is) = subst (λ (q : Numbers). (b : Bool) × Goes no_scenario (top_lines q) (after_top q b)) (sym is) goes_one
@@ -90,14 +77,21 @@ goes_first s b is =
     let frames = is.frames in
     let sends = is.sends in
     let few = frames.1 in
-    let seldom = sends.1 in
-    (framed,
-    (step (after_top s.profile b) (numbered (codes "frames") (s.frames ∷ [])) (line.Frames s.frames) framed (says_frames s.frames (omega (arith, few)))
-    (record { range = and_from (nat_le 1 s.frames) (nat_le s.frames 4096) (le-leb 1 s.frames frames.0) (le-leb s.frames 4096 few); known = refl; order = refl; fresh = refl; room = refl }) refl,
-    (with_nodes s [],
-    (step framed (numbered (codes "sends") (s.sends ∷ [])) (line.InNetwork (Sends s.sends)) (with_nodes s []) (says_sends s.sends (omega (arith, seldom)))
-    (record { range = and_from (nat_le 1 s.sends) (nat_le s.sends 4) (le-leb 1 s.sends sends.0) (le-leb s.sends 4 seldom); known = refl; order = refl; fresh = refl; room = refl }) refl,
-    goes_nodes s is))))
+    let seldom = sends.1 in (
+      framed,
+      (
+        step (after_top s.profile b) (numbered (codes "frames") (s.frames ∷ [])) (line.Frames s.frames) framed (says_frames s.frames (omega (arith, few)))
+            (record { range = and_from (nat_le 1 s.frames) (nat_le s.frames 4096) (le-leb 1 s.frames frames.0) (le-leb s.frames 4096 few); known = refl; order = refl; fresh = refl; room = refl }) refl,
+        (
+          with_nodes s [],
+          (
+            step framed (numbered (codes "sends") (s.sends ∷ [])) (line.InNetwork (Sends s.sends)) (with_nodes s []) (says_sends s.sends (omega (arith, seldom)))
+                (record { range = and_from (nat_le 1 s.sends) (nat_le s.sends 4) (le-leb 1 s.sends sends.0) (le-leb s.sends 4 seldom); known = refl; order = refl; fresh = refl; room = refl }) refl,
+            goes_nodes s is,
+          ),
+        ),
+      ),
+    )
 
 goes_from : (d e g : Scenario) (ls : List (List (List ℕ))) → d ≡ e → Goes e ls g → Goes d ls g
 goes_from d e g ls is goes = subst (λ (x : Scenario). Goes x ls g) (sym is) goes
@@ -128,12 +122,12 @@ goes_all s is =
     let hosts = goes_append no_scenario (with_rates s s.rates) (with_hosts s s.hosts) to_rates (host_lines 0 s.hosts) rates (goes_hosts s is [] s.hosts 0 refl refl) in
     let links = goes_append no_scenario (with_hosts s s.hosts) (with_links s s.trace.links) to_hosts (map link_words s.trace.links) hosts (goes_links s is) in
     let script = goes_append no_scenario (with_links s s.trace.links) (with_script s s.script) to_links (map script_words s.script) links
-        (goes_from (with_links s s.trace.links) (with_script s []) (with_script s s.script) (map script_words s.script) (counted_as s (of_links s.trace.links) [] no_power r (r + 0) (omega arith)) (goes_script s is)) in
+    (goes_from (with_links s s.trace.links) (with_script s []) (with_script s s.script) (map script_words s.script) (counted_as s (of_links s.trace.links) [] no_power r (r + 0) (omega arith)) (goes_script s is)) in
     let losses = goes_append no_scenario (with_script s s.script) (with_losses s s.trace.losses) to_script (map loss_words s.trace.losses) script
-        (goes_from (with_script s s.script) (with_losses s []) (with_losses s s.trace.losses) (map loss_words s.trace.losses) (counted_as s (of_links s.trace.links) s.script w (r + c) (r + c + 0) (omega arith)) (goes_losses s is)) in
+    (goes_from (with_script s s.script) (with_losses s []) (with_losses s s.trace.losses) (map loss_words s.trace.losses) (counted_as s (of_links s.trace.links) s.script w (r + c) (r + c + 0) (omega arith)) (goes_losses s is)) in
     let cuts = goes_append no_scenario (with_losses s s.trace.losses) (with_cuts s s.trace.cuts) to_losses (map cut_words s.trace.cuts) losses
-        (goes_from (with_losses s s.trace.losses) (with_cuts s []) (with_cuts s s.trace.cuts) (map cut_words s.trace.cuts)
-        (counted_as s (record { links = s.trace.links; losses = s.trace.losses; cuts = []; captures = [] }) s.script w (r + c + l) (r + c + l + 0) (omega arith)) (goes_cuts s is)) in
+    (goes_from (with_losses s s.trace.losses) (with_cuts s []) (with_cuts s s.trace.cuts) (map cut_words s.trace.cuts)
+    (counted_as s (record { links = s.trace.links; losses = s.trace.losses; cuts = []; captures = [] }) s.script w (r + c + l) (r + c + l + 0) (omega arith)) (goes_cuts s is)) in
     goes_append no_scenario (with_cuts s s.trace.cuts) (with_captures s s.trace.captures) to_cuts (map capture_words s.trace.captures) cuts
     (goes_from (with_cuts s s.trace.cuts) (with_captures s []) (with_captures s s.trace.captures) (map capture_words s.trace.captures)
     (counted_as s (record { links = s.trace.links; losses = s.trace.losses; cuts = s.trace.cuts; captures = [] }) s.script w (r + c + l + u) (r + c + l + u + 0) (omega arith)) (goes_captures s is))

@@ -1,6 +1,6 @@
 -- What is true of each draft of a scenario, and how its lists keep it.
-use Rattle.std.proofs.Common.{◌≡◌, ℕ, zero, suc, ◌+◌, ◌-◌, ◌<◌, ◌≤◌, List, [], ◌∷◌, ◌++◌, Bool, true, false, not, if◌then◌else◌, ◌&&◌, ◌||◌, ◌==◌, nat_lt, nat_le, Option, Some, None, IfSome, length, refl, sym, ◌∙◌, ap, subst, arith}
-use Rattle.std.proofs.lemmas.Bool.{cond-true, cond-false, cond_both, and_from, and_parts, or_parts, leb-true}
+use Rattle.std.proofs.Common.{◌≡◌, ℕ, suc, ◌+◌, ◌-◌, ◌≤◌, List, [], ◌∷◌, ◌++◌, Bool, true, false, not, ◌&&◌, ◌==◌, nat_le, Option, None, IfSome, length, refl, sym, ◌∙◌, ap, arith}
+use Rattle.std.proofs.lemmas.Bool.{cond_both, and_from, and_parts, or_parts, leb-true}
 use Rattle.std.specs.Prelude.{slice_get}
 use Rattle.std.specs.Cmp.{IsTotalOrder}
 use Rattle.std.specs.List.{AllByRecursion, list_any}
@@ -16,13 +16,12 @@ use Rattle.scenario_text.specs.FloodDrafts.{Climbs, IsNetwork}
 use Rattle.scenario_text.specs.Network.{is_id}
 use Rattle.scenario_text.specs.ScenarioGrammar.{Scenario, no_scenario, last_tick, last_script_line, line_in_range, line_knows_ids}
 use Rattle.scenario_text.specs.declared.lines.NodeLine.{NodeLine}
-use Rattle.scenario_text.specs.declared.lines.RateLine.{RateLine}
 use Rattle.scenario_text.specs.declared.scenario_line.ScenarioLine.{ScenarioLine}
 use Rattle.scenario_text.specs.declared.scenario_line.ScenarioLine.TheVariants as line
 use Rattle.scenario_text.specs.declared.network_line.NetworkLine.TheVariants.{Sends, Node, Rate, Link, Pair}
 use Rattle.scenario_text.specs.declared.script.ScriptLine.{ScriptLine}
 use Rattle.scenario_text.proofs.RatesKept.{map_all, all_append}
-use Rattle.scenario_text.proofs.CanonicalFacts.{Power, no_power, after_act, can_boot, power_after, Boots, said_act, said_link, said_loss, said_cut, said_capture, Fits, HasBytes, FitsAct, judged}
+use Rattle.scenario_text.proofs.CanonicalFacts.{Power, no_power, after_act, can_boot, power_after, Boots, said_act, said_link, said_loss, said_cut, said_capture, Fits, FitsAct, judged}
 
 pub record AreHosts (ns : List NodeLine) (hs : List ℕ) : Type 0 where
   pub known : AllByRecursion (λ h. knows ns h ≡ true) hs

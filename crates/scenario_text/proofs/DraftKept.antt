@@ -1,25 +1,17 @@
 -- Each allowed line keeps what is true of a draft.
-use Rattle.std.proofs.Common.{◌≡◌, ℕ, zero, suc, ◌+◌, ◌*◌, ◌^◌, ◌<◌, ◌≤◌, List, [], ◌∷◌, ◌++◌, Bool, true, false, not, if◌then◌else◌, ◌&&◌, ◌||◌, ◌==◌, nat_lt, nat_le, Option, Some, None, IfSome, Result, Ok, Err, IfOk, is_some, is_none, length, codes, option_map, refl, sym, ◌∙◌, ap, subst, arith, inl, inr}
-use Rattle.std.proofs.lemmas.Bool.{cond_both, and_from, and_parts, and_right, or_parts, or_cases, leb-true, ltb-true, lt-ltb, not-true, not_from_false, eqb-true, eqb-false, ne_eqb, false≢true}
-use Rattle.std.proofs.lemmas.Bool.Decides.{nat_tests}
+use Rattle.std.proofs.Common.{◌≡◌, ℕ, ◌+◌, ◌^◌, ◌<◌, ◌≤◌, List, [], ◌∷◌, ◌++◌, Bool, true, false, not, if◌then◌else◌, ◌&&◌, ◌==◌, nat_le, Option, Some, None, is_some, is_none, length, refl, sym, ◌∙◌, ap, subst, arith, inl, inr}
+use Rattle.std.proofs.lemmas.Bool.{and_from, and_parts, and_right, or_parts, leb-true, ltb-true, not-true, not_from_false, eqb-true, eqb-false, ne_eqb, false≢true}
 use Rattle.std.proofs.lemmas.List.{length_push}
-use Rattle.std.specs.Char.{is_ascii_hexdigit, digit_value}
 use Rattle.std.specs.List.{AllByRecursion, list_any}
 use Rattle.std.specs.Option.{option_map_or}
-use Rattle.std.specs.Str.{bytes_eq, is_utf8}
 use Rattle.lwb_base.specs.Profile.{Numbers, IsProfile, one, contended}
 use Rattle.link_trace.proofs.Orders.{by_link_total, by_loss_total, by_cut_total, by_capture_total, tells_link, tells_loss, tells_cut, tells_capture}
 use Rattle.link_trace.specs.Order.{by_link, by_loss, by_cut, by_capture}
 use Rattle.link_trace.specs.Passes.{Lines, is_link, is_loss, is_cut, is_capture}
 use Rattle.scenario_text.specs.FloodParts.{knows}
-use Rattle.scenario_text.specs.FloodDrafts.{Climbs, IsNetwork}
-use Rattle.scenario_text.specs.Words.{words, word, is_skipped, counted, number_at}
-use Rattle.scenario_text.specs.Faults.{after_lines, in_line, ◌>>=◌}
-use Rattle.scenario_text.specs.Network.{ppm, is_id, are_ends, with_node, with_link, with_loss, with_cut, with_capture, has_link, has_script_room, network_fault, network_line}
-use Rattle.scenario_text.specs.Payloads.{is_payload, payload, payload_bytes, hex_bytes, hex_value}
-use Rattle.scenario_text.specs.ScenarioGrammar.{Scenario, no_scenario, last_tick, last_script_line, in_script_order, line_fault, line_in_range, line_knows_ids, line_in_order, line_is_new, line_has_room, with_scenario_line, after_words, after_line, scenario_line, scenario_numbers, begins, is_step, is_frame}
-use Rattle.scenario_text.specs.declared.fault.FaultKind.{FaultKind}
-use Rattle.scenario_text.specs.declared.fault.FaultKind.TheVariants.{NotUtf8, BadNumber, Range, UnknownNode, Order, Twice, TooMany}
+use Rattle.scenario_text.specs.Network.{ppm, is_id, are_ends, with_node, with_link, with_loss, with_cut, with_capture, has_link, has_script_room}
+use Rattle.scenario_text.specs.ScenarioGrammar.{Scenario, no_scenario, last_tick, last_script_line, in_script_order, line_fault, line_in_range, line_knows_ids, line_in_order, line_is_new, line_has_room, with_scenario_line, is_frame}
+use Rattle.scenario_text.specs.declared.fault.FaultKind.TheVariants.{Range, UnknownNode, Order, Twice, TooMany}
 use Rattle.scenario_text.specs.declared.lines.NodeLine.{NodeLine}
 use Rattle.scenario_text.specs.declared.lines.RateLine.{RateLine}
 use Rattle.scenario_text.specs.declared.network_line.NetworkLine.{NetworkLine}
@@ -29,7 +21,7 @@ use Rattle.scenario_text.specs.declared.scenario_line.ScenarioLine.TheVariants a
 use Rattle.scenario_text.specs.declared.script.ScriptLine.{ScriptLine}
 use Rattle.scenario_text.specs.declared.script.Act.{Act}
 use Rattle.scenario_text.specs.declared.script.Act.TheVariants.{On, Off, Declare, Leave, Put}
-use Rattle.scenario_text.proofs.FloodKeeps.{passed, network_keeps, unless_keeps}
+use Rattle.scenario_text.proofs.FloodKeeps.{passed, network_keeps}
 use Rattle.scenario_text.proofs.LinksBack.{link_back}
 use Rattle.scenario_text.proofs.NodeIds.{with_node-all, with_node-knows}
 use Rattle.scenario_text.proofs.RatesKept.{map_all, all_append}
@@ -37,7 +29,7 @@ use Rattle.scenario_text.proofs.LineRuns.{Allowed}
 use Rattle.scenario_text.proofs.CanonicalGoes.{frame_bound}
 use Rattle.scenario_text.proofs.ScriptGoes.{power_more}
 use Rattle.scenario_text.proofs.CanonicalFacts.{Power, no_power, after_act, can_boot, power_after, said_act, said_link, said_loss, said_cut, said_capture, Fits, HasBytes, FitsAct, judged}
-use Rattle.scenario_text.proofs.DraftFacts.{AreHosts, IsScript, IsTrace, IsUnframed, after_top, IsFine, KnowsMore, hosts_more, script_more, trace_more, with_line_all, with_line_length, with_line_climbs, climbs_more, boots_more, none_later}
+use Rattle.scenario_text.proofs.DraftFacts.{IsScript, IsTrace, after_top, IsFine, KnowsMore, hosts_more, script_more, trace_more, with_line_all, with_line_length, with_line_climbs, climbs_more, boots_more, none_later}
 
 allowed : (d : Scenario) (l : ScenarioLine) → line_fault d l ≡ None → Allowed d l
 allowed d l none =

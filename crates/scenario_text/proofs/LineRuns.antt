@@ -1,5 +1,5 @@
 -- Lines of words that are allowed one after another.
-use Rattle.std.proofs.Common.{◌≡◌, ℕ, ◌+◌, ◌<◌, ◌≤◌, List, [], ◌∷◌, ◌++◌, Bool, true, false, not, ◌||◌, cond, Option, Some, None, Result, Ok, IfSome, map, refl, sym, ◌∙◌, ap, subst, arith}
+use Rattle.std.proofs.Common.{◌≡◌, ℕ, ◌+◌, List, [], ◌∷◌, ◌++◌, Bool, true, false, not, Some, None, Ok, map, refl, sym, ◌∙◌, ap, subst}
 use Rattle.std.proofs.lemmas.Bool.{cond-true, or_from}
 use Rattle.std.proofs.lemmas.List.{append-nil, append_assoc}
 use Rattle.std.specs.List.{AllByRecursion, list_any, join_with_byte}
@@ -9,8 +9,7 @@ use Rattle.std.specs.declared.cmp.Ordering.TheVariants.{Less}
 use Rattle.link_trace.specs.Order.{with_line}
 use Rattle.scenario_text.specs.Faults.{first_fault, after_lines}
 use Rattle.scenario_text.specs.FloodDrafts.{Climbs}
-use Rattle.scenario_text.specs.ScenarioGrammar.{Scenario, line_fault, with_scenario_line, after_line, line_in_range, line_knows_ids, line_in_order, line_is_new, line_has_room}
-use Rattle.scenario_text.specs.declared.fault.FaultKind.{FaultKind}
+use Rattle.scenario_text.specs.ScenarioGrammar.{Scenario, with_scenario_line, after_line, line_in_range, line_knows_ids, line_in_order, line_is_new, line_has_room}
 use Rattle.scenario_text.specs.declared.fault.FaultKind.TheVariants.{Range, UnknownNode, Order, Twice, TooMany}
 use Rattle.scenario_text.specs.declared.scenario_line.ScenarioLine.{ScenarioLine}
 use Rattle.scenario_text.proofs.TextBack.{IsWord}

@@ -1,11 +1,11 @@
 -- What the words of each canonical line say.
-use Rattle.std.proofs.Common.{◌≡◌, ℕ, ◌<◌, ◌≤◌, ℤ, List, [], ◌∷◌, ◌++◌, Bool, true, false, if◌then◌else◌, ◌&&◌, ◌==◌, Option, Some, None, Ok, Err, map, codes, decimal, refl, sym, ◌∙◌, ap, arith}
+use Rattle.std.proofs.Common.{◌≡◌, ℕ, ◌<◌, ◌≤◌, ℤ, List, [], ◌∷◌, ◌++◌, true, false, if◌then◌else◌, Option, Some, None, Ok, Err, map, codes, decimal, refl, ◌∙◌, ap, arith}
 use Rattle.std.proofs.lemmas.Bool.{cond-true, cond-false, and_from}
 use Rattle.std.specs.Fmt.{signed_decimal}
 use Rattle.std.specs.Int.RustNames.{unsigned_abs}
 use Rattle.std.specs.List.{AllByRecursion, list_all, join_with_byte}
 use Rattle.std.specs.Str.{is_utf8}
-use Rattle.scenario_text.specs.Words.{words, word, is_skipped, is_number, number, number_at, has_minus, magnitude, counted}
+use Rattle.scenario_text.specs.Words.{is_skipped, is_number, number, has_minus, magnitude}
 use Rattle.scenario_text.specs.Faults.{unless_fault}
 use Rattle.scenario_text.specs.Network.{network_line}
 use Rattle.scenario_text.specs.Payloads.{is_payload, payload, payload_word}
@@ -16,8 +16,8 @@ use Rattle.scenario_text.specs.declared.fault.FaultKind.TheVariants.{NotUtf8, Ba
 use Rattle.scenario_text.specs.declared.network_line.NetworkLine.TheVariants.{Sends, Node, Rate, Link}
 use Rattle.scenario_text.specs.declared.scenario_line.ScenarioLine.{ScenarioLine}
 use Rattle.scenario_text.specs.declared.scenario_line.ScenarioLine.TheVariants.{InNetwork, Profile, Contend, Frames, Host, On, Off, Stream, Leave, Put, Lose, Cut, Capture}
-use Rattle.scenario_text.proofs.TextBack.{IsWord, IsGlyph, words_back, line_is_text}
-use Rattle.scenario_text.proofs.NumbersBack.{is_number_back, number_back, decimal_word, ReadsSigned, signed_back, ReadsPayload, payload_back}
+use Rattle.scenario_text.proofs.TextBack.{IsWord, words_back, line_is_text}
+use Rattle.scenario_text.proofs.NumbersBack.{is_number_back, number_back, decimal_word, signed_back, ReadsPayload}
 
 -- the words are those of the line
 pub record Says (ws : List (List ℕ)) (l : ScenarioLine) : Type 0 where

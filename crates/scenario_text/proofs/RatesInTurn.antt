@@ -1,5 +1,5 @@
 -- The rates of each node in turn, taken in turn again.
-use Rattle.std.proofs.Common.{◌≡◌, ℕ, zero, suc, ◌+◌, ◌<◌, ◌≤◌, List, [], ◌∷◌, ◌++◌, Bool, true, false, ◌||◌, ◌==◌, cond, length, filter, refl, sym, ◌∙◌, ap, subst, arith}
+use Rattle.std.proofs.Common.{◌≡◌, ℕ, ◌+◌, ◌<◌, ◌≤◌, List, [], ◌∷◌, ◌++◌, Bool, true, false, ◌==◌, length, filter, refl, sym, ◌∙◌, ap, arith}
 use Rattle.std.proofs.lemmas.Bool.{cond-true, cond-false, cond_both, or_left, or_right, or_parts, eq-eqb, eqb-true, eqb-false, ne_eqb}
 use Rattle.std.proofs.lemmas.List.{length-append}
 use Rattle.std.specs.List.{AllByRecursion}
@@ -13,9 +13,10 @@ use Rattle.scenario_text.proofs.RatesKept.{is_of, map_all, all_append, all_filte
 -- each node is known
 pub all_known : (ns : List NodeLine) → AllByRecursion (λ n. knows ns n.node ≡ true) ns
 all_known [] = tt
-all_known (n ∷ ns) =
-    (or_left (n.node == n.node) (knows ns n.node) (eq-eqb n.node n.node refl),
-    map_all (λ m. knows ns m.node ≡ true) (λ m. knows (n ∷ ns) m.node ≡ true) ns (λ m known. or_right (n.node == m.node) (knows ns m.node) known) (all_known ns))
+all_known (n ∷ ns) = (
+  or_left (n.node == n.node) (knows ns n.node) (eq-eqb n.node n.node refl),
+  map_all (λ m. knows ns m.node ≡ true) (λ m. knows (n ∷ ns) m.node ≡ true) ns (λ m known. or_right (n.node == m.node) (knows ns m.node) known) (all_known ns),
+)
 
 same_again : (ns ms : List NodeLine) (rs : List RateLine) → Rises ns → AllByRecursion (λ m. knows ns m.node ≡ true) ms → rates_by_node ms (rates_by_node ns rs) ≡ rates_by_node ms rs
 same_again ns [] rs rises known = refl

@@ -1,20 +1,17 @@
 -- What some text says meets the rules of the canonical text.
-use Rattle.std.proofs.Common.{◌≡◌, ℕ, zero, suc, ◌+◌, ◌*◌, ◌<◌, ◌≤◌, List, [], ◌∷◌, ◌++◌, Bool, true, false, not, if◌then◌else◌, ◌&&◌, ◌||◌, ◌==◌, nat_le, Option, Some, None, IfSome, Result, Ok, Err, IfOk, length, codes, option_map, refl, sym, ◌∙◌, ap, subst, arith, inl, inr}
-use Rattle.std.proofs.lemmas.Bool.{cond_both, and_from, and_parts, or_cases, leb-true, eqb-true, eqb-false, false≢true}
+use Rattle.std.proofs.Common.{◌≡◌, ℕ, ◌+◌, ◌*◌, ◌<◌, ◌≤◌, List, [], ◌∷◌, Bool, true, false, if◌then◌else◌, ◌==◌, nat_le, Option, Some, None, IfSome, Result, Ok, Err, IfOk, length, codes, option_map, refl, sym, ◌∙◌, ap, subst, arith, inl, inr}
+use Rattle.std.proofs.lemmas.Bool.{cond_both, or_cases, leb-true, eqb-true, eqb-false, false≢true}
 use Rattle.std.proofs.lemmas.Bool.Decides.{nat_tests}
-use Rattle.std.proofs.lemmas.Option.{cond_some}
 use Rattle.std.specs.Char.{is_ascii_hexdigit, digit_value}
 use Rattle.std.specs.List.{AllByRecursion}
-use Rattle.std.specs.Option.{ok_or}
 use Rattle.std.specs.Str.{bytes_eq, is_utf8}
 use Rattle.std.specs.Str.Lines.{lines}
 use Rattle.lwb_base.specs.Profile.{Numbers}
-use Rattle.link_trace.specs.Passes.{Lines}
 use Rattle.scenario_text.specs.FloodParts.{knows}
-use Rattle.scenario_text.specs.FloodDrafts.{Rises, Follows, IsRate, IsNetwork}
+use Rattle.scenario_text.specs.FloodDrafts.{IsRate}
 use Rattle.scenario_text.specs.Words.{words, word, is_skipped, counted, number_at}
 use Rattle.scenario_text.specs.Faults.{unless_fault, after_lines, in_line, ◌>>=◌}
-use Rattle.scenario_text.specs.Network.{Drafted, Parts, is_id, network_parts, network_line, rates_by_node}
+use Rattle.scenario_text.specs.Network.{is_id, network_parts, network_line, rates_by_node}
 use Rattle.scenario_text.specs.Payloads.{is_payload, payload, payload_bytes, hex_bytes, hex_value}
 use Rattle.scenario_text.specs.ScenarioGrammar.{Scenario, no_scenario, last_tick, line_fault, with_scenario_line, after_words, after_line, scenario_line, scenario_numbers, begins, finished, finished_parts, if_small, scenario_of, IsScenario}
 use Rattle.scenario_text.specs.ScenarioParts.{ScenarioParts}

@@ -1,43 +1,31 @@
 -- The canonical lines of the script, and of losses, cuts and captures, are allowed one after another.
-use Rattle.std.proofs.Common.{◌≡◌, ℕ, zero, suc, ◌+◌, ◌-◌, ◌*◌, ◌<◌, ◌≤◌, List, [], ◌∷◌, ◌++◌, Bool, true, false, not, if◌then◌else◌, ◌&&◌, ◌||◌, ◌==◌, nat_lt, nat_le, Option, Some, None, Ok, IfSome, map, length, codes, is_some, reverse, refl, sym, ◌∙◌, ap, subst, arith, inl, inr}
-use Rattle.std.proofs.lemmas.Bool.{cond-true, cond-false, cond_both, and_from, and_parts, or_from, not_from_false, lt-ltb, le-leb, leb-true, ltb-true, eq-eqb, ne_eqb}
-use Rattle.std.proofs.lemmas.List.{append-nil, append_assoc, length_push, length-append}
+use Rattle.std.proofs.Common.{◌≡◌, ℕ, zero, suc, ◌+◌, ◌-◌, ◌≤◌, List, [], ◌∷◌, ◌++◌, true, ◌&&◌, ◌==◌, nat_lt, nat_le, Option, Some, None, IfSome, map, length, refl, sym, ◌∙◌, ap, subst, arith, inl, inr}
+use Rattle.std.proofs.lemmas.Bool.{cond_both, and_from, and_parts, lt-ltb, le-leb, leb-true, ltb-true}
+use Rattle.std.proofs.lemmas.List.{length_push, length-append}
 use Rattle.std.specs.Prelude.{slice_get}
-use Rattle.std.specs.Int.RustNames.{unsigned_abs}
-use Rattle.std.specs.List.{AllByRecursion, list_any, find, slice_index, slice_index_or}
-use Rattle.std.specs.Option.{option_map_or, option_or}
-use Rattle.std.specs.Fmt.{signed_decimal}
+use Rattle.std.specs.List.{AllByRecursion}
+use Rattle.std.specs.Option.{option_map_or}
 use Rattle.std.specs.declared.cmp.Ordering.TheVariants.{Less}
-use Rattle.lwb_base.specs.Profile.{Numbers, IsProfile, one, contended}
-use Rattle.link_trace.proofs.Orders.{tells_link, tells_loss, tells_cut, tells_capture}
-use Rattle.link_trace.specs.Order.{by_link, by_loss, by_cut, by_capture, with_line}
-use Rattle.link_trace.specs.Passes.{Lines, is_link, is_loss, is_cut, is_capture}
-use Rattle.link_trace.specs.Sealed.{no_lines}
-use Rattle.link_trace.specs.declared.lines.LinkLine.{LinkLine}
+use Rattle.lwb_base.specs.Profile.{Numbers, IsProfile}
+use Rattle.link_trace.proofs.Orders.{tells_loss, tells_cut, tells_capture}
+use Rattle.link_trace.specs.Order.{by_loss, by_cut, by_capture}
+use Rattle.link_trace.specs.Passes.{Lines, is_loss, is_cut, is_capture}
 use Rattle.link_trace.specs.declared.lines.LoseLine.{LoseLine}
 use Rattle.link_trace.specs.declared.lines.CutLine.{CutLine}
 use Rattle.link_trace.specs.declared.lines.CaptureLine.{CaptureLine}
-use Rattle.scenario_text.specs.FloodParts.{knows}
-use Rattle.scenario_text.specs.FloodDrafts.{Climbs, Rises, Follows}
-use Rattle.scenario_text.specs.Words.{has_minus, magnitude, number}
-use Rattle.scenario_text.specs.Network.{is_id, are_ends, last_rate, with_node, ppm}
-use Rattle.scenario_text.specs.Canonical.{numbered, node_words, rate_words, host_lines, link_words, script_words, act_words, loss_words, cut_words, capture_words}
-use Rattle.scenario_text.specs.ScenarioGrammar.{Scenario, last_tick, last_slot, line_in_range, line_knows_ids, line_in_order, line_is_new, line_has_room, in_script_order, is_step, last_script_line, with_scenario_line}
+use Rattle.scenario_text.specs.FloodDrafts.{Climbs}
+use Rattle.scenario_text.specs.Network.{is_id, are_ends}
+use Rattle.scenario_text.specs.Canonical.{script_words, act_words, loss_words, cut_words, capture_words}
+use Rattle.scenario_text.specs.ScenarioGrammar.{Scenario, last_slot, is_step, last_script_line, with_scenario_line}
 use Rattle.scenario_text.specs.ScenarioParts.{ScenarioParts}
-use Rattle.scenario_text.specs.declared.lines.NodeLine.{NodeLine}
 use Rattle.scenario_text.specs.declared.lines.RateLine.{RateLine}
-use Rattle.scenario_text.specs.declared.network_line.NetworkLine.TheVariants.{Sends, Node, Rate, Link}
-use Rattle.scenario_text.specs.declared.scenario_line.ScenarioLine.{ScenarioLine}
-use Rattle.scenario_text.specs.declared.scenario_line.ScenarioLine.TheVariants as line
 use Rattle.scenario_text.specs.declared.script.ScriptLine.{ScriptLine}
 use Rattle.scenario_text.specs.declared.script.Act.{Act}
 use Rattle.scenario_text.specs.declared.script.Act.TheVariants.{On, Off, Declare, Leave, Put}
-use Rattle.scenario_text.proofs.NodeIds.{with_node-put, put}
-use Rattle.scenario_text.proofs.NumbersBack.{ReadsSigned, signed_back, ReadsPayload, payload_back}
-use Rattle.scenario_text.proofs.LinesSaid.{Says, Small, says_profile, says_contend, says_frames, says_sends, says_node, says_rate, says_host, says_link, says_on, says_off, says_stream, says_leave, says_put, says_lose, says_cut, says_capture}
-use Rattle.scenario_text.proofs.LineRuns.{Step, step, Allowed, Goes, goes_list, goes_append, middle, front_all, climbs_before, climbs_front, with_line_last, none_among}
-use Rattle.scenario_text.proofs.CanonicalFacts.{Power, no_power, after_act, can_boot, power_after, Boots, mid, said_act, said_link, said_loss, said_cut, said_capture, Fits, HasBytes, FitsAct, IsNode, IsRateOf, IsHost, judge, KeepsRules}
-use Rattle.scenario_text.proofs.RatesKept.{map_all, last_holds, last_of}
+use Rattle.scenario_text.proofs.NumbersBack.{payload_back}
+use Rattle.scenario_text.proofs.LinesSaid.{Says, Small, says_on, says_off, says_stream, says_leave, says_put, says_lose, says_cut, says_capture}
+use Rattle.scenario_text.proofs.LineRuns.{Step, step, Allowed, Goes, goes_list, middle, climbs_before, with_line_last, none_among}
+use Rattle.scenario_text.proofs.CanonicalFacts.{Power, no_power, after_act, can_boot, power_after, Boots, mid, said_act, said_loss, said_cut, said_capture, Fits, HasBytes, FitsAct, judge, KeepsRules}
 use Rattle.scenario_text.proofs.CanonicalGoes.{small_id, small_ends, of_links}
 
 frame_small : (s : ScenarioParts) (f : ℕ) → KeepsRules s → nat_lt f s.frames ≡ true → Small f

@@ -1,5 +1,5 @@
 -- The lines and words of a rendered text are those that were rendered.
-use Rattle.std.proofs.Common.{◌≡◌, ℕ, zero, suc, ◌+◌, ◌-◌, ◌<◌, ◌≤◌, List, [], ◌∷◌, ◌++◌, Bool, true, false, nat_lt, ◌==◌, All, length, take, get_or, map, refl, sym, ◌∙◌, ap, arith}
+use Rattle.std.proofs.Common.{◌≡◌, ℕ, zero, suc, ◌-◌, ◌<◌, ◌≤◌, List, [], ◌∷◌, true, false, nat_lt, ◌==◌, All, length, take, map, refl, ◌∙◌, ap, arith}
 use Rattle.std.proofs.lemmas.Bool.{cond-true, cond-false, lt-ltb, ne_eqb, or_from}
 use Rattle.std.proofs.lemmas.List.{append_assoc}
 use Rattle.std.proofs.lemmas.List.Elements.{All-from_recursion}
@@ -9,7 +9,7 @@ use Rattle.std.specs.List.{AllByRecursion, slice_split, slice_index, join_with_b
 use Rattle.std.specs.Str.{IsAscii, is_utf8}
 use Rattle.std.specs.Str.Lines.{lines, lines_of_parts, strip_carriage_return}
 use Rattle.scenario_text.specs.Words.{words, is_blank}
-use Rattle.scenario_text.specs.Canonical.{line_text, render}
+use Rattle.scenario_text.specs.Canonical.{render}
 use Rattle.scenario_text.proofs.RatesKept.{map_all, all_append}
 use Rattle.scenario_text.proofs.LineFeeds.{part_is_line, is_feed}
 
