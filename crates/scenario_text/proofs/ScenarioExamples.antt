@@ -1,5 +1,5 @@
 -- The definition of a scenario's text, tried on small texts.
-use Rattle.std.proofs.Common.{◌≡◌, ℕ, pos, negsuc, List, [], ◌∷◌, ◌++◌, true, false, Some, None, Ok, Err, Result, Option, refl, codes, map}
+use Rattle.std.proofs.Common.{◌≡◌, ℕ, negsuc, List, [], ◌∷◌, ◌++◌, true, false, Some, Ok, Err, Result, refl, codes, map}
 use Rattle.std.specs.Str.{is_utf8, chars}
 use lib.Utf8.{encode}
 use Rattle.lwb_base.specs.Profile.{one, contended}
@@ -9,7 +9,7 @@ use Rattle.scenario_text.specs.Payloads.{is_payload, payload}
 use Rattle.scenario_text.specs.ScenarioParts.{ScenarioParts}
 use Rattle.scenario_text.specs.ScenarioGrammar.{scenario_of, after_line, scenario_line}
 use Rattle.scenario_text.specs.declared.fault.FaultKind.{FaultKind}
-use Rattle.scenario_text.specs.declared.fault.FaultKind.TheVariants.{NotUtf8, BadWord, BadNumber, Range, UnknownNode, Order, Twice, TooMany, Missing, TooBig}
+use Rattle.scenario_text.specs.declared.fault.FaultKind.TheVariants.{NotUtf8, BadWord, BadNumber, Range, UnknownNode, Order, Twice, Missing}
 use Rattle.scenario_text.specs.declared.script.Act.TheVariants as act
 
 payloads : map payload (codes "-" ∷ codes "aA0f" ∷ []) ≡ Some [] ∷ Some (170 ∷ 15 ∷ []) ∷ []
