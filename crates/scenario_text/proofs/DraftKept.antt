@@ -220,7 +220,7 @@ link_trace p fr ns t u v is ends known fresh = record {
   captures_climb = is.captures_climb;
 }
 
-ends_differ : (u v : ℕ) → are_ends u v ≡ true → u ≡ v → ⊥
+pub ends_differ : (u v : ℕ) → are_ends u v ≡ true → u ≡ v → ⊥
 ends_differ u v ends same = eqb-false u v (not-true (u == v) (and_parts (is_id u && is_id v) (not (u == v)) ends).1) same
 
 ends_back : (u v : ℕ) → are_ends u v ≡ true → are_ends v u ≡ true

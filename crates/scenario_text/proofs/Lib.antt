@@ -23,3 +23,4 @@ pub mod DraftFacts
 pub mod DraftKept
 pub mod RatesInTurn
 pub mod SaidParts
+pub mod SoundScenarios

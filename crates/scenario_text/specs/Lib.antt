@@ -10,3 +10,4 @@ pub mod ScenarioParts
 pub mod ScenarioGrammar
 pub mod Canonical
 pub mod ScenarioDrafts
+pub mod ScenarioFacts
