@@ -3,10 +3,6 @@ use Rattle.std.specs.Prelude.{◌≡◌, ◌≢◌, ◌*◌, ◌^◌, ◌<◌, �
 use Rattle.std.specs.Int.RustNames.{unsigned_abs}
 use Rattle.std.specs.List.{AllPairs}
 use Rattle.lwb_base.specs.Profile.{Numbers, IsProfile}
-use Rattle.link_trace.specs.declared.lines.LinkLine.{LinkLine}
-use Rattle.link_trace.specs.declared.lines.LoseLine.{LoseLine}
-use Rattle.link_trace.specs.declared.lines.CutLine.{CutLine}
-use Rattle.link_trace.specs.declared.lines.CaptureLine.{CaptureLine}
 use Rattle.scenario_text.specs.FloodParts.{knows}
 use Rattle.scenario_text.specs.ScenarioGrammar.{last_tick, last_slot}
 use Rattle.scenario_text.specs.ScenarioParts.{ScenarioParts}
