@@ -3,3 +3,5 @@ pub mod Meanings
 pub mod Spoken
 pub mod Beginning
 pub mod KeptWindows
+pub mod Answering
+pub mod HostPlanned

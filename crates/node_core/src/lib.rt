@@ -7,6 +7,7 @@ mod member;
 mod message;
 mod node;
 mod opening;
+mod planning;
 mod rows;
 mod stage;
 mod times;

@@ -106,7 +106,7 @@ fn relay<R: Radio>(profile: &Profile, now: u64, reply: Reply, radio: &mut R)
     }
 }
 
-fn rank_of(tune: Tune) -> Rank
+pub(crate) fn rank_of(tune: Tune) -> Rank
     ensures { result ≡ rank_in tune }
 {
     match tune {
