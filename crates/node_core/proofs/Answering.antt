@@ -1,11 +1,11 @@
 -- Requests that are put to a table, one after another, and acknowledgements in their places by code.
-use Rattle.std.proofs.Common.{◌≡◌, ◌≢◌, ℕ, zero, suc, ◌+◌, ◌-◌, ◌<◌, ◌≤◌, List, [], ◌∷◌, ◌++◌, Bool, true, false, not, ◌&&◌, ◌==◌, nat_lt, nat_le, cond, if◌then◌else◌, Some, None, length, get_or, set, take, fold, refl, sym, ◌∙◌, ap, subst, arith, eq-eqb, one-add}
+use Rattle.std.proofs.Common.{◌≡◌, ◌≢◌, ℕ, zero, suc, ◌+◌, ◌-◌, ◌<◌, ◌≤◌, List, [], ◌∷◌, ◌++◌, Bool, true, false, not, ◌==◌, nat_lt, nat_le, cond, if◌then◌else◌, Some, None, length, get_or, set, take, fold, refl, sym, ◌∙◌, ap, subst, arith, eq-eqb, one-add}
 use Rattle.std.specs.Option.{unwrap_or}
-use Rattle.std.specs.List.{All, insert, filter, list_all, position, position_or_len, slice_get}
+use Rattle.std.specs.List.{All, insert, list_all, position, position_or_len, slice_get}
 use Rattle.std.proofs.lemmas.List.{take_more, length-take}
 use Rattle.std.proofs.lemmas.List.Sums.{fold_more, prefix_len-le-length}
-use Rattle.std.proofs.lemmas.Bool.{ne_eqb, eqb-true, eqb-false, lt-ltb, le-ltb, ltb-true, ltb-false, leb-true, leb-false, and_parts, cond_both}
-use Rattle.std.proofs.lemmas.List.Elements.{All-cons, All-head, All-tail, All-nil, All-filter}
+use Rattle.std.proofs.lemmas.Bool.{ne_eqb, eqb-true, eqb-false, lt-ltb, le-ltb, ltb-false, leb-true, leb-false, and_parts, cond_both}
+use Rattle.std.proofs.lemmas.List.Elements.{All-cons, All-head, All-tail, All-filter}
 use Rattle.lwb_base.specs.Messages.{Ask, code, code_of, node_of, stream_of}
 use Rattle.schedule_codec.specs.AckLists.{are_acks, strictly_ascend, ask_in_range, may_follow, takes_ack}
 use Rattle.bus_rules.specs.Streams.{Streams}

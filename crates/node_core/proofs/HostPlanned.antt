@@ -8,7 +8,7 @@ use Rattle.lwb_base.specs.Messages.{Ask, Plan}
 use Rattle.bus_rules.specs.Streams.{Streams}
 use Rattle.bus_rules.specs.Tables.{Entry, Table}
 use Rattle.bus_rules.specs.Granting.{gap_of, total, owed_to, grant, grants_for, granted_by, share_in, given, last_code, plan_round, Grants}
-use Rattle.bus_rules.specs.HostPlans.{HostPlan, Answered, Served, answered, served, host_plan}
+use Rattle.bus_rules.specs.HostPlans.{HostPlan, Served, answered, served, host_plan}
 use Rattle.lwb_packets.specs.Ranges.{between}
 use Rattle.schedule_codec.specs.Spelling.{slot_fits, most_acks}
 use Rattle.bus_rules.specs.declared.tune.Tune.{Tune}

@@ -5,3 +5,4 @@ pub mod Beginning
 pub mod KeptWindows
 pub mod Answering
 pub mod HostPlanned
+pub mod Opened

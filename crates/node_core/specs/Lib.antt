@@ -4,5 +4,6 @@ pub mod Nodes
 pub mod Rows
 pub mod Runs
 pub mod Members
-pub mod Standing
 pub mod Planning
+pub mod Standing
+pub mod Openings

@@ -7,6 +7,7 @@ mod member;
 mod message;
 mod node;
 mod opening;
+mod opens;
 mod planning;
 mod rows;
 mod stage;

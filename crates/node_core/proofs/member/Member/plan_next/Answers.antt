@@ -1,18 +1,16 @@
 use Rattle.std.proofs.Common.{◌≡◌, ◌≤◌, ◌+◌, Some, true, ℕ, List, [], length, ◌∙◌, sym, ap, subst, arith}
-use Rattle.lwb_base.specs.Messages.{Ask, Plan}
-use Rattle.bus_rules.specs.Streams.{Streams}
-use Rattle.bus_rules.specs.Tables.{Table}
-use Rattle.bus_rules.specs.HostPlans.{HostPlan, answered, host_plan}
+use Rattle.lwb_base.specs.Messages.{Ask}
+use Rattle.bus_rules.specs.HostPlans.{HostPlan, answered}
 use Rattle.bus_rules.specs.Plans.{last_slot}
 use Rattle.bus_rules.specs.Tuning.{Tuning, rank_of, hosts, with_due}
 use Rattle.bus_rules.specs.declared.tune.Tune.{Tune}
 use Rattle.bus_rules.specs.declared.tune.Tune.TheVariants.{Host}
 use Rattle.schedule_codec.specs.Spelling.{most_acks}
 use Rattle.node_core.specs.Members.{Member}
-use Rattle.bus_rules.specs.Slots.{Opened, planned, ScheduleOf}
+use Rattle.bus_rules.specs.Slots.{ScheduleOf}
 use Rattle.node_core.specs.Planning.{IsEarly}
 use Rattle.node_core.specs.Said.{said_in}
-use Rattle.node_core.proofs.HostPlanned.{is_plan, made, plan_early, gap_in_range, closing_fits, acks_fit, contend_few, host_due}
+use Rattle.node_core.proofs.HostPlanned.{is_plan, plan_early, gap_in_range, closing_fits, acks_fit, contend_few, host_due}
 use Rattle.node_core.proofs.member.Member.plan_next.Goals as goal
 
 pub write-requires : goal.write-requires
