@@ -94,7 +94,7 @@ impl Node {
 }
 
 // A relay begins a turnaround after the end of the hearing.
-fn relay<R: Radio>(profile: &Profile, now: u64, reply: Reply, radio: &mut R)
+pub(crate) fn relay<R: Radio>(profile: &Profile, now: u64, reply: Reply, radio: &mut R)
     requires now { now < 2 ^ 46 }
     requires room { 1 ≤ R.room radio.old }
     ensures { Gives (R.given radio.old) (R.given radio.new) (R.room radio.old) (R.room radio.new) (relaying profile.now now reply) }
@@ -106,7 +106,7 @@ fn relay<R: Radio>(profile: &Profile, now: u64, reply: Reply, radio: &mut R)
     }
 }
 
-fn rank_of(tune: Tune) -> Rank
+pub(crate) fn rank_of(tune: Tune) -> Rank
     ensures { result ≡ rank_in tune }
 {
     match tune {
