@@ -4,7 +4,7 @@ use Rattle.std.specs.List.{list_all}
 use Rattle.lwb_base.specs.Messages.{Plan}
 use Rattle.lwb_packets.specs.Requests.{InRange}
 use Rattle.schedule_codec.specs.AckLists.{ask_in_range}
-use Rattle.schedule_codec.specs.Spelling.{most_acks}
+use Rattle.schedule_codec.specs.Spelling.{most_acks, slot_fits}
 use Rattle.bus_rules.specs.Tuning.{hosts}
 use Rattle.bus_rules.specs.Cores.{Core, Setup}
 use Rattle.bus_rules.specs.Slots.{most_kept}
@@ -34,8 +34,8 @@ pub record IsMember (s : Setup) (c : Core) (joined : Bool) : Type 0 where
   pub few : length c.kept ≤ most_kept s.profile
   pub kept : list_all ask_in_range c.kept ≡ true
 
--- what was read is in its ranges
-abbrev pub IsHeard : Heard → Type 0
-IsHeard (Schedule s) = IsPlan s.plan × IsBoot s.plan.boot
-IsHeard (Data d) = ⊤
-IsHeard (Request r) = InRange r
+-- what was read in this slot is in its ranges
+abbrev pub IsHeard : ℕ → Heard → Type 0
+IsHeard slot (Schedule s) = IsPlan s.plan × IsBoot s.plan.boot × (slot_fits s.gap s.plan.contend slot ≡ true)
+IsHeard slot (Data d) = ⊤
+IsHeard slot (Request r) = InRange r
