@@ -5,3 +5,4 @@ pub mod Rows
 pub mod Runs
 pub mod Members
 pub mod Standing
+pub mod Closings

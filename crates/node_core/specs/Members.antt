@@ -34,8 +34,14 @@ pub record IsMember (s : Setup) (c : Core) (joined : Bool) : Type 0 where
   pub few : length c.kept ≤ most_kept s.profile
   pub kept : list_all ask_in_range c.kept ≡ true
 
--- what was read in this slot is in its ranges
-abbrev pub IsHeard : ℕ → Heard → Type 0
-IsHeard slot (Schedule s) = IsPlan s.plan × IsBoot s.plan.boot × (slot_fits s.gap s.plan.contend slot ≡ true)
-IsHeard slot (Data d) = ⊤
-IsHeard slot (Request r) = InRange r
+-- what was read is in its ranges
+abbrev pub IsHeard : Heard → Type 0
+IsHeard (Schedule s) = IsPlan s.plan × IsBoot s.plan.boot
+IsHeard (Data d) = ⊤
+IsHeard (Request r) = InRange r
+
+-- a schedule was read in a slot that it may stand in
+abbrev pub StandsIn : ℕ → Heard → Type 0
+StandsIn slot (Schedule s) = slot_fits s.gap s.plan.contend slot ≡ true
+StandsIn slot (Data d) = ⊤
+StandsIn slot (Request r) = ⊤

@@ -2,6 +2,8 @@
 #![tactic(auto)]
 
 mod closing;
+mod effects;
+mod ending;
 mod hearing;
 mod kept;
 mod member;

@@ -1,0 +1,15 @@
+-- The row of an alarm in a window, by the stage of the node.
+use Rattle.std.specs.Prelude.{Some, None}
+use Rattle.std.specs.declared.option.Option.{Option}
+use Rattle.bus_rules.specs.Cores.{Setup}
+use Rattle.node_core.specs.declared.stage.Stage.{Stage}
+use Rattle.node_core.specs.declared.stage.Stage.TheVariants.{Idle, Scanning, AwaitFrame, AwaitSlot, InWindow}
+use Rattle.node_core.specs.Nodes.{Node}
+use Rattle.node_core.specs.Rows.{Stepped, window_closes}
+
+abbrev pub at_closing : Setup → Node → Stage → Option Stepped
+at_closing s n (InWindow j w) = Some (window_closes s n j w)
+at_closing s n Idle = None
+at_closing s n Scanning = None
+at_closing s n AwaitFrame = None
+at_closing s n (AwaitSlot j) = None
