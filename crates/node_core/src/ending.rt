@@ -92,10 +92,10 @@ fn zero_by(profile: &Profile, zero: u64, reference: Option<u64>, accepted: &Opti
     ensures range { result < 2 ^ 47 }
 {
     match (reference, accepted) {
-        (Some(reference), Some(Heard::Schedule(schedule))) => Reference::with_zero(
-            profile, reference,
-        ).next_round(schedule.gap)
-            .zero(),
+        (Some(taken), Some(Heard::Schedule(schedule))) => {
+            let reference = Reference::with_zero(profile, taken);
+            reference.next_round(schedule.gap).zero()
+        }
         _ => zero,
     }
 }
