@@ -30,7 +30,7 @@ pub record IsMember (s : Setup) (c : Core) (joined : Bool) : Type 0 where
   pub boot : IsBoot c.boot
   pub fresh : joined ≡ is_some c.own_slot
   pub plan : IsPlan c.plan
-  pub hosted : hosts c.tune ≡ true → IsBoot c.plan.boot
+  pub hosted : hosts c.tune ≡ true → IsBoot c.plan.boot × (c.plan.contend ≡ s.profile.contend)
   pub few : length c.kept ≤ most_kept s.profile
   pub kept : list_all ask_in_range c.kept ≡ true
 

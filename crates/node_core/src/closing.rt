@@ -2,6 +2,7 @@
 
 ghost use Rattle.std.specs.Prelude.{◌≡◌, ◌≤◌, ◌+◌, ◌%◌, ◌==◌, true, false, Some, if◌then◌else◌};
 ghost use Rattle.schedule_codec.specs.AckLists.{ask_in_range};
+ghost use Rattle.bus_rules.specs.Tuning.{hosts};
 ghost use Rattle.bus_rules.specs.Cores.{schedule_accepted, opening_accepted, closing_accepted};
 ghost use Rattle.bus_rules.specs.Slots.{slot_heard, closed, RequestOf};
 ghost use Rattle.bus_rules.specs.declared.part.Part.TheVariants.{Contention};
@@ -13,9 +14,10 @@ use bus_rules::Part;
 use schedule_codec::{Ack, Schedule};
 
 impl Member {
-    // A schedule was accepted in this frame.
+    // A schedule was accepted in this frame, by a node that does not host.
     pub(crate) fn accept(&mut self, frame: u32, schedule: Schedule)
         requires frame { frame ≤ 16777215 }
+        requires host { hosts self.old.core.tune ≡ false }
         requires plan { IsPlan schedule.plan }
         requires boot { IsBoot schedule.plan.boot }
         ensures { self.new ≡ record self.old { core = schedule_accepted self.old.setup.id frame schedule self.old.core } }

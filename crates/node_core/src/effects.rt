@@ -6,7 +6,9 @@ ghost use Rattle.lwb_packets.specs.Requests.{InRange};
 ghost use Rattle.schedule_codec.specs.AckLists.{ask_in_range};
 ghost use Rattle.bus_rules.specs.Slots.{closed};
 ghost use Rattle.bus_rules.specs.Tuning.{rank_of as rank_in};
+ghost use Rattle.node_core.specs.Closings.{MayAccept};
 ghost use Rattle.node_core.specs.Members.{IsHeard};
+ghost use Rattle.node_core.specs.Planning.{IsEarly};
 ghost use Rattle.node_core.specs.Rows.{delivery_of};
 ghost use Rattle.node_core.specs.Said.{meaning};
 
@@ -29,8 +31,11 @@ impl Member {
     ) -> Option<Delivery>
         requires frame { frame ≤ 16777215 }
         requires ranges { IfSome accepted IsHeard }
+        requires host { MayAccept self.old.core (option_map meaning accepted) }
+        requires early { IsEarly frame self.old.core.table }
         ensures core { self.new ≡ record self.old { core = (closed self.old.setup frame part initiated self.old.core (option_map meaning accepted)).core } }
         ensures delivery { result ≡ option_map (delivery_of self.old.setup frame (rank_in self.old.core.tune) slot) (closed self.old.setup frame part initiated self.old.core (option_map meaning accepted)).delivered }
+        ensures early { IsEarly frame self.new.core.table }
     {
         match accepted {
             Some(Heard::Schedule(schedule)) => {

@@ -7,7 +7,8 @@ ghost use Rattle.node_core.specs.Closings.{at_closing};
 ghost use Rattle.node_core.specs.Members.{IsHeard};
 ghost use Rattle.node_core.specs.Rows.{accepted_in, goes_on, window_closes, zero_by as zero_taken};
 ghost use Rattle.node_core.specs.Said.{meaning};
-ghost use Rattle.node_core.specs.Standing.{Follows, Gives, IsWindow};
+ghost use Rattle.node_core.specs.Standing.{Follows, Gives, HostsIn, IsOwn, IsWindow};
+ghost use Rattle.node_core.specs.declared.stage.Stage.TheVariants.{InWindow};
 
 use crate::message::{Heard, message_in};
 use crate::node::Node;
@@ -34,6 +35,7 @@ impl Node {
     // What this window accepted takes effect, and then the node goes on.
     fn close<R: Radio>(&mut self, slot: u8, window: &Window, radio: &mut R)
         requires window { IsWindow self.old.node.core slot window.now }
+        requires hosted { HostsIn self.old.node.frame self.old.node.core (InWindow slot window.now) }
         requires room { 2 ≤ R.room radio.old }
         ensures node { self.new ≡ record self.old { node = (window_closes self.old.setup self.old.node slot window.now).node; delivery = (window_closes self.old.setup self.old.node slot window.now).delivery } }
         ensures orders { Gives (R.given radio.old) (R.given radio.new) (R.room radio.old) (R.room radio.new) (window_closes self.old.setup self.old.node slot window.now).orders }
@@ -54,6 +56,7 @@ impl Node {
     // After the window of this slot of a round that ends with the last.
     fn go_on<R: Radio>(&mut self, slot: u8, last: u8, radio: &mut R)
         requires next { slot < last → slot + 1 ≤ last_slot self.old.node.core.plan }
+        requires own { slot < last → IsOwn self.old.node.frame self.old.node.core }
         requires room { 2 ≤ R.room radio.old }
         ensures node { self.new ≡ record self.old { node = (goes_on self.old.setup slot last self.old.node self.old.delivery).node } }
         ensures orders { Gives (R.given radio.old) (R.given radio.new) (R.room radio.old) (R.room radio.new) (goes_on self.old.setup slot last self.old.node self.old.delivery).orders }

@@ -1,8 +1,9 @@
 //! The rows of the node table in which a packet is heard.
 
-ghost use Rattle.std.specs.Prelude.{◌≡◌, ◌≤◌, ◌<◌, ◌^◌, Some, None, true};
+ghost use Rattle.std.specs.Prelude.{◌≡◌, ◌≤◌, ◌<◌, ◌^◌, Some, None, true, false};
 ghost use Rattle.schedule_codec.specs.Spelling.{slot_fits};
 ghost use Rattle.glossy_relay.specs.Relaying.{slot_of};
+ghost use Rattle.bus_rules.specs.Tuning.{hosts};
 ghost use Rattle.node_core.specs.Said.{message_of};
 ghost use Rattle.node_core.specs.Rows.{at_heard, in_window, joins, last_by as last_slot_by, part_by as part_of_slot_by, scanner_hears};
 ghost use Rattle.node_core.specs.Standing.{Follows, Gives};
@@ -36,6 +37,7 @@ impl Node {
 
     // Heard schedule while scanning. Another packet fits no row.
     fn hear_while_scanning<R: Radio>(&mut self, now: u64, packet: &Packet, radio: &mut R)
+        requires host { hosts self.old.node.core.tune ≡ false }
         requires now { now < 2 ^ 46 }
         requires room { 2 ≤ R.room radio.old }
         ensures { Follows self.old self.new (R.given radio.old) (R.given radio.new) (R.room radio.old) (R.room radio.new) (scanner_hears self.old.setup self.old.node now packet.now (message_of packet.now)) }
@@ -52,6 +54,7 @@ impl Node {
 
     // The schedule of this packet is the first that a scanner heard.
     fn join<R: Radio>(&mut self, now: u64, packet: &Packet, schedule: &Schedule, radio: &mut R)
+        requires host { hosts self.old.node.core.tune ≡ false }
         requires now { now < 2 ^ 46 }
         requires contend { schedule.now.plan.contend ≤ 4 }
         requires place { slot_fits schedule.now.gap schedule.now.plan.contend (slot_of packet.now) ≡ true }

@@ -10,6 +10,8 @@ mod member;
 mod message;
 mod node;
 mod opening;
+mod opens;
+mod planning;
 mod rows;
 mod stage;
 mod times;

@@ -4,7 +4,7 @@ ghost use Rattle.std.specs.Prelude.{◌≡◌, ◌≤◌, ◌<◌, ◌^◌, ◌=
 ghost use Rattle.node_core.specs.declared.stage.Stage.TheVariants.{AwaitFrame, AwaitSlot};
 ghost use Rattle.node_core.specs.Rows.{boots, frame_alarms, waits, at_sent, in_window, relaying};
 ghost use Rattle.bus_rules.specs.Tuning.{rank_of as rank_in};
-ghost use Rattle.node_core.specs.Standing.{Gives, Follows};
+ghost use Rattle.node_core.specs.Standing.{Gives, Follows, IsDue};
 
 use crate::node::Node;
 use crate::stage::Stage;
@@ -59,7 +59,8 @@ impl Node {
 
     // It waits for slot 0 where the round is due in this frame, else for the end of the frame.
     fn wait_for<R: Radio>(&mut self, due: u32, radio: &mut R)
-        requires { 2 ≤ R.room radio.old }
+        requires room { 2 ≤ R.room radio.old }
+        requires due { IsDue due self.old.node.core.tune }
         ensures node { self.new ≡ record self.old { node = record self.old.node { stage = if due == self.old.node.frame then AwaitSlot 0 else AwaitFrame } } }
         ensures orders { Gives (R.given radio.old) (R.given radio.new) (R.room radio.old) (R.room radio.new) (waits self.old.setup.profile due self.old.node.frame self.old.node.zero) }
     {
