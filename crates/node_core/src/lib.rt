@@ -14,6 +14,7 @@ mod opens;
 mod planning;
 mod rows;
 mod stage;
+mod step;
 mod times;
 mod window;
 
