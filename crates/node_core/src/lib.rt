@@ -1,9 +1,8 @@
 //! The core of a node: what it does and orders at each event, over any clock and any radio.
 #![tactic(auto)]
 
+mod closes;
 mod closing;
-mod effects;
-mod ending;
 mod hearing;
 mod kept;
 mod member;
