@@ -6,3 +6,4 @@ pub mod KeptWindows
 pub mod Answering
 pub mod HostPlanned
 pub mod Opened
+pub mod KeptTables

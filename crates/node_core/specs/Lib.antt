@@ -7,3 +7,4 @@ pub mod Members
 pub mod Planning
 pub mod Standing
 pub mod Openings
+pub mod Closings

@@ -4,7 +4,7 @@ use Rattle.std.specs.List.{list_all}
 use Rattle.lwb_base.specs.Messages.{Plan}
 use Rattle.lwb_packets.specs.Requests.{InRange}
 use Rattle.schedule_codec.specs.AckLists.{ask_in_range}
-use Rattle.schedule_codec.specs.Spelling.{most_acks}
+use Rattle.schedule_codec.specs.Spelling.{most_acks, slot_fits}
 use Rattle.bus_rules.specs.Tuning.{hosts}
 use Rattle.bus_rules.specs.Cores.{Core, Setup}
 use Rattle.bus_rules.specs.Slots.{most_kept}
@@ -39,3 +39,9 @@ abbrev pub IsHeard : Heard → Type 0
 IsHeard (Schedule s) = IsPlan s.plan × IsBoot s.plan.boot
 IsHeard (Data d) = ⊤
 IsHeard (Request r) = InRange r
+
+-- a schedule was read in a slot that it may stand in
+abbrev pub StandsIn : ℕ → Heard → Type 0
+StandsIn slot (Schedule s) = slot_fits s.gap s.plan.contend slot ≡ true
+StandsIn slot (Data d) = ⊤
+StandsIn slot (Request r) = ⊤

@@ -15,7 +15,7 @@ use lwb_base::{Packet, Profile, Radio, Rank};
 
 impl Node {
     // Boot.
-    fn boot<R: Radio>(&mut self, now: u64, radio: &mut R)
+    pub(crate) fn boot<R: Radio>(&mut self, now: u64, radio: &mut R)
         requires now { now < 2 ^ 46 }
         requires room { 2 ≤ R.room radio.old }
         ensures node { self.new ≡ record self.old { node = (boots self.old.setup self.old.node now).node; delivery = None } }
@@ -31,7 +31,7 @@ impl Node {
     }
 
     // Frame alarm, and quiet ends where the node begins to host.
-    fn end_frame<R: Radio>(&mut self, radio: &mut R)
+    pub(crate) fn end_frame<R: Radio>(&mut self, radio: &mut R)
         requires { 2 ≤ R.room radio.old }
         ensures node { self.new ≡ record self.old { node = (frame_alarms self.old.setup self.old.node).node; delivery = None } }
         ensures orders { Gives (R.given radio.old) (R.given radio.new) (R.room radio.old) (R.room radio.new) (frame_alarms self.old.setup self.old.node).orders }
@@ -75,7 +75,7 @@ impl Node {
     }
 
     // Sent, where the flood of a window waits for it.
-    fn end_sending<R: Radio>(&mut self, radio: &mut R)
+    pub(crate) fn end_sending<R: Radio>(&mut self, radio: &mut R)
         requires { 1 ≤ R.room radio.old }
         ensures { Follows self.old self.new (R.given radio.old) (R.given radio.new) (R.room radio.old) (R.room radio.new) (at_sent self.old.node self.old.node.stage) }
     {
@@ -95,7 +95,7 @@ impl Node {
 }
 
 // A relay begins a turnaround after the end of the hearing.
-fn relay<R: Radio>(profile: &Profile, now: u64, reply: Reply, radio: &mut R)
+pub(crate) fn relay<R: Radio>(profile: &Profile, now: u64, reply: Reply, radio: &mut R)
     requires now { now < 2 ^ 46 }
     requires room { 1 ≤ R.room radio.old }
     ensures { Gives (R.given radio.old) (R.given radio.new) (R.room radio.old) (R.room radio.new) (relaying profile.now now reply) }
