@@ -3,4 +3,5 @@ pub mod FloodBySteps
 pub mod Windows
 pub mod TwoNodes
 pub mod FloodLog
+pub mod ClockLists
 pub mod RunOnAir
