@@ -15,3 +15,4 @@ pub mod TwoNodeRun
 pub mod LogEntries
 pub mod FloodLogRun
 pub mod LogOutcome
+pub mod LogReading
