@@ -1,36 +1,39 @@
 -- What each line keeps true of a draft.
-use Rattle.std.proofs.Common.{◌≡◌, ℕ, ◌+◌, ◌<◌, ◌≤◌, List, [], ◌∷◌, Bool, true, false, not, ◌&&◌, ◌==◌, nat_lt, nat_le, cond, Option, Some, None, is_none, Result, Ok, Err, IfOk, IfSome, length, refl, sym, ◌∙◌, ap, subst, arith}
+use Rattle.std.proofs.Common.{◌≡◌, ℕ, ◌<◌, ◌≤◌, ◌^◌, List, [], ◌∷◌, Bool, true, false, not, ◌&&◌, nat_lt, nat_le, cond, Option, Some, None, Result, Ok, Err, IfOk, IfSome, length, refl, sym, subst, arith}
 use Rattle.std.proofs.lemmas.Bool.{and_parts, leb-true, ltb-true, not-true, cond_both}
 use Rattle.std.proofs.lemmas.List.Elements.{All-from_recursion}
 use Rattle.std.proofs.lemmas.Option.{IfSome_then, cond_some}
-use Rattle.std.specs.List.{AllByRecursion}
+use Rattle.std.specs.Int.RustNames.{unsigned_abs}
+use Rattle.std.specs.Option.{option_map_or}
 use Rattle.std.specs.Str.{is_utf8}
-use Rattle.scenario_text.specs.FloodParts.{FloodParts, IsSound, knows}
+use Rattle.scenario_text.specs.FloodParts.{IsSound, knows}
 use Rattle.scenario_text.specs.Words.{words, is_skipped}
-use Rattle.scenario_text.specs.Network.{Drafted, Parts, network_fault, with_line, network_parts, rates_by_node, is_id}
+use Rattle.scenario_text.specs.Network.{Drafted, Parts, network_fault, with_line, with_node, network_parts, rates_by_node, is_id, last_rate, ppm}
 use Rattle.scenario_text.specs.FloodGrammar.{Flood, rule_fault, with_flood_line, after_spelled, after_words, after_line, flood_line, flood_numbers, no_flood}
 use Rattle.scenario_text.specs.Faults.{unless_fault}
-use Rattle.scenario_text.specs.FloodDrafts.{Rises, IsNetwork, IsFlood}
+use Rattle.scenario_text.specs.FloodDrafts.{Rises, IsRate, IsNetwork, IsFlood}
 use Rattle.scenario_text.specs.declared.fault.FaultKind.{FaultKind}
-use Rattle.scenario_text.specs.declared.fault.FaultKind.TheVariants.{NotUtf8, BadWord, BadNumber, Range, UnknownNode, Order, Twice, TooMany, Missing}
+use Rattle.scenario_text.specs.declared.fault.FaultKind.TheVariants.{NotUtf8, BadNumber, Range, UnknownNode, Order, Twice, TooMany}
 use Rattle.scenario_text.specs.declared.flood_line.FloodLine.{FloodLine}
 use Rattle.scenario_text.specs.declared.flood_line.FloodLine.TheVariants.{InNetwork, Lose, Start}
 use Rattle.scenario_text.specs.declared.lines.NodeLine.{NodeLine}
+use Rattle.scenario_text.specs.declared.lines.RateLine.{RateLine}
 use Rattle.scenario_text.specs.declared.network_line.NetworkLine.{NetworkLine}
 use Rattle.scenario_text.specs.declared.network_line.NetworkLine.TheVariants.{Sends, Node, Rate, Link, Pair}
 use Rattle.scenario_text.proofs.NodeIds.{with_node-all, with_node-rises, with_node-length, with_node-knows, pairs_rise}
+use Rattle.scenario_text.proofs.RatesKept.{map_all, later_all, all_append, follows_more, all_by_node, each_ascends, ppm_small}
 
 -- a test that makes no fault, and those behind it
 pub passed : (b : Bool) (k : FaultKind) (others : Option FaultKind) → cond b others (Some k) ≡ None → (b ≡ true) × (others ≡ None)
 passed true k others is = (refl, is)
 passed false k others is = cc
 
-pub network_keeps : (last : ℕ) (d : Drafted) (l : NetworkLine) → IsNetwork d → network_fault last d l ≡ None → IsNetwork (with_line d l)
-network_keeps last d (Sends x) sound none =
+pub network_keeps : (last : ℕ) (d : Drafted) (l : NetworkLine) → last < 2 ^ 47 → IsNetwork d → network_fault last d l ≡ None → IsNetwork (with_line d l)
+network_keeps last d (Sends x) early sound none =
     let range = passed (nat_le 1 x && nat_le x 4) Range _ none in
     let ends = and_parts (nat_le 1 x) (nat_le x 4) range.0 in
-    record { sends = (leb-true _ _ ends.0, leb-true _ _ ends.1); few_nodes = sound.few_nodes; rises = sound.rises; offsets = sound.offsets }
-network_keeps last d (Node i o) sound none =
+    record { sends = (leb-true _ _ ends.0, leb-true _ _ ends.1); few_nodes = sound.few_nodes; rises = sound.rises; offsets = sound.offsets; follows = sound.follows; rates = sound.rates }
+network_keeps last d (Node i o) early sound none =
     let n : NodeLine = record { node = i; offset = o } in
     let range = passed (is_id i && nat_le o 256000) Range _ none in
     let fresh = passed (not (knows d.nodes i)) Twice _ range.1 in
@@ -41,10 +44,28 @@ network_keeps last d (Node i o) sound none =
       few_nodes = omega (arith, few, with_node-length n d.nodes sound.rises);
       rises = with_node-rises n d.nodes (not-true _ fresh.0) sound.rises;
       offsets = with_node-all (λ m. m.offset ≤ 256000) n d.nodes sound.rises (leb-true _ _ (and_parts (is_id i) (nat_le o 256000) range.0).1) sound.offsets;
+      follows = sound.follows;
+      rates = map_all (IsRate d.nodes) (IsRate (with_node n d.nodes)) d.rates
+          (λ r is. record { known = with_node-knows n r.node d.nodes sound.rises is.known; early = is.early; small = is.small }) sound.rates;
     }
-network_keeps last d (Rate i t slow p) sound none = record { sends = sound.sends; few_nodes = sound.few_nodes; rises = sound.rises; offsets = sound.offsets }
-network_keeps last d (Link u v) sound none = record { sends = sound.sends; few_nodes = sound.few_nodes; rises = sound.rises; offsets = sound.offsets }
-network_keeps last d (Pair u v) sound none = record { sends = sound.sends; few_nodes = sound.few_nodes; rises = sound.rises; offsets = sound.offsets }
+network_keeps last d (Rate i t slow p) early sound none =
+    let r : RateLine = record { node = i; from = t; ppm = ppm slow p } in
+    let range = passed (is_id i && nat_le t last && nat_le p 20) Range _ none in
+    let known = passed (knows d.nodes i) UnknownNode _ range.1 in
+    let order = passed (option_map_or (λ r. nat_lt r.from t) (last_rate d.rates i) true) Order _ known.1 in
+    let ends = and_parts (is_id i && nat_le t last) (nat_le p 20) range.0 in
+    let tick = leb-true t last (and_parts (is_id i) (nat_le t last) ends.0).1 in
+    record {
+      sends = sound.sends;
+      few_nodes = sound.few_nodes;
+      rises = sound.rises;
+      offsets = sound.offsets;
+      follows = follows_more d.rates r sound.follows (later_all d.rates i t sound.follows order.0);
+      rates = all_append (IsRate d.nodes) d.rates (r ∷ []) sound.rates
+          (record { known = known.0; early = omega (arith, tick, early); small = ppm_small slow p (leb-true p 20 ends.1) }, tt);
+    }
+network_keeps last d (Link u v) early sound none = record { sends = sound.sends; few_nodes = sound.few_nodes; rises = sound.rises; offsets = sound.offsets; follows = sound.follows; rates = sound.rates }
+network_keeps last d (Pair u v) early sound none = record { sends = sound.sends; few_nodes = sound.few_nodes; rises = sound.rises; offsets = sound.offsets; follows = sound.follows; rates = sound.rates }
 
 -- a node that is known stays so
 nodes_stay : (d : Drafted) (l : NetworkLine) (v : ℕ) → Rises d.nodes → knows d.nodes v ≡ true → knows (with_line d l).nodes v ≡ true
@@ -56,12 +77,12 @@ nodes_stay d (Pair a b) v rises known = known
 
 flood_keeps : (f : Flood) (l : FloodLine) → IsFlood f → rule_fault f l ≡ None → IsFlood (with_flood_line f l)
 flood_keeps f (InNetwork l) sound none = record {
-  network = network_keeps 1048576000000 f.network l sound.network none;
+  network = network_keeps 1048576000000 f.network l (omega arith) sound.network none;
   start_known = IfSome_then f.start sound.start_known (λ i known. nodes_stay f.network l i sound.network.rises known);
 }
 flood_keeps f (Lose k u v) sound none =
     let n = sound.network in
-    record { network = record { sends = n.sends; few_nodes = n.few_nodes; rises = n.rises; offsets = n.offsets }; start_known = sound.start_known }
+    record { network = record { sends = n.sends; few_nodes = n.few_nodes; rises = n.rises; offsets = n.offsets; follows = n.follows; rates = n.rates }; start_known = sound.start_known }
 flood_keeps f (Start i) sound none =
     let range = passed (is_id i) Range _ none in
     let known = passed (knows f.network.nodes i) UnknownNode _ range.1 in
@@ -89,7 +110,7 @@ pub read_keeps : (f g : Flood) (line : List ℕ) → IsFlood f → after_line f 
 read_keeps f g line sound is = at_ok IsFlood (after_line f line) g is (line_keeps f line sound)
 
 pub nothing_sound : IsFlood no_flood
-nothing_sound = record { network = record { sends = tt; few_nodes = omega arith; rises = tt; offsets = tt }; start_known = tt }
+nothing_sound = record { network = record { sends = tt; few_nodes = omega arith; rises = tt; offsets = tt; follows = tt; rates = tt }; start_known = tt }
 
 abbrev parts_at : Drafted → ℕ → Parts
 parts_at d n = record { sends = n; nodes = d.nodes; rates = rates_by_node d.nodes d.rates; trace = d.trace }
@@ -109,6 +130,13 @@ parts_sound d (Some n) p s sound few known is =
       ascending = pairs_rise d.nodes sound.rises;
       offsets = All-from_recursion (λ (m : NodeLine). m.offset ≤ 256000) d.nodes sound.offsets;
       start_known = known;
+      rates_known = All-from_recursion (λ (r : RateLine). knows d.nodes r.node ≡ true) (rates_by_node d.nodes d.rates)
+          (all_by_node (λ r. knows d.nodes r.node ≡ true) d.nodes d.rates (map_all (IsRate d.nodes) (λ r. knows d.nodes r.node ≡ true) d.rates (λ r is. is.known) sound.rates));
+      rates_ascend = λ i. each_ascends d.nodes d.rates i sound.rises sound.follows;
+      rates_early = All-from_recursion (λ (r : RateLine). r.from < 2 ^ 47) (rates_by_node d.nodes d.rates)
+          (all_by_node (λ r. r.from < 2 ^ 47) d.nodes d.rates (map_all (IsRate d.nodes) (λ r. r.from < 2 ^ 47) d.rates (λ r is. is.early) sound.rates));
+      rates_small = All-from_recursion (λ (r : RateLine). unsigned_abs r.ppm ≤ 20) (rates_by_node d.nodes d.rates)
+          (all_by_node (λ r. unsigned_abs r.ppm ≤ 20) d.nodes d.rates (map_all (IsRate d.nodes) (λ r. unsigned_abs r.ppm ≤ 20) d.rates (λ r is. is.small) sound.rates));
     })
 
 pub at_start : (P : ℕ → Type 0) (o : Option ℕ) (i : ℕ) → o ≡ Some i → IfSome o P → P i

@@ -5,6 +5,7 @@ pub mod ScenarioExamples
 pub mod LineFeeds
 pub mod LinesRead
 pub mod NodeIds
+pub mod RatesKept
 pub mod FloodKeeps
 pub mod ScenarioKeeps
 pub mod LinksBack

@@ -1,5 +1,6 @@
 -- Internal: what is true of each draft.
-use Rattle.std.specs.Prelude.{◌≡◌, ◌<◌, ◌≤◌, ℕ, List, [], ◌∷◌, true, length, IfSome, Result, Ok, Err}
+use Rattle.std.specs.Prelude.{◌≡◌, ◌<◌, ◌≤◌, ◌^◌, ℕ, List, [], ◌∷◌, true, length, IfSome, Result, Ok, Err}
+use Rattle.std.specs.Int.RustNames.{unsigned_abs}
 use Rattle.std.specs.List.{AllByRecursion}
 use Rattle.scenario_text.specs.FloodParts.{knows}
 use Rattle.scenario_text.specs.FloodGrammar.{Flood}
@@ -8,17 +9,31 @@ use Rattle.scenario_text.specs.declared.fault.ParseFault.{ParseFault}
 use Rattle.scenario_text.specs.declared.fault.ParseFault.TheVariants.{Line, Memory}
 use Rattle.scenario_text.specs.Network.{Drafted}
 use Rattle.scenario_text.specs.declared.lines.NodeLine.{NodeLine}
+use Rattle.scenario_text.specs.declared.lines.RateLine.{RateLine}
 
 -- the ids ascend
 abbrev pub Rises : List NodeLine → Type 0
 Rises [] = Unit {0}
 Rises (n ∷ ns) = AllByRecursion (λ m. n.node < m.node) ns × Rises ns
 
+-- of two rates of one node the later begins later
+abbrev pub Follows : List RateLine → Type 0
+Follows [] = Unit {0}
+Follows (r ∷ rs) = AllByRecursion (λ s. r.node ≡ s.node → r.from < s.from) rs × Follows rs
+
+-- the rate is of one of these nodes, and its tick and millionths are in range
+pub record IsRate (ns : List NodeLine) (r : RateLine) : Type 0 where
+  pub known : knows ns r.node ≡ true
+  pub early : r.from < 2 ^ 47
+  pub small : unsigned_abs r.ppm ≤ 20
+
 pub record IsNetwork (d : Drafted) : Type 0 where
   pub sends : IfSome d.sends (λ n. (1 ≤ n) × (n ≤ 4))
   pub few_nodes : length d.nodes ≤ 64
   pub rises : Rises d.nodes
   pub offsets : AllByRecursion (λ n. n.offset ≤ 256000) d.nodes
+  pub follows : Follows d.rates
+  pub rates : AllByRecursion (IsRate d.nodes) d.rates
 
 pub record IsFlood (f : Flood) : Type 0 where
   pub network : IsNetwork f.network

@@ -1,5 +1,6 @@
 -- What a flood text says, and what is true of each.
-use Rattle.std.specs.Prelude.{◌≡◌, ◌<◌, ◌≤◌, ℕ, List, map, Bool, true, length, ◌==◌, All}
+use Rattle.std.specs.Prelude.{◌≡◌, ◌<◌, ◌≤◌, ◌^◌, ℕ, List, map, filter, Bool, true, length, ◌==◌, All}
+use Rattle.std.specs.Int.RustNames.{unsigned_abs}
 use Rattle.std.specs.List.{list_any, AllPairs}
 use Rattle.link_trace.specs.Passes.{Lines}
 use Rattle.link_trace.specs.Sealed.{Traced}
@@ -30,3 +31,7 @@ pub record IsSound (f : FloodParts) : Type 0 where
   pub ascending : AllPairs (λ a b. a.node < b.node) f.nodes
   pub offsets : All (λ n. n.offset ≤ 256000) f.nodes
   pub start_known : knows f.nodes f.start ≡ true
+  pub rates_known : All (λ r. knows f.nodes r.node ≡ true) f.rates
+  pub rates_ascend : (i : ℕ) → AllPairs (λ a b. a.from < b.from) (filter (λ r. r.node == i) f.rates)
+  pub rates_early : All (λ r. r.from < 2 ^ 47) f.rates
+  pub rates_small : All (λ r. unsigned_abs r.ppm ≤ 20) f.rates

@@ -1,5 +1,6 @@
--- Internal: what was read of all lines.
-use Rattle.std.specs.Prelude.{◌≡◌, ℕ, Result, Ok, Err}
+-- Internal: what was read of all lines, and what is true of each draft.
+use Rattle.std.specs.Prelude.{◌≡◌, ◌≤◌, ℕ, Result, Ok, Err}
+use Rattle.scenario_text.specs.FloodDrafts.{IsNetwork}
 use Rattle.scenario_text.specs.ScenarioGrammar.{Scenario}
 use Rattle.scenario_text.specs.declared.fault.FaultKind.{FaultKind}
 use Rattle.scenario_text.specs.declared.fault.ParseFault.{ParseFault}
@@ -10,3 +11,7 @@ abbrev pub Drafts : Result (Scenario × ℕ) ParseFault → Result Scenario (ℕ
 Drafts (Ok d) said = said ≡ Ok d.0
 Drafts (Err Memory) said = Unit {0}
 Drafts (Err (Line n k)) said = said ≡ Err (n, k)
+
+pub record IsDraft (d : Scenario) : Type 0 where
+  pub network : IsNetwork d.network
+  pub frame : d.profile.frame ≤ 320000000

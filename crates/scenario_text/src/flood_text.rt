@@ -65,7 +65,7 @@ impl FloodText {
         &self.nodes
     }
 
-    /// The changes of the clocks' rates.
+    /// The changes of the clocks' rates, by node and tick, each within -20 to 20 millionths.
     pub fn rates(&self) -> &[RateLine]
         ensures { result.now ≡ self.now.rates }
     {

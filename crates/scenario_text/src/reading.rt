@@ -1,8 +1,7 @@
 ghost use Rattle.std.specs.Prelude.{◌≡◌, ◌<◌, ◌≤◌, ◌^◌, ℕ, IfOk, length};
 ghost use Rattle.std.specs.Str.Lines.{lines};
 ghost use Rattle.scenario_text.specs.Faults.{Gives, after_lines};
-ghost use Rattle.scenario_text.specs.FloodDrafts.{IsNetwork};
-ghost use Rattle.scenario_text.specs.ScenarioDrafts.{Drafts};
+ghost use Rattle.scenario_text.specs.ScenarioDrafts.{Drafts, IsDraft};
 ghost use Rattle.scenario_text.specs.ScenarioGrammar.{scenario_of, after_line, no_scenario};
 
 use crate::ParseFault;
@@ -28,7 +27,7 @@ pub fn parse(alloc: Global, bytes: &[u8]) -> Result<Scenario, ParseFault>
 fn read_lines(alloc: Global, bytes: &[u8]) -> Result<(ScenarioDraft, u32), ParseFault>
     requires { length bytes.now < 2 ^ 31 }
     ensures draft { Drafts result (after_lines after_line 1 no_scenario (lines bytes.now)) }
-    ensures sound { IfOk result (λ d. IsNetwork d.0.network) }
+    ensures sound { IfOk result (λ d. IsDraft d.0) }
     ensures count { IfOk result (λ d. (d.1 ≡ length (lines bytes.now)) × (d.1 ≤ length bytes.now)) }
 {
     let mut draft = ScenarioDraft::new(alloc);

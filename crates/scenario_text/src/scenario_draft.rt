@@ -2,7 +2,7 @@ ghost use Rattle.std.specs.Prelude.{◌≡◌, ◌≤◌, ◌<◌, ◌&&◌, ◌
 ghost use Rattle.std.specs.List.{list_any};
 ghost use Rattle.std.specs.Option.{option_map_or};
 ghost use Rattle.scenario_text.specs.Faults.{first_fault};
-ghost use Rattle.scenario_text.specs.FloodDrafts.{IsNetwork};
+ghost use Rattle.scenario_text.specs.ScenarioDrafts.{IsDraft};
 ghost use Rattle.scenario_text.specs.Network.{has_script_room};
 ghost use Rattle.scenario_text.specs.ScenarioGrammar.{no_scenario, line_fault, line_added, with_scenario_line, after_line, Reads, last_tick as last_tick_of, last_slot as last_slot_of, last_script_line, is_frame, is_step, in_script_order, with_act, with_boot, is_on, boots_of, finished, IsScenario};
 ghost use Rattle.scenario_text.specs.ScenarioParts.{ScenarioParts};
@@ -124,7 +124,7 @@ impl ScenarioDraft {
     /// What the text says, or what it misses at its end. The text is one whose lines say this.
     pub fn finish(self, alloc: Global) -> Result<Result<Scenario, FaultKind>, Memory>
         requires said { (s : ScenarioParts) → finished self ≡ Ok s → IsScenario s }
-        requires sound { IsNetwork self.network }
+        requires sound { IsDraft self }
         ensures { IfOk result (λ r. r ≡ finished self) }
     {
         let ScenarioDraft {

@@ -2,7 +2,7 @@ use Rattle.std.proofs.Common.{◌≡◌, ◌+◌, ◌≤◌, length}
 use Rattle.std.specs.Str.Lines.{lines}
 use Rattle.scenario_text.specs.ScenarioGrammar.{after_line, no_scenario}
 use Rattle.scenario_text.specs.Faults.{after_lines}
-use Rattle.scenario_text.specs.FloodDrafts.{IsNetwork}
+use Rattle.scenario_text.specs.ScenarioDrafts.{IsDraft}
 use Rattle.scenario_text.proofs.reading.read_lines.Given as goal
 
 -- what the whole says is what the rest says behind the draft
@@ -11,7 +11,7 @@ invariant-loop-rest l = record {
   said : after_lines after_line 1 no_scenario (lines l.bytes) ≡ after_lines after_line (l.count + 1) l.draft (lines l.rest);
   counted : length (lines l.bytes) ≡ l.count + length (lines l.rest);
   within : l.count + length l.rest ≤ length l.bytes;
-  sound : IsNetwork l.draft.network;
+  sound : IsDraft l.draft;
 }
 
 abbrev pub decreases-loop-rest : goal.decreases-loop-rest
