@@ -16,3 +16,4 @@ pub mod LogEntries
 pub mod FloodLogRun
 pub mod LogOutcome
 pub mod LogReading
+pub mod NodeClocks

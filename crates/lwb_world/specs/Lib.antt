@@ -5,4 +5,5 @@ pub mod TwoNodes
 pub mod FloodLog
 pub mod LogReading
 pub mod ClockLists
+pub mod StatedClocks
 pub mod RunOnAir
