@@ -3,7 +3,9 @@
 
 mod command;
 mod flood_answer;
+mod node_rates;
 mod report;
+mod stated_clocks;
 mod top_call;
 mod whole_steps;
 
