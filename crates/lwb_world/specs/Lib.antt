@@ -7,3 +7,4 @@ pub mod LogReading
 pub mod ClockLists
 pub mod StatedClocks
 pub mod RunOnAir
+pub mod FloodWorlds

@@ -1,14 +1,17 @@
 pub mod RivalLists
+pub mod OneStation
 pub mod Places
 pub mod Changes
 pub mod PlacedRivals
 pub mod Ending
+pub mod Agreement
 pub mod Settled
 pub mod Tunings
 pub mod Members
 pub mod Scenes
 pub mod Retuned
 pub mod OneCall
+pub mod NothingBefore
 pub mod AfterTuning
 pub mod AfterStarting
 pub mod AfterEnding

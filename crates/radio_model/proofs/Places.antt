@@ -7,6 +7,7 @@ use Rattle.lwb_base.specs.Profile.{Numbers, IsProfile}
 use Rattle.link_trace.specs.Masks.{AreNodes}
 use Rattle.radio_model.specs.Stations.{MediumState, IsMedium, node_of, is_of, changed_at, after, fresh, stations_from, first_state}
 use Rattle.radio_model.specs.declared.station.Station.{Station}
+use Rattle.radio_model.proofs.OneStation.{nodes_stay}
 
 -- no node stands at two places
 pub apart : (xs : List Station) → AllPairs (λ a b. a < b) (map node_of xs) → (i j : ℕ) (d : Station) → i < length xs → j < length xs → (get_or xs i d).node ≡ (get_or xs j d).node → i ≡ j
@@ -75,23 +76,16 @@ pub record Keeps (f : Station → Station) : Type 0 where
   pub room : (st : Station) → (f st).ended.capacity ≡ st.ended.capacity
 
 module _ (f : Station → Station) (keeps : Keeps f) (v : ℕ) where
-  pub node_kept : (st : Station) → (changed_at v f st).node ≡ st.node
-  node_kept st = cond_both (st.node == v) (f st) st (λ (s : Station). s.node ≡ st.node) (λ is. keeps.node st) (λ other. refl)
-
   pub place_kept : (st : Station) → (changed_at v f st).place ≡ st.place
   place_kept st = cond_both (st.node == v) (f st) st (λ (s : Station). s.place ≡ st.place) (λ is. keeps.place st) (λ other. refl)
 
   pub room_kept : (st : Station) → (changed_at v f st).ended.capacity ≡ st.ended.capacity
   room_kept st = cond_both (st.node == v) (f st) st (λ (s : Station). s.ended.capacity ≡ st.ended.capacity) (λ is. keeps.room st) (λ other. refl)
 
-  pub nodes_kept : (xs : List Station) → map node_of (map (changed_at v f) xs) ≡ map node_of xs
-  nodes_kept [] = refl
-  nodes_kept (st ∷ xs) = ap (λ (n : ℕ). n ∷ map node_of (map (changed_at v f) xs)) (node_kept st) ∙ ap (λ (l : List ℕ). st.node ∷ l) (nodes_kept xs)
-
   pub still_medium : (t : ℕ) (m : MediumState) → IsMedium m → IsMedium (after t v f m)
   still_medium t m is = record {
     profile = is.profile;
-    nodes = subst AreNodes (sym (nodes_kept m.stations)) is.nodes;
+    nodes = subst AreNodes (sym (nodes_stay f v keeps.node m.stations)) is.nodes;
     places = λ k d below. ap (λ (s : Station). s.place) (get_or-map (changed_at v f) m.stations k d d (omega (arith, length-map m.stations (changed_at v f)))) ∙ place_kept (get_or m.stations k d) ∙ is.places k d (omega (arith, length-map m.stations (changed_at v f)));
     rooms = All-map (λ (s : Station). s.ended.capacity ≡ 13) (changed_at v f) m.stations (λ k d below. room_kept (get_or m.stations k d) ∙ is.rooms k d below);
   }
@@ -107,7 +101,7 @@ stations_more vs i v below at =
     ∙ one_more_station 0 (take i vs) v
     ∙ ap (λ (n : ℕ). stations_from 0 (take i vs) ++ fresh v n ∷ []) (omega (arith, length-take-le i vs (omega arith)))
 
-nodes_from : (k : ℕ) (vs : List ℕ) → map node_of (stations_from k vs) ≡ vs
+pub nodes_from : (k : ℕ) (vs : List ℕ) → map node_of (stations_from k vs) ≡ vs
 nodes_from k [] = refl
 nodes_from k (v ∷ vs) = ap (λ (l : List ℕ). v ∷ l) (nodes_from (k + 1) vs)
 

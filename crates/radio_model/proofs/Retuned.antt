@@ -1,5 +1,5 @@
 -- A call to tune a node keeps what the medium tells of its tunings.
-use Rattle.std.proofs.Common.{◌≡◌, ℕ, ◌<◌, ◌≤◌, ◌↔◌, ◌⊎◌, inl, inr, Bool, true, false, ◌&&◌, ◌==◌, nat_lt, if◌then◌else◌, Option, Some, None, refl, sym, subst, arith, eq-eqb}
+use Rattle.std.proofs.Common.{◌≡◌, ℕ, ◌<◌, ◌≤◌, ◌↔◌, ◌⊎◌, inl, inr, Bool, true, false, ◌&&◌, ◌==◌, nat_lt, if◌then◌else◌, Option, Some, None, refl, sym, ◌∙◌, subst, arith, eq-eqb}
 use Rattle.std.proofs.lemmas.Bool.{cases_lt, cond_both, ltb-true, ltb-false, and_parts, and_from, eqb-true, both_ways}
 use Rattle.radio_model.specs.OnAir.{Tuning}
 use Rattle.radio_model.specs.Hearing.{Scene}
@@ -8,7 +8,7 @@ use Rattle.radio_model.specs.Holding.{IsOrder, closed}
 use Rattle.radio_model.specs.declared.station.Tuned.{Tuned}
 use Rattle.radio_model.specs.declared.station.Past.{Past}
 use Rattle.radio_model.specs.declared.station.Station.{Station}
-use Rattle.radio_model.proofs.Tunings.{Went, Tells, tells_later, off_late, off_empty, on_fresh, on_joined}
+use Rattle.radio_model.proofs.Tunings.{Goes, Went, Tells, told_went, tells_later, off_late, off_empty, on_fresh, on_joined}
 use Rattle.radio_model.proofs.Scenes.{Lit, with_tuning, lit_same, lit_apart, closed_is, closes_out, closed_same, closed_other}
 
 over_by : (now : ℕ) (tuned : Option Tuned) (last : Option Past) → IsOrder now tuned last → (c s u : ℕ) → Went last c s u → u ≤ now
@@ -126,3 +126,56 @@ module _ (a : Scene) (v now t : ℕ) (later : now ≤ t) (past : (c k : ℕ) →
         tells = tells_on (Lit (with_tuning a (closed v None t st.tuned)) v) r t (last_at st.tuned st.last t) (past_out (closed v None t st.tuned) (λ y is. omega (arith, (closed_is v None t st.tuned y is).end))) out.order out.tells;
         order = order_on r t (last_at st.tuned st.last t) out.order;
       }))
+
+-- before t the ended tunings and the present one are the same
+abbrev pub SameBefore : Scene → Scene → ℕ → ℕ → Option Tuned → Option Tuned → Type 0
+SameBefore a b v t old new = (c k : ℕ) → k < t → (Lit a v c k ⊎ Goes old c k) ↔ (Lit b v c k ⊎ Goes new c k)
+
+pub same_in : (a : Scene) (v t : ℕ) (tuned : Option Tuned) → SameBefore a (with_tuning a None) v t tuned tuned
+same_in a v t tuned c k early = (
+  λ is. elim is [ inl p ↦ inl ((lit_same a v c k).0 p) | inr goes ↦ inr goes ],
+  λ is. elim is [ inl p ↦ inl ((lit_same a v c k).1 p) | inr goes ↦ inr goes ],
+)
+
+same_out : (a : Scene) (v t : ℕ) (tuned : Option Tuned) → SameBefore a (with_tuning a (closed v None t tuned)) v t tuned None
+same_out a v t None c k early = same_in a v t None c k early
+same_out a v t (Some o) c k early =
+    let closes = closes_out a v t o in (
+      λ is. elim is [ inl p ↦ inl (closes.kept c k p) | inr goes ↦ inl (closes.added c k goes.0 goes.1 early) ],
+      λ is. elim is [
+        | inl p ↦ elim (closes.out c k p) [ inl ended ↦ inl ended | inr q ↦ inr (q.0, q.1) ]
+        | inr none ↦ absurd none
+      ],
+    )
+
+-- what a tuning that begins at t is of before t, by one that it meets, was there
+none_new : (P : ℕ → ℕ → Type 0) (r t : ℕ) (last : Option Past) → IsOrder t None last → Tells P None last t → (c k : ℕ) → k < t → Goes (Some (record { rank = r; since = since_with last r t })) c k → P c k
+none_new P r t None order tells c k early goes = let since = goes.1 in absurd (omega arith)
+none_new P r t (Some q) order tells c k early goes = by_test ((q.rank == r) && (q.until == t)) refl goes
+  where
+    by_test : (b : Bool) → ((q.rank == r) && (q.until == t)) ≡ b → (r ≡ c) × ((if b then q.since else t) ≤ k) → P c k
+    by_test true is by =
+        let both = and_parts (q.rank == r) (q.until == t) is in
+        let until = eqb-true q.until t both.1 in
+        let some = order.0 in
+        elim ((tells c q.since t (omega arith) (omega arith)).1 (told_went None (Some q) c q.since t (eqb-true q.rank r both.0 ∙ by.0, omega arith, omega arith)) k by.1 early) [ inl p ↦ p | inr none ↦ absurd none ]
+    by_test false is by = let since = by.1 in absurd (omega arith)
+
+pub same_after : (a : Scene) (v now t : ℕ) → now ≤ t → ((c k : ℕ) → Lit a v c k → k < now) → (rank : Option ℕ) (st : Station) → IsOrder now st.tuned st.last → Tells (Lit a v) st.tuned st.last now
+    → SameBefore a (with_tuning a (closed v rank t st.tuned)) v t st.tuned (retuned rank t st).tuned
+same_after a v now t later past None st order tells = same_out a v t st.tuned
+same_after a v now t later past (Some r) st order tells =
+    cond_both (is_tuned_to st.tuned r) st (tuned_in r t (tuned_out t st)) (λ (s : Station). SameBefore a (with_tuning a (closed v (Some r) t st.tuned)) v t st.tuned s.tuned)
+    (λ is. subst (λ (e : Option Tuning). SameBefore a (with_tuning a e) v t st.tuned st.tuned) (sym (closed_same v r t st.tuned is)) (same_in a v t st.tuned))
+    (λ not. subst (λ (e : Option Tuning). SameBefore a (with_tuning a e) v t st.tuned (tuned_in r t (tuned_out t st)).tuned) (sym (closed_other v r t st.tuned not)) begins)
+  where
+    begins : SameBefore a (with_tuning a (closed v None t st.tuned)) v t st.tuned (tuned_in r t (tuned_out t st)).tuned
+    begins c k early =
+        let out = same_out a v t st.tuned c k early in
+        let told = told_out a v now t later past st.tuned st.last order tells in (
+          λ is. elim (out.0 is) [ inl p ↦ inl p | inr none ↦ absurd none ],
+          λ is. elim is [
+            | inl p ↦ out.1 (inl p)
+            | inr goes ↦ out.1 (inl (none_new (Lit (with_tuning a (closed v None t st.tuned)) v) r t (last_at st.tuned st.last t) told.order told.tells c k early goes))
+          ],
+        )

@@ -31,34 +31,58 @@ lasts_from : (v : ℕ) (tuned : Option Tuned) (t c k : ℕ) → Goes tuned c k �
 lasts_from v None t c k goes = absurd goes
 lasts_from v (Some o) t c k goes = (record { rank = o.rank; node = v; start = o.since; end = t }, refl, refl, goes.0, goes.1, refl)
 
+-- a station of the node is tuned to the channel, and was by the tick
+pub record Lasts (m : MediumState) (v c k : ℕ) : Type 0 where
+  pub station : Station
+  pub there : Contains m.stations station
+  pub node : station.node ≡ v
+  pub goes : Goes station.tuned c k
+
+pub lit_or_lasts : (m : MediumState) (a : Scene) (t v c k : ℕ) → IsTuned (as_it_stands m t a) v c k → Lit a v c k ⊎ Lasts m v c k
+lit_or_lasts m a t v c k is =
+    elim (Contains-append_cases a.tunings (filter_map (lasting_at t) m.stations) is.tuning is.there) [
+      | inl ended ↦ inl (record { tuning = is.tuning; there = ended; node = is.node; rank = is.rank; since = is.since; until = is.until })
+      | inr lasts ↦
+          let w = from_filter (lasting_at t) m.stations is.tuning lasts in
+          let l = lasts_as w.0.node w.0.tuned t is.tuning w.2 in
+          let since = is.since in
+          inr (record {
+            station = w.0;
+            there = w.1;
+            node = sym (ap (λ (y : Tuning). y.node) l.2) ∙ is.node;
+            goes = goes_as l.0 w.0.tuned c k l.1 (sym (ap (λ (y : Tuning). y.rank) l.2) ∙ is.rank) (omega (arith, ap (λ (y : Tuning). y.start) l.2));
+          })
+    ]
+
+pub lit_stands : (m : MediumState) (a : Scene) (t v c k : ℕ) → Lit a v c k → IsTuned (as_it_stands m t a) v c k
+lit_stands m a t v c k is = record { tuning = is.tuning; there = Contains-append_left a.tunings (filter_map (lasting_at t) m.stations) is.tuning is.there; node = is.node; rank = is.rank; since = is.since; until = is.until }
+
+pub lasts_stands : (m : MediumState) (a : Scene) (t v c k : ℕ) → k < t → Lasts m v c k → IsTuned (as_it_stands m t a) v c k
+lasts_stands m a t v c k early is =
+    let st = is.station in
+    let l = lasts_from st.node st.tuned t c k is.goes in
+    record {
+      tuning = l.0;
+      there = Contains-append_right a.tunings (filter_map (lasting_at t) m.stations) l.0 (in_filter (lasting_at t) m.stations st l.0 is.there l.1);
+      node = l.2 ∙ is.node;
+      rank = l.3;
+      since = l.4;
+      until = omega (arith, l.5);
+    }
+
 pub stands : (m : MediumState) (a : Scene) (st : Station) (t c k : ℕ) → AllPairs (λ a b. a < b) (map node_of m.stations) → Contains m.stations st → k < t → IsTuned (as_it_stands m t a) st.node c k ↔ (Lit a st.node c k ⊎ Goes st.tuned c k)
 stands m a st t c k ascend there early = (apart, together)
   where
     apart : IsTuned (as_it_stands m t a) st.node c k → Lit a st.node c k ⊎ Goes st.tuned c k
     apart is =
-        elim (Contains-append_cases a.tunings (filter_map (lasting_at t) m.stations) is.tuning is.there) [
-          | inl ended ↦ inl (record { tuning = is.tuning; there = ended; node = is.node; rank = is.rank; since = is.since; until = is.until })
-          | inr lasts ↦
-              let w = from_filter (lasting_at t) m.stations is.tuning lasts in
-              let l = lasts_as w.0.node w.0.tuned t is.tuning w.2 in
-              let node : w.0.node ≡ st.node = sym (ap (λ (y : Tuning). y.node) l.2) ∙ is.node in
-              let same : w.0 ≡ st = one_station m.stations ascend w.0 st w.1 there node in
-              let since = is.since in
-              inr (goes_as l.0 st.tuned c k (ap (λ (s : Station). s.tuned) (sym same) ∙ l.1) (sym (ap (λ (y : Tuning). y.rank) l.2) ∙ is.rank) (omega (arith, ap (λ (y : Tuning). y.start) l.2)))
+        elim (lit_or_lasts m a t st.node c k is) [
+          | inl ended ↦ inl ended
+          | inr l ↦ inr (subst (λ (s : Station). Goes s.tuned c k) (one_station m.stations ascend l.station st l.there there l.node) l.goes)
         ]
 
     together : Lit a st.node c k ⊎ Goes st.tuned c k → IsTuned (as_it_stands m t a) st.node c k
-    together (inl is) = record { tuning = is.tuning; there = Contains-append_left a.tunings (filter_map (lasting_at t) m.stations) is.tuning is.there; node = is.node; rank = is.rank; since = is.since; until = is.until }
-    together (inr goes) =
-        let l = lasts_from st.node st.tuned t c k goes in
-        record {
-          tuning = l.0;
-          there = Contains-append_right a.tunings (filter_map (lasting_at t) m.stations) l.0 (in_filter (lasting_at t) m.stations st l.0 there l.1);
-          node = l.2;
-          rank = l.3;
-          since = l.4;
-          until = omega (arith, l.5);
-        }
+    together (inl is) = lit_stands m a t st.node c k is
+    together (inr goes) = lasts_stands m a t st.node c k early (record { station = st; there = there; node = refl; goes = goes })
 
 -- one more tuning or none
 pub lit_more : (a : Scene) (o : Option Tuning) (v c k : ℕ) → Lit a v c k → Lit (with_tuning a o) v c k

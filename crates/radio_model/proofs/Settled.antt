@@ -6,14 +6,7 @@ use Rattle.link_trace.specs.Passes.{captured}
 use Rattle.radio_model.specs.OnAir.{Sending}
 use Rattle.radio_model.specs.Hearing.{Scene, Hears, Rival, Arrives, Captures, frame_of, slot_of, counter_of}
 use Rattle.radio_model.specs.Holding.{Agree}
-
-agree_back : (t : ℕ) (a b : Scene) → Agree t a b → Agree t b a
-agree_back t a b s = record {
-  numbers = sym s.numbers;
-  lines = sym s.lines;
-  sendings = λ y early. ((s.sendings y early).1, (s.sendings y early).0);
-  tuned = λ v channel k early. ((s.tuned v channel k early).1, (s.tuned v channel k early).0);
-}
+use Rattle.radio_model.proofs.Agreement.{agree_back}
 
 arrives_on : (t : ℕ) (a b : Scene) (v : ℕ) (y : Sending) → Agree t a b → Arrives a v y → Arrives b v y
 arrives_on t a b v y s is =

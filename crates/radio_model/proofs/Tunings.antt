@@ -42,7 +42,7 @@ told_true tuned last c s t is = elim (or_cases (goes_on tuned c s) (went_until l
 told_goes : (tuned : Option Tuned) (last : Option Past) (c s t : ℕ) → Goes tuned c s → told tuned last c s t ≡ true
 told_goes tuned last c s t is = or_left (goes_on tuned c s) (went_until last c s t) (goes_from tuned c s is)
 
-told_went : (tuned : Option Tuned) (last : Option Past) (c s t : ℕ) → Went last c s t → told tuned last c s t ≡ true
+pub told_went : (tuned : Option Tuned) (last : Option Past) (c s t : ℕ) → Went last c s t → told tuned last c s t ≡ true
 told_went tuned last c s t is = or_right (goes_on tuned c s) (went_until last c s t) (went_from last c s t is)
 
 -- at each tick: some ended tuning is of the channel there, or the present one

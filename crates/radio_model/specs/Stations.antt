@@ -127,6 +127,10 @@ finished st = record st { sending = None; ended = with_ended st.ended st.sending
 abbrev pub on_air : Station → List Sending
 on_air st = st.ended.items ++ option_to_list st.sending
 
+-- a change of a station that leaves it its node's
+abbrev pub KeepsNode : (Station → Station) → Type 0
+KeepsNode change = (st : Station) → (change st).node ≡ st.node
+
 abbrev pub changed_at : ℕ → (Station → Station) → Station → Station
 changed_at v change st = if st.node == v then change st else st
 

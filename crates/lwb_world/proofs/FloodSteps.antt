@@ -1,0 +1,37 @@
+-- The next step of a flood's world, as the code takes it.
+use Rattle.std.proofs.Common.{◌≡◌, ◌≢◌, ℕ, zero, suc, ◌+◌, ◌<◌, List, [], ◌∷◌, ◌++◌, map, take, drop, length, get_or, Bool, true, false, ◌&&◌, ◌||◌, nat_eq, inl, inr, refl, sym, ◌∙◌, ap, subst, arith, eq-eqb}
+use Rattle.std.specs.Prelude.{Contains, OnOk, Result, Ok, Err}
+use Rattle.std.specs.List.{list_any}
+use Rattle.std.proofs.lemmas.Bool.{cond-true, cond-false, ne_eqb}
+use Rattle.std.proofs.lemmas.List.{take_more, length-map, get_or-map}
+use Rattle.link_trace.specs.Passes.{Lines}
+use Rattle.radio_model.specs.declared.sending.Sending.{Sending}
+use Rattle.radio_model.specs.Stations.{nodes_of}
+use Rattle.air_log.specs.FloodLaw.{CLOSING}
+use Rattle.air_log.proofs.Elements.{contains_cases, contains_head, contains_tail, not_in_none, map_contains, Distinct}
+use Rattle.lwb_world.specs.declared.member.Act.{Act}
+use Rattle.lwb_world.specs.declared.member.Act.TheVariants.{Sends}
+use Rattle.lwb_world.specs.declared.member.Member.{Member}
+use Rattle.lwb_world.specs.FloodWorlds.{World, IsShape, node_of, gone, CanStep, CanEnd, is_off, stays, closed_by, closed_all}
+use Rattle.lwb_world.proofs.FloodHearers.{ascend_distinct}
+
+pub can_sends : (lines : Lines) (w : World) (m : Member) (x : Sending) → m.act ≡ Sends x → CanStep lines w m m.act → CanEnd lines w m x
+can_sends lines w m x is can = subst (CanStep lines w m) is can
+
+module _ (inside old : World) (shape : IsShape inside) (view : inside ≡ old) (place : ℕ) (m : Member) (below : place < length old.members) (at : m ≡ get_or inside.members place m) where
+  below_inside : place < length inside.members
+  below_inside = omega (arith, ap (λ (w : World). length w.members) view)
+
+  there : Contains inside.members m
+  there = (place, below_inside, sym at)
+
+  pub at_old : m ≡ get_or old.members place m
+  at_old = at ∙ ap (λ (w : World). get_or w.members place m) view
+
+  pub node_at : Contains (nodes_of old.medium) m.node
+  node_at = subst (λ (l : List ℕ). Contains l m.node) (shape.nodes ∙ ap (λ (w : World). nodes_of w.medium) view) (map_contains node_of inside.members m there)
+
+pub same_at : (ms : List Member) (k : ℕ) (d e : Member) → k < length ms → get_or ms k d ≡ get_or ms k e
+same_at [] k d e below = absurd (omega arith)
+same_at (m ∷ ms) zero d e below = refl
+same_at (m ∷ ms) (suc k) d e below = same_at ms k d e (omega arith)
