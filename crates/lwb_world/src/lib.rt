@@ -9,7 +9,9 @@ pub mod flood_log_laws;
 mod flood_outcome;
 mod flood_world;
 mod member;
+mod timed_flood;
 mod true_time;
 
 pub use flood_outcome::outcome_of;
+pub use timed_flood::flood;
 pub use true_time::flood_air;
