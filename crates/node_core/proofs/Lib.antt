@@ -8,3 +8,4 @@ pub mod HostPlanned
 pub mod Opened
 pub mod KeptTables
 pub mod Followed
+pub mod JoinedWindows
