@@ -7,3 +7,4 @@ pub mod Answering
 pub mod HostPlanned
 pub mod Opened
 pub mod KeptTables
+pub mod Unmoved
