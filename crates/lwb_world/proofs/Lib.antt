@@ -15,6 +15,8 @@ pub mod TwoNodeRun
 pub mod LogEntries
 pub mod FloodLogRun
 pub mod LogOutcome
+pub mod LogReading
+pub mod NodeClocks
 pub mod FloodSoFar
 pub mod FloodBegun
 pub mod FloodEnded

@@ -3,6 +3,8 @@ pub mod FloodBySteps
 pub mod Windows
 pub mod TwoNodes
 pub mod FloodLog
-pub mod RunOnAir
+pub mod LogReading
 pub mod ClockLists
+pub mod StatedClocks
+pub mod RunOnAir
 pub mod FloodWorlds

@@ -3,7 +3,7 @@
 ghost use Rattle.std.specs.Prelude.{◌≡◌, ◌≢◌, ℕ, suc, ◌≤◌, ◌↔◌, List, Contains, length, Some, true};
 ghost use Rattle.std.specs.declared.option.Option.{Option};
 ghost use Rattle.lwb_base.specs.Profile.{one};
-ghost use Rattle.scenario_text.specs.FloodParts.{FloodParts, knows};
+ghost use Rattle.scenario_text.specs.FloodParts.{FloodParts, IsSound, knows};
 ghost use Rattle.bus_model.specs.Flooding.{Sends, Hears};
 ghost use Rattle.bus_model.specs.FloodOfText.{setting, ids, outcome};
 ghost use Rattle.bus_model.specs.RelayPaths.{IsLeast};
@@ -13,6 +13,7 @@ ghost use Rattle.air_log.specs.Entries.{sendings_of};
 ghost use Rattle.radio_model.specs.Hearing.{frame_of, slot_of, counter_of};
 ghost use Rattle.air_log.specs.FloodLaw.{FloodLaw};
 ghost use Rattle.lwb_world.specs.FloodBySteps.{IsFloodBySteps};
+ghost use Rattle.lwb_world.specs.StatedClocks.{stated_clock};
 ghost use Rattle.lwb_world.specs.FloodLog.{HasClocks, run_of, HasSent, HasHeard, HeardFirst, IsAcceptance, accepting};
 
 /// A log that keeps the law of one flood is the flood by steps: a node has a Sent entry with counter k exactly where
@@ -45,4 +46,9 @@ pub fn flood_logs_accept_by_the_least_relay_path()
     ensures { (f : FloodParts) (clocks : ℕ → ℕ → ℕ) (air : List Entry) → HasClocks f clocks
         → FloodLaw f clocks air → (v k : ℕ) → knows f.nodes v ≡ true → v ≢ f.start
         → HeardFirst air v k ↔ IsLeast (setting f) f.start (suc k) v }
+{}
+
+/// The clocks that a flood text states keep the drift law, so what is said here holds of the logs over them.
+pub fn stated_clocks_keep_the_drift_law()
+    ensures { (f : FloodParts) → IsSound f → (1 ≤ f.start) × (f.start ≤ 200) → HasClocks f (stated_clock f) }
 {}

@@ -15,7 +15,7 @@ use Rattle.node_core.specs.declared.stage.Stage.TheVariants.{InWindow}
 use Rattle.node_core.specs.Standing.{IsWindow, HostsIn}
 
 -- what a flood of this kind carries is a spelling of it
-abbrev Carries : Kind → FloodState → Type 0
+abbrev pub Carries : Kind → FloodState → Type 0
 Carries k f = (f.kind ≡ k) × IfSome f.first (λ p. is_spelling k p ≡ true)
 
 spelled : (f : FloodState) (p : List ℕ) → fits f p ≡ true → is_spelling f.kind p ≡ true
@@ -29,7 +29,7 @@ first_carried : (k : Kind) (first : Option (List ℕ)) (p : List ℕ) → is_spe
 first_carried k None p is had = is
 first_carried k (Some q) p is had = had
 
-carried : (k : Kind) (f : FloodState) (p : List ℕ) → Carries k f → Carries k (after_heard f p)
+pub carried : (k : Kind) (f : FloodState) (p : List ℕ) → Carries k f → Carries k (after_heard f p)
 carried k f p (same, had) =
     cond_both (fits f p) (record f { waiting = nat_lt (counter_of p) 11; first = first_of f.first p }) f (Carries k)
     (λ is. (same, first_carried k f.first p (subst (λ (x : Kind). is_spelling x p ≡ true) same (spelled f p is)) had))

@@ -7,3 +7,5 @@ pub mod Answering
 pub mod HostPlanned
 pub mod Opened
 pub mod KeptTables
+pub mod Followed
+pub mod JoinedWindows

@@ -18,3 +18,6 @@ mod times;
 mod window;
 
 pub use node::{Node, Place};
+
+#[cfg(test)]
+mod tests;

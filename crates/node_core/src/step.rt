@@ -1,6 +1,6 @@
 //! One event at a node.
 
-ghost use Rattle.std.specs.Prelude.{◌≤◌};
+ghost use Rattle.std.specs.Prelude.{◌≡◌, ◌≤◌, ◌<◌, ◌^◌};
 ghost use Rattle.node_core.specs.Rows.{at_alarm, row};
 ghost use Rattle.node_core.specs.Standing.{Follows};
 
@@ -14,9 +14,18 @@ impl Node {
     /// order.
     pub fn step<C: LocalClock, R: Radio>(&mut self, clock: &C, radio: &mut R, event: Event)
         requires { 4 ≤ R.room radio.old }
-        ensures { Follows self.old self.new (R.given radio.old) (R.given radio.new) (R.room radio.old) (R.room radio.new) (row self.old.setup self.old.node (C.time clock.now) event) }
+        ensures row { Follows self.old self.new (R.given radio.old) (R.given radio.new) (R.room radio.old) (R.room radio.new) (row self.old.setup self.old.node (C.time clock.now) event) }
+        ensures setup { self.new.setup ≡ self.old.setup }
     {
-        let now = clock.now();
+        self.go_through(clock.now(), radio, event);
+    }
+
+    // The event happens at this reading.
+    fn go_through<R: Radio>(&mut self, now: u64, radio: &mut R, event: Event)
+        requires now { now < 2 ^ 46 }
+        requires room { 4 ≤ R.room radio.old }
+        ensures { Follows self.old self.new (R.given radio.old) (R.given radio.new) (R.room radio.old) (R.room radio.new) (row self.old.setup self.old.node now event) }
+    {
         match event {
             Event::Boot => self.boot(now, radio),
             Event::Alarm => self.alarm(radio),

@@ -3,6 +3,7 @@ use Rattle.std.proofs.Common.{◌≡◌, ◌++◌, inl, ℕ, List, length, Optio
 use Rattle.std.proofs.lemmas.List.{append-nil}
 use Rattle.std.specs.Io.KnownBytes.{Consumes, IsAtEnd}
 use Rattle.scenario_text.specs.FloodGrammar.{flood_of}
+use Rattle.air_log.specs.declared.entry.Entry.{Entry}
 use Rattle.replay_tool.specs.CommandLine.{PartWritten, WholeRead, IsReport, IsFaultLine, IsComplete}
 
 -- a part of a text that is due
@@ -15,8 +16,8 @@ all_read b c None eaten end = absurd eaten
 all_read b c (Some rest) eaten end = eaten ∙ ap (λ (r : List ℕ). c ++ r) end ∙ append-nil c
 
 -- the status is 0 where the bytes read are a text
-pub complete_report : (old new : Option (List ℕ)) (text : List ℕ) (status : ℕ) → WholeRead old new (λ b. IsReport b text) → status ≡ 0 → (b : List ℕ) → old ≡ Some b → IsComplete b status
-complete_report old new text status (c, eaten, end, few, report) zero b at =
+pub complete_report : (old new : Option (List ℕ)) (air : List Entry) (text : List ℕ) (status : ℕ) → WholeRead old new (λ b. IsReport b air text) → status ≡ 0 → (b : List ℕ) → old ≡ Some b → IsComplete b status
+complete_report old new air text status (c, eaten, end, few, report) zero b at =
     let same : b ≡ c = all_read b c new (subst (λ (o : Option (List ℕ)). Consumes o new c) at eaten) end in
     let said = ap flood_of same ∙ report.said in
     record {

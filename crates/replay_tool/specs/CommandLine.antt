@@ -8,6 +8,9 @@ use Rattle.scenario_text.specs.FaultNames.{kind_name}
 use Rattle.scenario_text.specs.FloodGrammar.{flood_of}
 use Rattle.scenario_text.specs.declared.fault.FaultKind.{FaultKind}
 use Rattle.bus_model.specs.FloodOfText.{outcome}
+use Rattle.air_log.specs.declared.entry.Entry.{Entry}
+use Rattle.air_log.specs.FloodLaw.{FloodLaw}
+use Rattle.lwb_world.specs.StatedClocks.{stated_clock}
 use Rattle.replay_tool.specs.FloodReport.{flood_report}
 
 abbrev pub IsFlood : List (List ℕ) → Type 0
@@ -22,11 +25,12 @@ fault_line n k = codes "fault line " ++ decimal n ++ codes ": " ++ kind_name k +
 abbrev pub too_long : List ℕ
 too_long = codes "fault too long\n"
 
--- the report of the flood that these bytes are a text of
-pub record IsReport (b text : List ℕ) : Type 0 where
+-- the report of the flood that these bytes are a text of, and a log of this flood over the clocks that they state
+pub record IsReport (b : List ℕ) (air : List Entry) (text : List ℕ) : Type 0 where
   pub flood : FloodParts
   pub said : flood_of b ≡ Ok flood
   pub is : text ≡ flood_report (outcome flood)
+  pub law : FloodLaw flood (stated_clock flood) air
 
 -- the line that names the first fault of these bytes, which are no flood text
 pub record IsFaultLine (b text : List ℕ) : Type 0 where
@@ -43,9 +47,9 @@ WholeRead old new P = (b : List ℕ) × Consumes old new b × IsAtEnd new × (le
 abbrev pub TooMuchRead : Option (List ℕ) → Option (List ℕ) → Type 0
 TooMuchRead old new = Took old new (λ n. n ≡ INPUT_LIMIT + 1)
 
--- a report is due, by the words and by what the source had left before and after
-abbrev pub ReportDue : List (List ℕ) → Option (List ℕ) → Option (List ℕ) → List ℕ → Type 0
-ReportDue words old new text = IsFlood words × WholeRead old new (λ b. IsReport b text)
+-- a report is due, by the words and by what the source had left before and after, and the log of its flood is given
+abbrev pub ReportDue : List (List ℕ) → Option (List ℕ) → Option (List ℕ) → List Entry → List ℕ → Type 0
+ReportDue words old new air text = IsFlood words × WholeRead old new (λ b. IsReport b air text)
 
 -- a fault line is due
 abbrev pub FaultDue : List (List ℕ) → Option (List ℕ) → Option (List ℕ) → List ℕ → Type 0
@@ -56,9 +60,9 @@ FaultDue words old new text =
 abbrev pub UsageDue : List (List ℕ) → List ℕ → Type 0
 UsageDue words text = (IsFlood words → ⊥) × (text ≡ usage)
 
--- one of them is due
-abbrev pub SomeDue : List (List ℕ) → Option (List ℕ) → Option (List ℕ) → List ℕ → Type 0
-SomeDue words old new text = ReportDue words old new text ⊎ (FaultDue words old new text ⊎ UsageDue words text)
+-- one of them is due, and only a report has a log
+abbrev pub SomeDue : List (List ℕ) → Option (List ℕ) → Option (List ℕ) → List Entry → List ℕ → Type 0
+SomeDue words old new air text = ReportDue words old new air text ⊎ ((FaultDue words old new text ⊎ UsageDue words text) × (air ≡ []))
 
 -- the text that is due went out whole
 abbrev pub Written : Option (List ℕ) → Option (List ℕ) → (List ℕ → Type 0) → Type 0

@@ -2,3 +2,4 @@ pub mod WholeSteps
 pub mod FloodReport
 pub mod CommandLine
 pub mod FloodAnswers
+pub mod NodeRates

@@ -3,11 +3,14 @@
 
 mod command;
 mod flood_answer;
+mod node_rates;
 mod report;
+mod stated_clocks;
 mod top_call;
-mod whole_steps;
 
 pub use top_call::{Outcome, top};
 
 #[cfg(test)]
 mod tests;
+#[cfg(test)]
+mod whole_steps;

@@ -1,19 +1,23 @@
-ghost use Rattle.std.specs.Prelude.{◌≡◌, ◌≢◌, ◌⊎◌, ◌≤◌, ◌<◌, ℕ, List, Option, Some, length, take, IfOk, IfSome, IfNone, map, string_bytes};
+ghost use Rattle.std.specs.Prelude.{◌≡◌, ◌≢◌, ◌⊎◌, ◌≤◌, ◌<◌, ℕ, List, [], Option, Some, length, take, IfOk, IfSome, IfNone, map, string_bytes};
 ghost use Rattle.std.specs.Io.KnownBytes.{Appends};
 ghost use Rattle.lwb_base.specs.Causes.{Rose};
 ghost use Rattle.replay_tool.specs.CommandLine.{IsFlood, ReportDue, FaultDue, UsageDue, SomeDue, IsComplete, Written, PartWritten};
 
 use crate::command::is_flood;
 use crate::flood_answer::{FloodAnswer, flood_answer};
+use air_log::Air;
 use lwb_base::{INPUT_LIMIT, Memory, ReadStop, Sink, Source, read_all, write_all};
 use std::alloc::Global;
 
 /// How a call of `top` ended.
-#[derive(Clone, Copy, Debug, PartialEq, Eq)]
+#[derive(Drop)]
 pub struct Outcome {
     /// 0: the whole text was written. 1: the input was refused. 2: the words are no command. 3: the source failed.
     /// 4: the sink failed. 5: want of memory.
     pub status: u8,
+    /// The log of the flood that was run over the clocks that the text states. It is empty but with status 0, and with
+    /// status 4 where a report could not be written.
+    pub air: Air,
 }
 
 const USAGE: &[u8; 13] = b"usage: flood\n";
@@ -29,15 +33,17 @@ pub fn top<S: Source, K: Sink>(
     sink: &mut K,
 ) -> Outcome
     ensures known { result.status ≤ 5 }
-    ensures report { result.status ≡ 0 → Written (K.held sink.old) (K.held sink.new) (ReportDue (map string_bytes words.now) (S.left source.old) (S.left source.new)) }
+    ensures report { result.status ≡ 0 → Written (K.held sink.old) (K.held sink.new) (ReportDue (map string_bytes words.now) (S.left source.old) (S.left source.new) result.air) }
     ensures fault { result.status ≡ 1 → Written (K.held sink.old) (K.held sink.new) (FaultDue (map string_bytes words.now) (S.left source.old) (S.left source.new)) }
     ensures usage { result.status ≡ 2 → Written (K.held sink.old) (K.held sink.new) (UsageDue (map string_bytes words.now)) }
 
     // A source that failed, a sink that failed, and want of memory.
     ensures read_fault { result.status ≡ 3 → IsFlood (map string_bytes words.now) × Rose (S.faults source.old) (S.faults source.new) × (sink.new ≡ sink.old) }
     ensures write_fault { result.status ≡ 4 → Rose (K.faults sink.old) (K.faults sink.new)
-        × PartWritten (K.held sink.old) (K.held sink.new) (SomeDue (map string_bytes words.now) (S.left source.old) (S.left source.new)) }
+        × PartWritten (K.held sink.old) (K.held sink.new) (SomeDue (map string_bytes words.now) (S.left source.old) (S.left source.new) result.air) }
     ensures memory { result.status ≡ 5 → IsFlood (map string_bytes words.now) × (sink.new ≡ sink.old) }
+
+    ensures no_log { result.status ≢ 0 → result.status ≢ 4 → result.air ≡ [] }
 
     // The counts of faults never fall, and for words that are no command the source stays as it was.
     ensures source_later { S.faults source.old ≤ S.faults source.new }
@@ -48,31 +54,44 @@ pub fn top<S: Source, K: Sink>(
     ensures untouched { (IsFlood (map string_bytes words.now) → ⊥) → source.new ≡ source.old }
 {
     if !is_flood(words) {
-        return say(sink, USAGE, 2);
+        return without_log(alloc, say(sink, USAGE, 2));
     }
     let bytes = match read_all(alloc, source) {
         Ok(bytes) => bytes,
-        Err(ReadStop::ReadFault) => return Outcome { status: 3 },
-        Err(ReadStop::TooLong) => return say(sink, TOO_LONG, 1),
-        Err(ReadStop::Memory) => return Outcome { status: 5 },
+        Err(ReadStop::ReadFault) => return without_log(alloc, 3),
+        Err(ReadStop::TooLong) => return without_log(alloc, say(sink, TOO_LONG, 1)),
+        Err(ReadStop::Memory) => return without_log(alloc, 5),
     };
     match flood_answer(alloc, &bytes) {
-        Ok(FloodAnswer::Report(text)) => say(sink, text.as_bytes(), 0),
-        Ok(FloodAnswer::Fault(text)) => say(sink, text.as_bytes(), 1),
-        Err(Memory) => Outcome { status: 5 },
+        Ok(FloodAnswer::Report(text, air)) => {
+            let status = say(sink, text.as_bytes(), 0);
+            Outcome { status, air }
+        }
+        Ok(FloodAnswer::Fault(text)) => without_log(alloc, say(sink, text.as_bytes(), 1)),
+        Err(Memory) => without_log(alloc, 5),
     }
 }
 
-// Writes a text whole, with that status, or a part of it.
-fn say<K: Sink>(sink: &mut K, text: &[u8], status: u8) -> Outcome
+fn without_log(alloc: Global, status: u8) -> Outcome
+    ensures status { result.status ≡ status }
+    ensures air { result.air ≡ [] }
+{
+    Outcome {
+        status,
+        air: Air::new(alloc),
+    }
+}
+
+// Writes a text whole, and gives that status, or a part of it, and gives 4.
+fn say<K: Sink>(sink: &mut K, text: &[u8], status: u8) -> u8
     requires { status < 3 }
-    ensures known { (result.status ≡ status) ⊎ (result.status ≡ 4) }
-    ensures whole { result.status ≡ status → Appends (K.held sink.old) (K.held sink.new) text.now }
-    ensures part { result.status ≢ status → PartWritten (K.held sink.old) (K.held sink.new) (λ t. t ≡ text.now) × Rose (K.faults sink.old) (K.faults sink.new) }
+    ensures known { (result ≡ status) ⊎ (result ≡ 4) }
+    ensures whole { result ≡ status → Appends (K.held sink.old) (K.held sink.new) text.now }
+    ensures part { result ≢ status → PartWritten (K.held sink.old) (K.held sink.new) (λ t. t ≡ text.now) × Rose (K.faults sink.old) (K.faults sink.new) }
     ensures later { K.faults sink.old ≤ K.faults sink.new }
 {
     match write_all(sink, text) {
-        Ok(()) => Outcome { status },
-        Err(_) => Outcome { status: 4 },
+        Ok(()) => status,
+        Err(_) => 4,
     }
 }

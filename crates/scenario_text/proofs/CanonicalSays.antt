@@ -20,15 +20,13 @@ use Rattle.scenario_text.specs.Faults.{after_lines, in_line, ◌>>=◌}
 use Rattle.scenario_text.specs.declared.fault.FaultKind.{FaultKind}
 use Rattle.scenario_text.specs.declared.fault.FaultKind.TheVariants.{Missing, TooBig}
 use Rattle.scenario_text.proofs.TextBack.{lines_back}
+use Rattle.scenario_text.proofs.DraftFacts.{after_top}
 use Rattle.scenario_text.proofs.CanonicalGoes.{with_nodes, with_rates, with_hosts, with_links, of_links, goes_nodes, goes_rates, goes_hosts, goes_links}
 use Rattle.scenario_text.proofs.ScriptGoes.{with_script, with_losses, with_cuts, with_captures, goes_script, goes_losses, goes_cuts, goes_captures}
 
 -- the first lines
 abbrev top_lines : Numbers → List (List (List ℕ))
 top_lines p = numbered (codes "profile") (profile_number p ∷ []) ∷ contend_lines p.contend
-
-abbrev after_top : Numbers → Bool → Scenario
-after_top p b = record no_scenario { first = false; after_two = b; profile = p }
 
 step_two : Step no_scenario (numbered (codes "profile") (2 ∷ [])) (after_top (contended 0) true)
 step_two = step no_scenario (numbered (codes "profile") (2 ∷ [])) (line.Profile 2) (after_top (contended 0) true) (says_profile 2 (omega arith)) (record { range = refl; known = refl; order = refl; fresh = refl; room = refl }) refl

@@ -20,7 +20,7 @@ use Rattle.scenario_text.specs.declared.scenario_line.ScenarioLine.{ScenarioLine
 use Rattle.scenario_text.specs.declared.scenario_line.ScenarioLine.TheVariants as line
 use Rattle.scenario_text.specs.declared.network_line.NetworkLine.TheVariants.{Sends, Node, Rate, Link, Pair}
 use Rattle.scenario_text.specs.declared.script.ScriptLine.{ScriptLine}
-use Rattle.scenario_text.proofs.RatesKept.{map_all, all_append}
+use Rattle.scenario_text.proofs.RatesKept.{map_all}
 use Rattle.scenario_text.proofs.CanonicalFacts.{Power, no_power, after_act, can_boot, power_after, Boots, said_act, said_link, said_loss, said_cut, said_capture, Fits, FitsAct, judged}
 
 pub record AreHosts (ns : List NodeLine) (hs : List ℕ) : Type 0 where
@@ -170,11 +170,6 @@ with_line_climbs order test l (x ∷ xs) total tells fresh climbs =
     (λ not.
     let below : order l x ≡ Less = total.antisymm l x ∙ greater_back (order x l) not (tells x ∙ other.0) in
     ((below, map_all (λ y. order x y ≡ Less) (λ y. order l y ≡ Less) xs (λ y above. total.trans l x y below above) climbs.0), climbs))
-
--- an element more behind all
-pub climbs_more : {A : Type 0} (R : A → A → Type 0) (xs : List A) (x : A) → Climbs R xs → AllByRecursion (λ y. R y x) xs → Climbs R (xs ++ x ∷ [])
-climbs_more R [] x climbs all = (tt, tt)
-climbs_more R (y ∷ xs) x climbs all = (all_append (R y) xs (x ∷ []) climbs.0 (all.0, tt), climbs_more R xs x climbs.1 all.1)
 
 pub boots_more : (w : Power) (xs : List ScriptLine) (l : ScriptLine) → Boots w xs → can_boot (power_after w xs) l.node l.act ≡ true → Boots w (xs ++ l ∷ [])
 boots_more w [] l boots can = (can, tt)

@@ -24,12 +24,12 @@ use Rattle.scenario_text.specs.declared.script.Act.TheVariants.{On, Off, Declare
 use Rattle.scenario_text.proofs.FloodKeeps.{passed, network_keeps}
 use Rattle.scenario_text.proofs.LinksBack.{link_back}
 use Rattle.scenario_text.proofs.NodeIds.{with_node-all, with_node-knows}
-use Rattle.scenario_text.proofs.RatesKept.{map_all, all_append}
+use Rattle.scenario_text.proofs.RatesKept.{map_all, all_append, climbs_more}
 use Rattle.scenario_text.proofs.LineRuns.{Allowed}
 use Rattle.scenario_text.proofs.CanonicalGoes.{frame_bound}
 use Rattle.scenario_text.proofs.ScriptGoes.{power_more}
 use Rattle.scenario_text.proofs.CanonicalFacts.{Power, no_power, after_act, can_boot, power_after, said_act, said_link, said_loss, said_cut, said_capture, Fits, HasBytes, FitsAct, judged}
-use Rattle.scenario_text.proofs.DraftFacts.{IsScript, IsTrace, after_top, IsFine, KnowsMore, hosts_more, script_more, trace_more, with_line_all, with_line_length, with_line_climbs, climbs_more, boots_more, none_later}
+use Rattle.scenario_text.proofs.DraftFacts.{IsScript, IsTrace, after_top, IsFine, KnowsMore, hosts_more, script_more, trace_more, with_line_all, with_line_length, with_line_climbs, boots_more, none_later}
 
 allowed : (d : Scenario) (l : ScenarioLine) → line_fault d l ≡ None → Allowed d l
 allowed d l none =

@@ -23,4 +23,5 @@ pub mod DraftFacts
 pub mod DraftKept
 pub mod RatesInTurn
 pub mod SaidParts
+pub mod BootsCounted
 pub mod SoundScenarios

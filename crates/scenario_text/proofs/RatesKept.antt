@@ -10,7 +10,7 @@ use Rattle.std.specs.Int.RustNames.{unsigned_abs}
 use Rattle.std.specs.Option.{option_or, option_map_or}
 use Rattle.scenario_text.specs.FloodParts.{knows}
 use Rattle.scenario_text.specs.Network.{last_rate, rates_by_node, ppm}
-use Rattle.scenario_text.specs.FloodDrafts.{Rises, Follows}
+use Rattle.scenario_text.specs.FloodDrafts.{Climbs, Rises, Follows}
 use Rattle.scenario_text.specs.declared.lines.NodeLine.{NodeLine}
 use Rattle.scenario_text.specs.declared.lines.RateLine.{RateLine}
 
@@ -75,14 +75,14 @@ later_all rs i t follows above = by_last (last_rate rs i) (tops i rs follows) ab
         let lt = ltb-true l.from t above in
         map_all (λ r. r.node ≡ i → r.from ≤ l.from) (λ r. r.node ≡ i → r.from < t) rs (λ r le same. let early = le same in omega (arith, lt, early)) top.1
 
--- a rate more
+-- an element more behind all
 pub all_append : {X : Type 0} (P : X → Type 0) (xs ys : List X) → AllByRecursion P xs → AllByRecursion P ys → AllByRecursion P (xs ++ ys)
 all_append P [] ys all others = others
 all_append P (x ∷ xs) ys all others = (all.0, all_append P xs ys all.1 others)
 
-pub follows_more : (rs : List RateLine) (r : RateLine) → Follows rs → AllByRecursion (λ s. s.node ≡ r.node → s.from < r.from) rs → Follows (rs ++ r ∷ [])
-follows_more [] r follows later = (tt, tt)
-follows_more (s ∷ rs) r follows later = (all_append (λ t. s.node ≡ t.node → s.from < t.from) rs (r ∷ []) follows.0 (later.0, tt), follows_more rs r follows.1 later.1)
+pub climbs_more : {X : Type 0} (R : X → X → Type 0) (xs : List X) (x : X) → Climbs R xs → AllByRecursion (λ y. R y x) xs → Climbs R (xs ++ x ∷ [])
+climbs_more R [] x climbs all = (tt, tt)
+climbs_more R (y ∷ xs) x climbs all = (all_append (R y) xs (x ∷ []) climbs.0 (all.0, tt), climbs_more R xs x climbs.1 all.1)
 
 -- those that pass
 pub all_filter : {X : Type 0} (P : X → Type 0) (p : X → Bool) (xs : List X) → AllByRecursion P xs → AllByRecursion P (filter p xs)

@@ -103,7 +103,7 @@ pub fine_lines : (d : Scenario) (texts : List (List ℕ)) → after_lines after_
 fine_lines d texts is = lines_fine 1 no_scenario d texts fine_first is
 
 -- ids of known nodes
-known_id : (ns : List NodeLine) (v : ℕ) → AllByRecursion (λ n. is_id n.node ≡ true) ns → knows ns v ≡ true → is_id v ≡ true
+pub known_id : (ns : List NodeLine) (v : ℕ) → AllByRecursion (λ n. is_id n.node ≡ true) ns → knows ns v ≡ true → is_id v ≡ true
 known_id [] v ids known = absurd (false≢true known)
 known_id (n ∷ ns) v ids known =
     elim (or_cases (n.node == v) (knows ns v) known) [ inl here ↦ ap is_id (sym (eqb-true n.node v here)) ∙ ids.0 | inr later ↦ known_id ns v ids.1 later ]

@@ -20,7 +20,8 @@ use Rattle.scenario_text.proofs.CanonicalFacts.{IsNode, IsRateOf, IsHost, Fits, 
 use Rattle.scenario_text.proofs.CanonicalGoes.{frame_bound}
 use Rattle.scenario_text.proofs.DraftKept.{ends_differ}
 use Rattle.scenario_text.proofs.RatesKept.{map_all, one_ascends}
-use Rattle.scenario_text.proofs.SaidParts.{said_is}
+use Rattle.scenario_text.proofs.SaidParts.{known_id, said_is}
+use Rattle.scenario_text.proofs.BootsCounted.{few_boots}
 
 climbs_pairs : {A : Type 0} (R : A → A → Type 0) (xs : List A) → Climbs R xs → AllPairs R xs
 climbs_pairs R [] climbs i j d before within = absurd (omega arith)
@@ -70,6 +71,9 @@ act_is s f i (Put x b) fits =
     let r = and_parts (nat_lt f s.frames && is_id i) (nat_le x 3) o.0 in
     record { in_run = ltb-true f s.frames (and_parts (nat_lt f s.frames) (is_id i) r.0).0; known = fits.known; act = (leb-true x 3 r.1, leb-true (length b) s.profile.payload_max o.1) }
 
+small_node : (s : ScenarioParts) (i : ℕ) → KeepsRules s → knows s.nodes i ≡ true → i ≤ 200
+small_node s i is known = (id_range i (known_id s.nodes i (map_all IsNode (λ n. is_id n.node ≡ true) s.nodes (λ n node. node.id) is.nodes) known)).1
+
 rules_sound : (s : ScenarioParts) → KeepsRules s → IsSoundScenario s
 rules_sound s is =
     let bound = frame_bound s.profile is.profile in
@@ -100,6 +104,7 @@ rules_sound s is =
       captures = all_of (λ l. Fits (judge s) (said_capture l)) (λ l. IsStepOf s l.frame l.slot l.step × AreEnds s.nodes l.at l.from) s.trace.captures (capture_is s) is.captures;
       script = all_of (FitsAct (judge s)) (IsScriptLine s) s.script (λ l at. act_is s l.frame l.node l.act at.fits) is.script;
       script_ascends = climbs_pairs (λ a b. a.frame ≤ b.frame) s.script is.script_climbs;
+      few_boots = λ v. few_boots v s.script (map_all (FitsAct (judge s)) (λ l. l.node ≤ 200) s.script (λ l at. small_node s l.node is (act_is s l.frame l.node l.act at.fits).known) is.script) is.boots;
     }
 
 pub sound : (s : ScenarioParts) → IsScenario s → IsSoundScenario s

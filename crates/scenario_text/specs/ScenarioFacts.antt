@@ -1,5 +1,5 @@
 -- What is true of each scenario.
-use Rattle.std.specs.Prelude.{◌≡◌, ◌≢◌, ◌*◌, ◌^◌, ◌<◌, ◌≤◌, ℕ, List, filter, true, length, ◌==◌, All}
+use Rattle.std.specs.Prelude.{◌≡◌, ◌≢◌, ◌+◌, ◌*◌, ◌^◌, ◌<◌, ◌≤◌, ℕ, List, [], ◌∷◌, filter, Bool, true, false, if◌then◌else◌, length, ◌==◌, All}
 use Rattle.std.specs.Int.RustNames.{unsigned_abs}
 use Rattle.std.specs.List.{AllPairs}
 use Rattle.lwb_base.specs.Profile.{Numbers, IsProfile}
@@ -36,6 +36,19 @@ pub record IsScriptLine (s : ScenarioParts) (l : ScriptLine) : Type 0 where
   pub known : knows s.nodes l.node ≡ true
   pub act : IsAct s.profile l.act
 
+-- whether a node is on, and how often it booted, behind what it is told: it boots where it was off
+abbrev pub turned_by : Act → Bool × ℕ → Bool × ℕ
+turned_by On t = (true, if t.0 then t.1 else t.1 + 1)
+turned_by Off t = (false, t.1)
+turned_by (Declare stream interval) t = t
+turned_by (Leave stream) t = t
+turned_by (Put stream payload) t = t
+
+-- and behind these lines of a script
+abbrev pub turned : ℕ → Bool × ℕ → List ScriptLine → Bool × ℕ
+turned v t [] = t
+turned v t (l ∷ ls) = turned v (if l.node == v then turned_by l.act t else t) ls
+
 pub record IsSoundScenario (s : ScenarioParts) : Type 0 where
   pub profile : IsProfile s.profile
   pub some_frames : 1 ≤ s.frames
@@ -63,3 +76,4 @@ pub record IsSoundScenario (s : ScenarioParts) : Type 0 where
   pub captures : All (λ l. IsStepOf s l.frame l.slot l.step × AreEnds s.nodes l.at l.from) s.trace.captures
   pub script : All (IsScriptLine s) s.script
   pub script_ascends : AllPairs (λ a b. a.frame ≤ b.frame) s.script
+  pub few_boots : (v : ℕ) → (turned v (false, 0) s.script).1 ≤ 200

@@ -1,0 +1,25 @@
+ghost use Rattle.std.specs.Prelude.{◌≡◌, IfOk, length};
+ghost use Rattle.bus_model.specs.FloodOfText.{outcome};
+
+use crate::{flood_air, outcome_of};
+use bus_rules::FloodResult;
+use lwb_base::Memory;
+use scenario_text::FloodText;
+use std::alloc::Global;
+use tick_clock::DriftClock;
+
+/// What one flood gives over these clocks, one for each node by ascending ids: it is read off the log of the flood.
+/// Err is want of memory.
+pub fn flood<C: DriftClock>(
+    alloc: Global,
+    f: &FloodText,
+    clocks: Vec<C>,
+) -> Result<FloodResult, Memory>
+    requires { length clocks.items ≡ length f.now.nodes }
+    ensures { IfOk result (λ r. r ≡ outcome f.now) }
+{
+    // What a text keeps to is known from this call.
+    let _start = f.start().number();
+    let air = flood_air(alloc, f, clocks)?;
+    outcome_of(alloc, f, &air)
+}

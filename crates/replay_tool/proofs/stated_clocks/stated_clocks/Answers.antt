@@ -1,0 +1,62 @@
+use Rattle.std.proofs.Common.{◌≡◌, ℕ, ℤ, ◌+◌, ◌<◌, ◌^◌, ◌++◌, ◌∷◌, [], All, List, length, get_or, take, sym, ◌∙◌, ap, subst, arith, rules}
+use Rattle.std.proofs.lemmas.List.{take_more, take_all}
+use Rattle.tick_clock.specs.ClockReadings.{segment_clock_reads}
+use Rattle.tick_clock.specs.Rates.{segment_reading, wild_at, unordered_at}
+use Rattle.scenario_text.specs.declared.lines.NodeLine.{NodeLine}
+use Rattle.scenario_text.specs.declared.lines.RateLine.{RateLine}
+use Rattle.lwb_world.specs.StatedClocks.{rates_of}
+use Rattle.replay_tool.specs.NodeRates.{AreRatesOf, AreClocks}
+use Rattle.replay_tool.proofs.NodeRates.{early_rates, none_wild, none_late, clock_more, as_many, read_as_stated}
+use Rattle.replay_tool.proofs.stated_clocks.stated_clocks.Goals as goal
+
+rates_are : (all rates : List RateLine) (lists held : List (List (ℕ × ℤ))) (node : ℕ) (got : List (ℕ × ℤ)) → rates ≡ all → AreRatesOf rates held → lists ≡ held → got ≡ get_or lists node []
+    → got ≡ rates_of all node
+rates_are all rates lists held node got same are is at =
+    at ∙ ap (λ (l : List (List (ℕ × ℤ))). get_or l node []) is ∙ are.each node ∙ ap (λ (rs : List RateLine). rates_of rs node) same
+
+pub clock_of-requires-clause-starts : goal.clock_of-requires-clause-starts
+clock_of-requires-clause-starts c =
+    let all = c.args.f.now.rates in
+    let v = c.line-item.result.node in
+    let is = rates_are all c.rates.result.now c.deref.result.now c.in_ok-rates.rates.items v c.rates_of.result.now c.rates.ensures c.in_ok-rates.ensures c.deref.ensures.value c.rates_of.ensures in
+    subst (λ (l : List (ℕ × ℤ)). All (λ r. r.0 < 2 ^ 47) l) (sym is) (early_rates v all c.start-start.ensures.sound.rates_early)
+
+pub clock_of-requires-clause-small : goal.clock_of-requires-clause-small
+clock_of-requires-clause-small c =
+    let all = c.args.f.now.rates in
+    let v = c.line-item.result.node in
+    let is = rates_are all c.rates.result.now c.deref.result.now c.in_ok-rates.rates.items v c.rates_of.result.now c.rates.ensures c.in_ok-rates.ensures c.deref.ensures.value c.rates_of.ensures in
+    ap wild_at is ∙ none_wild v all c.start-start.ensures.sound.rates_small
+
+pub clock_of-requires-clause-order : goal.clock_of-requires-clause-order
+clock_of-requires-clause-order c =
+    let all = c.args.f.now.rates in
+    let v = c.line-item.result.node in
+    let is = rates_are all c.rates.result.now c.deref.result.now c.in_ok-rates.rates.items v c.rates_of.result.now c.rates.ensures c.in_ok-rates.ensures c.deref.ensures.value c.rates_of.ensures in
+    ap unordered_at is ∙ none_late v all (c.start-start.ensures.sound.rates_ascend v)
+
+pub loop-line-preserved : goal.loop-line-preserved
+loop-line-preserved c =
+    let all = c.args.f.now.rates in
+    let nodes = c.args.f.now.nodes in
+    let i = c.loop-line.line-index in
+    let line = c.line-item.result in
+    let is = rates_are all c.rates.result.now c.deref.result.now c.in_ok-rates.rates.items line.node c.rates_of.result.now c.rates.ensures c.in_ok-rates.ensures c.deref.ensures.value c.rates_of.ensures in
+    let below : i < length nodes = omega (arith, ap length c.nodes-line-items.ensures.value) in
+    let at : line ≡ get_or nodes i line = c.line-item.is ∙ ap (λ (l : List NodeLine). get_or l i line) c.nodes-line-items.ensures.value in
+    let more : take (i + 1) nodes ≡ take i nodes ++ line ∷ [] = take_more nodes i line below ∙ ap (λ (n : NodeLine). take i nodes ++ n ∷ []) (sym at) in
+    let pushed : c.push.new.self.items ≡ c.loop-line.clocks.items ++ c.in_ok-clock.clock ∷ [] = search rules in
+    let reads : segment_clock_reads c.in_ok-clock.clock ≡ segment_reading line.offset (rates_of all line.node) = c.in_ok-clock.ensures ∙ ap (λ (l : List (ℕ × ℤ)). segment_reading line.offset l) is in
+    rw (more, pushed) (clock_more all (take i nodes) c.loop-line.clocks.items line c.in_ok-clock.clock c.loop-line.invariant reads)
+
+pub returns-clause-count : goal.returns-clause-count
+returns-clause-count c =
+    let nodes = c.args.f.now.nodes in
+    let whole : take c.loop-line.line-index nodes ≡ nodes = take_all c.loop-line.line-index nodes (omega (arith, ap length c.nodes-line-items.ensures.value)) in
+    as_many c.args.f.now.rates nodes c.loop-line.clocks.items (subst (λ (l : List NodeLine). AreClocks c.args.f.now.rates l c.loop-line.clocks.items) whole c.loop-line.invariant)
+
+pub returns-clause-stated : goal.returns-clause-stated
+returns-clause-stated c =
+    let nodes = c.args.f.now.nodes in
+    let whole : take c.loop-line.line-index nodes ≡ nodes = take_all c.loop-line.line-index nodes (omega (arith, ap length c.nodes-line-items.ensures.value)) in
+    λ v. read_as_stated c.args.f.now.rates nodes c.loop-line.clocks.items v (subst (λ (l : List NodeLine). AreClocks c.args.f.now.rates l c.loop-line.clocks.items) whole c.loop-line.invariant)

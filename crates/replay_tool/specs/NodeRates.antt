@@ -1,0 +1,20 @@
+-- Internal: the rates of each node, and the clocks made of them.
+use Rattle.std.specs.Prelude.{◌≡◌, ℕ, ℤ, List, [], ◌∷◌, length, get_or, ⊤}
+use Rattle.tick_clock.specs.Rates.{segment_reading}
+use Rattle.tick_clock.specs.ClockReadings.{segment_clock_reads}
+use Rattle.tick_clock.specs.declared.segment_clock.SegmentClock.{SegmentClock}
+use Rattle.scenario_text.specs.declared.lines.NodeLine.{NodeLine}
+use Rattle.scenario_text.specs.declared.lines.RateLine.{RateLine}
+use Rattle.lwb_world.specs.StatedClocks.{rates_of}
+
+-- at the place of each id
+pub record AreRatesOf (rates : List RateLine) (lists : List (List (ℕ × ℤ))) : Type 0 where
+  pub ids : length lists ≡ 201
+  pub each : (v : ℕ) → get_or lists v [] ≡ rates_of rates v
+
+-- each clock reads what its node's offset and rates say
+abbrev pub AreClocks : List RateLine → List NodeLine → List SegmentClock → Type 0
+AreClocks rates [] [] = ⊤
+AreClocks rates [] (c ∷ cs) = ⊥
+AreClocks rates (n ∷ ns) [] = ⊥
+AreClocks rates (n ∷ ns) (c ∷ cs) = (segment_clock_reads c ≡ segment_reading n.offset (rates_of rates n.node)) × AreClocks rates ns cs

@@ -1,0 +1,89 @@
+ghost use Rattle.std.specs.Prelude.{◌≡◌, ℕ, ◌^◌, ◌≤◌, ◌<◌, ◌++◌, ◌∷◌, [], IfOk, OnOk, All, get_or, length, set};
+ghost use Rattle.tick_clock.specs.ClockReadings.{segment_clock_reads};
+ghost use Rattle.tick_clock.specs.Rates.{segment_reading, unordered_at, wild_at};
+ghost use Rattle.lwb_world.specs.ClockLists.{clocks_by};
+ghost use Rattle.lwb_world.specs.StatedClocks.{entry_of, stated_clock};
+ghost use Rattle.replay_tool.specs.NodeRates.{AreRatesOf};
+
+use crate::node_rates::NodeRates;
+use lwb_base::{Memory, NodeId};
+use scenario_text::{FloodText, RateLine};
+use std::alloc::Global;
+use tick_clock::{ClockFault, SegmentClock};
+
+/// Ids of nodes are below this number.
+const IDS: usize = 201;
+
+/// The clocks that a text states, one for each node by ascending ids. Err is want of memory.
+pub fn stated_clocks(alloc: Global, f: &FloodText) -> Result<Vec<SegmentClock>, Memory>
+    ensures count { IfOk result (λ clocks. length clocks.items ≡ length f.now.nodes) }
+    ensures stated { IfOk result (λ clocks. (v : ℕ) → clocks_by segment_clock_reads f.now.nodes clocks.items v ≡ stated_clock f.now v) }
+{
+    // What a text keeps to is known from this call.
+    let _start = f.start();
+    let rates = rates_by_id(alloc, f.rates())?;
+    let mut clocks = Vec::new(alloc);
+    for line in f.nodes() {
+        let clock = clock_of(alloc, line.offset, rates_of(&rates, line.node))?;
+        if clocks.push(clock).is_err() {
+            return Err(Memory);
+        }
+    }
+    Ok(clocks)
+}
+
+// A clock of rates that ascend and are in range.
+fn clock_of(alloc: Global, offset: u64, rates: &[(u64, i8)]) -> Result<SegmentClock, Memory>
+    requires offset { offset ≤ 256000 }
+    requires starts { All (λ r. r.0 < 2 ^ 47) rates.now }
+    requires small { wild_at rates.now ≡ None }
+    requires order { unordered_at rates.now ≡ None }
+    ensures { IfOk result (λ clock. segment_clock_reads clock ≡ segment_reading offset rates.now) }
+{
+    match SegmentClock::new(alloc, offset, rates) {
+        Ok(clock) => Ok(clock),
+        Err(ClockFault::Memory) => Err(Memory),
+        Err(ClockFault::Rate(_)) => unreachable!(),
+        Err(ClockFault::Order(_)) => unreachable!(),
+    }
+}
+
+fn rates_of(lists: &[NodeRates], node: NodeId) -> &[(u64, i8)]
+    requires { length lists.now ≡ IDS }
+    ensures { result.now ≡ get_or lists.now node [] }
+{
+    lists[node.number() as usize].entries()
+}
+
+// The rates of each node in the order in which they stand, at the place of its id.
+fn rates_by_id(alloc: Global, rates: &[RateLine]) -> Result<Vec<NodeRates>, Memory>
+    ensures { IfOk result (λ lists. AreRatesOf rates.now lists.items) }
+{
+    let mut lists = no_rates(alloc)?;
+    for rate in rates {
+        add_rate(&mut lists, rate)?;
+    }
+    Ok(lists)
+}
+
+fn no_rates(alloc: Global) -> Result<Vec<NodeRates>, Memory>
+    ensures { IfOk result (λ lists. AreRatesOf [] lists.items) }
+{
+    let mut lists = Vec::new(alloc);
+    for _ in 0..IDS {
+        if lists.push(NodeRates::new(alloc)).is_err() {
+            return Err(Memory);
+        }
+    }
+    Ok(lists)
+}
+
+fn add_rate(lists: &mut Vec<NodeRates>, rate: &RateLine) -> Result<(), Memory>
+    requires { length lists.old.items ≡ IDS }
+    ensures range { rate.now.node ≤ 200 }
+    ensures added { OnOk result (lists.new.items ≡ set lists.old.items rate.now.node (get_or lists.old.items rate.now.node [] ++ entry_of rate.now ∷ [])) }
+{
+    let place = rate.node.number() as usize;
+    let list = &mut lists[place];
+    list.push(rate.from, rate.ppm)
+}
