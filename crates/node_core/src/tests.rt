@@ -147,47 +147,59 @@ fn sent_without_a_sending(rt: HostRuntime) -> Result<(), Fail> {
     Ok(())
 }
 
-// A node with one packet joins the first round in frame 5, requests, is acknowledged, and waits for frame 9.
-fn holder(alloc: Global) -> Result<Node, Fail> {
-    let mut two = node(alloc, 2)?;
-    orders(alloc, &mut two, 0, Event::Boot)?;
+// A node with this id that has scanned for five frames, in which nobody spoke.
+fn scanner(alloc: Global, id: u8) -> Result<Node, Fail>
+    ensures { IfOk result (λ n. n.setup.profile ≡ one) }
+{
+    let mut node = node(alloc, id)?;
+    orders(alloc, &mut node, 0, Event::Boot)?;
+    for time in [
+        204_800_000,
+        460_800_000,
+        716_800_000,
+        972_800_000,
+        1_228_800_000,
+    ] {
+        orders(alloc, &mut node, time, Event::Alarm)?;
+    }
+    Ok(node)
+}
+
+// A node with a packet joins the host's first round in frame 5, requests, and waits for the round of frame 9: the opening,
+// its own data slot, three more, the contention slot in which nothing is due, and the closing.
+#[test]
+fn a_node_joins_and_goes_through_its_round(rt: HostRuntime) -> Result<(), Fail> {
+    let alloc = rt.alloc();
+    let mut two = scanner(alloc, 2)?;
     two.declare(0, 4);
     two.put(0, &Payload::new(&[0xaa]).ok_or("length")?);
-    for (time, what) in [
-        (204_800_000, What::Alarm),
-        (460_800_000, What::Alarm),
-        (716_800_000, What::Alarm),
-        (972_800_000, What::Alarm),
-        (1_228_800_000, What::Alarm),
-        (1_344_100_864, What::Heard(&[1, 0, 0, 0, 1, 0, 0, 0, 0, 0])),
-        (1_344_150_016, What::Sent),
-        (1_346_096_000, What::Alarm),
-        (1_346_112_000, What::Alarm),
-        (1_346_206_720, What::Sent),
-        (1_348_208_000, What::Alarm),
-        (1_348_224_000, What::Alarm),
+    for (time, what, want) in [
+        (
+            1_344_100_864,
+            What::Heard(&[1, 0, 0, 0, 1, 0, 0, 0, 0, 0]),
+            "send 1344113152 01000100010000000000 alarm 1346096000 ",
+        ),
+        (1_344_150_016, What::Sent, ""),
+        (1_346_096_000, What::Alarm, "off alarm 1346112000 "),
+        (
+            1_346_112_000,
+            What::Alarm,
+            "listen 0 send 1346176000 03010002010004 alarm 1348208000 ",
+        ),
+        (1_346_206_720, What::Sent, ""),
+        (1_348_208_000, What::Alarm, "off alarm 1348224000 "),
+        (1_348_224_000, What::Alarm, "listen 0 alarm 1350320000 "),
         (
             1_348_328_960,
             What::Heard(&[1, 2, 0, 4, 1, 2, 1, 0, 4, 4, 0, 0x80]),
+            "send 1348341248 010201040102010004040080 ",
         ),
-        (1_348_382_208, What::Sent),
-        (1_350_320_000, What::Alarm),
-        (1_484_800_000, What::Alarm),
-        (1_740_800_000, What::Alarm),
-        (1_996_800_000, What::Alarm),
-        (2_252_800_000, What::Alarm),
-    ] {
-        orders(alloc, &mut two, time, event(what)?)?;
-    }
-    Ok(two)
-}
-
-// Frame 9: the opening, its own data slot, three more, the contention slot in which nothing is due, and the closing.
-#[test]
-fn a_holder_goes_through_its_round(rt: HostRuntime) -> Result<(), Fail> {
-    let alloc = rt.alloc();
-    let mut two = holder(alloc)?;
-    for (time, what, want) in [
+        (1_348_382_208, What::Sent, ""),
+        (1_350_320_000, What::Alarm, "off alarm 1484800000 "),
+        (1_484_800_000, What::Alarm, "off alarm 1740800000 "),
+        (1_740_800_000, What::Alarm, "off alarm 1996800000 "),
+        (1_996_800_000, What::Alarm, "off alarm 2252800000 "),
+        (2_252_800_000, What::Alarm, "off alarm 2368000000 "),
         (2_368_000_000, What::Alarm, "listen 0 alarm 2370096000 "),
         (
             2_368_104_960,
@@ -234,18 +246,12 @@ fn a_holder_goes_through_its_round(rt: HostRuntime) -> Result<(), Fail> {
     Ok(())
 }
 
-// Node 3 knows the round of frame 9 by the closing before it alone, and delivers what it hears in a data slot.
+// A node that knows the round of frame 9 by a closing alone delivers what it hears in a data slot, once.
 #[test]
-fn a_delivery_is_given_once(rt: HostRuntime) -> Result<(), Fail> {
+fn a_holder_delivers_once(rt: HostRuntime) -> Result<(), Fail> {
     let alloc = rt.alloc();
-    let mut three = node(alloc, 3)?;
-    orders(alloc, &mut three, 0, Event::Boot)?;
+    let mut three = scanner(alloc, 3)?;
     for (time, what, want) in [
-        (204_800_000, What::Alarm, "listen 0 alarm 460800000 "),
-        (460_800_000, What::Alarm, "listen 0 alarm 716800000 "),
-        (716_800_000, What::Alarm, "listen 0 alarm 972800000 "),
-        (972_800_000, What::Alarm, "listen 0 alarm 1228800000 "),
-        (1_228_800_000, What::Alarm, "listen 0 alarm 1484800000 "),
         (
             1_348_328_960,
             What::Heard(&[1, 2, 0, 4, 1, 2, 1, 0, 4, 4, 0, 0x80]),
@@ -266,7 +272,7 @@ fn a_delivery_is_given_once(rt: HostRuntime) -> Result<(), Fail> {
         ),
         (2_372_208_000, What::Alarm, "off alarm 2372224000 "),
     ] {
-        assert!(rt; three.delivered().is_none(), "before {time}");
+        assert!(rt; three.delivered().is_none());
         let given = orders(alloc, &mut three, time, event(what)?)?;
         assert_eq!(rt; given.as_str(), want, "at {time}");
     }
