@@ -4,19 +4,20 @@ use super::*;
 use crate::Class::{Alarm, SendingEnd, SendingStart};
 use std::test::Fail;
 
-// What is next after one change, by the trait.
+// What is next after one change of a queue of three places.
 fn next_after<Q: Orders>(
     orders: &mut Q,
     place: u8,
     class: Class,
     tick: Option<u64>,
 ) -> Option<(u64, Class, u8)>
-    requires { place < length (Q.map orders.old) }
-    ensures { length (Q.map orders.new) ≡ length (Q.map orders.old) }
+    requires { length (Q.map orders.old) ≡ 3 }
+    ensures { length (Q.map orders.new) ≡ 3 }
 {
     match tick {
-        Some(tick) => orders.set(place, class, tick),
-        None => orders.clear(place, class),
+        Some(tick) if place < 3 => orders.set(place, class, tick),
+        None if place < 3 => orders.clear(place, class),
+        _ => {}
     }
     orders.next()
 }
@@ -25,55 +26,24 @@ fn next_after<Q: Orders>(
 fn the_least_is_next_by_tick_then_class_then_place(rt: HostRuntime) -> Result<(), Fail> {
     let mut all = Calendar::new(rt.alloc(), 3)?;
     assert_eq!(rt; all.next(), None);
-    assert_eq!(rt;
-        next_after(&mut all, 2, Alarm, Some(9)),
-        Some((9, Alarm, 2))
-    );
-    assert_eq!(rt;
-        next_after(&mut all, 1, SendingStart, Some(5)),
-        Some((5, SendingStart, 1))
-    );
-    assert_eq!(rt;
-        next_after(&mut all, 2, Alarm, Some(5)),
-        Some((5, Alarm, 2))
-    );
-    assert_eq!(rt;
-        next_after(&mut all, 0, SendingStart, Some(5)),
-        Some((5, Alarm, 2))
-    );
-    assert_eq!(rt;
-        next_after(&mut all, 2, SendingEnd, Some(6)),
-        Some((5, Alarm, 2))
-    );
-    assert_eq!(rt;
-        next_after(&mut all, 2, Alarm, None),
-        Some((5, SendingStart, 0))
-    );
-    assert_eq!(rt;
-        next_after(&mut all, 2, Alarm, None),
-        Some((5, SendingStart, 0))
-    );
-    assert_eq!(rt;
-        next_after(&mut all, 0, SendingStart, Some(7)),
-        Some((5, SendingStart, 1))
-    );
-    assert_eq!(rt;
-        next_after(&mut all, 1, SendingStart, None),
-        Some((6, SendingEnd, 2))
-    );
-    assert_eq!(rt;
-        next_after(&mut all, 1, SendingEnd, Some(0)),
-        Some((0, SendingEnd, 1))
-    );
-    assert_eq!(rt;
-        next_after(&mut all, 1, SendingEnd, None),
-        Some((6, SendingEnd, 2))
-    );
-    assert_eq!(rt;
-        next_after(&mut all, 2, SendingEnd, None),
-        Some((7, SendingStart, 0))
-    );
-    assert_eq!(rt; next_after(&mut all, 0, SendingStart, None), None);
+    // place, class, the tick that is set or none for a clear, and what is next then
+    for (place, class, tick, next) in [
+        (2, Alarm, Some(9), Some((9, Alarm, 2))),
+        (1, SendingStart, Some(5), Some((5, SendingStart, 1))),
+        (2, Alarm, Some(5), Some((5, Alarm, 2))),
+        (0, SendingStart, Some(5), Some((5, Alarm, 2))),
+        (2, SendingEnd, Some(6), Some((5, Alarm, 2))),
+        (2, Alarm, None, Some((5, SendingStart, 0))),
+        (2, Alarm, None, Some((5, SendingStart, 0))),
+        (0, SendingStart, Some(7), Some((5, SendingStart, 1))),
+        (1, SendingStart, None, Some((6, SendingEnd, 2))),
+        (1, SendingEnd, Some(0), Some((0, SendingEnd, 1))),
+        (1, SendingEnd, None, Some((6, SendingEnd, 2))),
+        (2, SendingEnd, None, Some((7, SendingStart, 0))),
+        (0, SendingStart, None, None),
+    ] {
+        assert_eq!(rt; next_after(&mut all, place, class, tick), next);
+    }
     Ok(())
 }
 
