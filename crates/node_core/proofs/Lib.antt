@@ -9,3 +9,4 @@ pub mod Opened
 pub mod KeptTables
 pub mod Followed
 pub mod JoinedWindows
+pub mod FewOrders

@@ -11,7 +11,9 @@ use Rattle.bus_rules.specs.declared.tune.Tune.TheVariants.{Hold}
 use Rattle.bus_rules.specs.Streams.{schedule_heard}
 use Rattle.bus_rules.specs.Cores.{Setup}
 use Rattle.node_core.specs.Nodes.{Node, rebooted}
-use Rattle.node_core.specs.Runs.{Call, Step, Declare, Put, after_calls, orders_of_each}
+use Rattle.node_core.specs.Runs.{after_calls, orders_of_each}
+use Rattle.node_core.specs.declared.call.Call.{Call}
+use Rattle.node_core.specs.declared.call.Call.TheVariants.{Step, Declare, Put}
 
 -- the only host, and a node that hosts nothing
 abbrev host : Setup

@@ -1,19 +1,14 @@
 -- Whole runs of a node: events at readings, and calls of the script.
-use Rattle.std.specs.Prelude.{ℕ, List, [], ◌∷◌, Some, None}
+use Rattle.std.specs.Prelude.{ℕ, ◌<◌, ◌≤◌, ◌^◌, List, [], ◌∷◌, ◌++◌, Some, None, length, ⊤}
 use Rattle.std.specs.declared.option.Option.{Option}
-use Rattle.lwb_base.specs.declared.event.Event.{Event}
 use Rattle.lwb_base.specs.declared.order.Order.{Order}
 use Rattle.bus_rules.specs.Streams.{Streams, declared, left, put}
 use Rattle.bus_rules.specs.Cores.{Setup}
 use Rattle.node_core.specs.Nodes.{Node, rebooted}
 use Rattle.node_core.specs.Rows.{Stepped, row}
-
-pub data Call : Type 0 where
-  Step : (reading : ℕ) → (event : Event) → Call
-  Declare : (stream : ℕ) → (interval : ℕ) → Call
-  Leave : (stream : ℕ) → Call
-  Put : (stream : ℕ) → (payload : List ℕ) → Call
-  Reboot : (boot : ℕ) → Call
+use Rattle.node_core.specs.declared.call.Call.{Call}
+use Rattle.node_core.specs.declared.call.Call.TheVariants.{Step, Declare, Leave, Put, Reboot}
+use Rattle.node_core.specs.Members.{IsBoot}
 
 -- the node after the row that fits, if one does
 abbrev pub node_after : Node → Option Stepped → Node
@@ -50,3 +45,16 @@ after_calls s n (call ∷ calls) = after_calls s (after_call s n call) calls
 abbrev pub orders_of_each : Setup → Node → List Call → List (List Order)
 orders_of_each s n [] = []
 orders_of_each s n (call ∷ calls) = orders_of s n call ∷ orders_of_each s (after_call s n call) calls
+
+-- all of them
+abbrev pub orders_of_all : Setup → Node → List Call → List Order
+orders_of_all s n [] = []
+orders_of_all s n (call ∷ calls) = orders_of s n call ++ orders_of_all s (after_call s n call) calls
+
+-- what a call asks for: readings are below 2^46, there are four streams, and payloads are those of the profile
+abbrev pub IsAllowed : Setup → Call → Type 0
+IsAllowed s (Step now e) = now < 2 ^ 46
+IsAllowed s (Declare i interval) = (i ≤ 3) × (1 ≤ interval) × (interval ≤ 120)
+IsAllowed s (Leave i) = i ≤ 3
+IsAllowed s (Put i payload) = (i ≤ 3) × (length payload ≤ s.profile.payload_max)
+IsAllowed s (Reboot boot) = IsBoot boot

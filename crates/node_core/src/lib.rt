@@ -1,8 +1,10 @@
 //! The core of a node: what it does and orders at each event, over any clock and any radio.
 #![tactic(auto)]
 
+mod call;
 mod closes;
 mod closing;
+mod follow;
 mod hearing;
 mod kept;
 mod member;
@@ -17,6 +19,7 @@ mod step;
 mod times;
 mod window;
 
+pub use call::Call;
 pub use node::{Node, Place};
 
 #[cfg(test)]

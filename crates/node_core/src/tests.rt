@@ -136,6 +136,27 @@ fn orders_of_a_booting_host(rt: HostRuntime) -> Result<(), Fail> {
     Ok(())
 }
 
+// The orders of a whole list of calls, one after another.
+#[test]
+fn calls_are_followed(rt: HostRuntime) -> Result<(), Fail> {
+    let alloc = rt.alloc();
+    let mut one = node(alloc, 1)?;
+    let mut radio = RecordingRadio::new();
+    one.follow(
+        &[Call::Step(0, Event::Boot), Call::Step(1, Event::Sent)],
+        &mut radio,
+    );
+    let mut text = String::new(alloc);
+    for _ in 0..8 {
+        if let Some(order) = radio.take() {
+            add(&mut text, &order)?;
+        }
+    }
+    assert_eq!(rt; text.as_str(), "listen 0 alarm 204800000 ");
+    assert_eq!(rt; one.place(), Place::Scanning);
+    Ok(())
+}
+
 #[test]
 fn sent_without_a_sending(rt: HostRuntime) -> Result<(), Fail> {
     let alloc = rt.alloc();
