@@ -3,3 +3,9 @@ pub mod HearsAir
 pub mod NodeEvents
 pub mod FloodLaw
 pub mod TwoNodeLog
+pub mod WindowLogs
+pub mod Devices
+pub mod ScriptedDevices
+pub mod Trails
+pub mod Charges
+pub mod Lawful
