@@ -7,5 +7,6 @@ pub mod WindowLogs
 pub mod Devices
 pub mod ScriptedDevices
 pub mod Trails
+pub mod QuietTicks
 pub mod Charges
 pub mod Lawful

@@ -1,5 +1,5 @@
 -- What script lines do to a node with its radio.
-use Rattle.std.specs.Prelude.{ℕ, ◌+◌, List, [], ◌∷◌, ◌++◌, ◌==◌, if◌then◌else◌, None}
+use Rattle.std.specs.Prelude.{ℕ, ◌+◌, List, [], ◌∷◌, ◌++◌, if◌then◌else◌, None}
 use Rattle.lwb_base.specs.declared.event.Event.TheVariants.{Boot}
 use Rattle.scenario_text.specs.declared.script.Act.{Act}
 use Rattle.scenario_text.specs.declared.script.Act.TheVariants.{On, Off, Declare, Leave, Put}
@@ -42,6 +42,6 @@ after_act clock s t frame d (Leave i) (PowerOn n) = with_new_streams d n (left i
 after_act clock s t frame d (Put i payload) (PowerOff boots) = dropped s.id frame i d
 after_act clock s t frame d (Put i payload) (PowerOn n) = put_or_dropped s frame i payload d n
 
--- lines of other nodes do nothing
+-- what a line of the node says, at tick t
 abbrev pub after_line : (ℕ → ℕ) → Setup → ℕ → Device → ScriptLine → Device
-after_line clock s t d l = if l.node == s.id then after_act clock s t l.frame d l.act d.power else d
+after_line clock s t d l = after_act clock s t l.frame d l.act d.power

@@ -1,5 +1,5 @@
 -- The trail of a node: what it does from tick to tick, by the script, its clock and what it hears.
-use Rattle.std.specs.Prelude.{ℕ, zero, suc, ◌+◌, ◌*◌, List, [], ◌∷◌, ◌++◌, Bool, true, false, ◌==◌, nat_lt, if◌then◌else◌, Some, None, filter, fold, length}
+use Rattle.std.specs.Prelude.{ℕ, zero, suc, ◌+◌, ◌*◌, List, [], ◌∷◌, ◌++◌, Bool, true, false, ◌&&◌, ◌==◌, nat_lt, if◌then◌else◌, Some, None, filter, fold, length}
 use Rattle.std.specs.declared.option.Option.{Option}
 use Rattle.lwb_base.specs.Profile.{airtime}
 use Rattle.lwb_base.specs.declared.event.Event.TheVariants.{Alarm, Heard, Sent}
@@ -28,12 +28,12 @@ run_end s = s.frames * s.profile.frame
 abbrev pub frame_start : ScenarioParts → ℕ → ℕ
 frame_start s f = f * s.profile.frame
 
--- first: the script lines of the frame that starts at t
-abbrev pub lines_at : ScenarioParts → ℕ → List ScriptLine
-lines_at s t = filter (λ l. frame_start s l.frame == t) s.script
+-- first: the script lines of v, if the frame that they name starts at t
+abbrev pub lines_at : ScenarioParts → ℕ → ℕ → List ScriptLine
+lines_at s v t = filter (λ l. (l.node == v) && (frame_start s l.frame == t)) s.script
 
 abbrev pub scripted : ScenarioParts → ℕ → (ℕ → ℕ) → ℕ → Device → Device
-scripted s v clock t d = fold (after_line clock (setup_of s v) t) d (lines_at s t)
+scripted s v clock t d = fold (after_line clock (setup_of s v) t) d (lines_at s v t)
 
 -- second: the hearings that end at t, in the order of the list
 abbrev pub ending_at : ℕ → List Reception → List Reception

@@ -4,6 +4,7 @@
 mod air;
 mod entry;
 pub mod flood_law;
+pub mod trail_laws;
 
 pub use air::Air;
 pub use entry::{Entry, HeardEntry, SentEntry, TunedEntry};
