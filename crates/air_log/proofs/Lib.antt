@@ -1,3 +1,6 @@
 pub mod Elements
 pub mod TwoNodeLog
 pub mod QuietTicks
+pub mod KeptByEvents
+pub mod TrailTunings
+pub mod TrailSendings

@@ -8,5 +8,6 @@ pub mod Devices
 pub mod ScriptedDevices
 pub mod Trails
 pub mod QuietTicks
+pub mod TrailEntries
 pub mod Charges
 pub mod Lawful
