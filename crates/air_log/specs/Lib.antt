@@ -4,3 +4,11 @@ pub mod NodeEvents
 pub mod FloodLaw
 pub mod TwoNodeLog
 pub mod LogText
+pub mod WindowLogs
+pub mod Devices
+pub mod ScriptedDevices
+pub mod Trails
+pub mod QuietTicks
+pub mod TrailEntries
+pub mod Charges
+pub mod Lawful

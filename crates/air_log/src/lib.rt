@@ -6,6 +6,7 @@ mod entry;
 pub mod flood_law;
 mod line_writers;
 mod printing;
+pub mod trail_laws;
 
 pub use air::Air;
 pub use entry::{Entry, HeardEntry, SentEntry, TunedEntry};

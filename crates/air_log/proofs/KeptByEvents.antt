@@ -1,0 +1,85 @@
+-- What each order and each row keeps, a whole tick keeps.
+use Rattle.std.proofs.Common.{◌≡◌, ℕ, zero, suc, ◌+◌, List, [], ◌∷◌, Bool, true, false, ◌==◌, if◌then◌else◌, Some, None, Option, refl, fold}
+use Rattle.std.proofs.lemmas.Bool.{cond_both}
+use Rattle.lwb_base.specs.declared.event.Event.{Event}
+use Rattle.lwb_base.specs.declared.event.Event.TheVariants.{Boot, Alarm, Heard, Sent}
+use Rattle.lwb_base.specs.declared.order.Order.{Order}
+use Rattle.radio_model.specs.declared.sending.Sending.{Sending}
+use Rattle.scenario_text.specs.ScenarioParts.{ScenarioParts}
+use Rattle.scenario_text.specs.declared.script.Act.{Act}
+use Rattle.scenario_text.specs.declared.script.Act.TheVariants.{On, Off, Declare, Leave, Put}
+use Rattle.scenario_text.specs.declared.script.ScriptLine.{ScriptLine}
+use Rattle.bus_rules.specs.declared.delivery.DropLine.{DropLine}
+use Rattle.bus_rules.specs.Streams.{drops, put}
+use Rattle.bus_rules.specs.Cores.{Setup}
+use Rattle.node_core.specs.Nodes.{Node, rebooted}
+use Rattle.node_core.specs.Runs.{orders_by}
+use Rattle.node_core.specs.Rows.{Stepped, row}
+use Rattle.air_log.specs.Devices.{Device, Power, PowerOff, PowerOn, obeyed, moved, event, event_by, silenced}
+use Rattle.air_log.specs.ScriptedDevices.{after_act, after_line, dropped, with_new_streams}
+use Rattle.air_log.specs.Trails.{Reception, setup_of, lines_at, scripted, ending_at, hears, heard, ended_by, ended, is_due, alarms, alarmed, before_start}
+
+-- at tick t. Neither the power nor what is set or runs matters
+pub record IsKept (P : Device → Type 0) (clock : ℕ → ℕ) (s : Setup) (t : ℕ) : Type 0 where
+  pub obeying : (d : Device) (o : Order) → P d → P (obeyed clock s.id t d o)
+  pub moving : (e : Event) (x : Option Sending) (d : Device) (n : Node) (r : Option Stepped) → P d → P (moved t e x d n r)
+  pub powered : (d : Device) (p : Power) → P d → P (record d { power = p })
+  pub without_alarm : (d : Device) → P d → P (record d { alarm = None })
+  pub off : (d : Device) (boots : ℕ) → P d → P (record (silenced s.id t d) { power = PowerOff boots; alarm = None; ordered = None })
+  pub after_sending : (d : Device) → P d → P (record d { sending = None })
+  pub dropping : (frame i : ℕ) (d : Device) → P d → P (dropped s.id frame i d)
+
+module _ (P : Device → Type 0) (clock : ℕ → ℕ) (s : Setup) (t : ℕ) (kept : IsKept P clock s t) where
+  all_obeyed : (os : List Order) (d : Device) → P d → P (fold (obeyed clock s.id t) d os)
+  all_obeyed [] d holds = holds
+  all_obeyed (o ∷ os) d holds = all_obeyed os (obeyed clock s.id t d o) (kept.obeying d o holds)
+
+  by_event : (e : Event) (x : Option Sending) (d : Device) (p : Power) → P d → P (event_by clock s t e x d p)
+  by_event e x d (PowerOff boots) holds = holds
+  by_event e x d (PowerOn n) holds =
+      let r = row s n (clock t) e in
+      all_obeyed (orders_by r) (moved t e x d n r) (kept.moving e x d n r holds)
+
+  by_act : (frame : ℕ) (d : Device) (a : Act) (p : Power) → P d → P (after_act clock s t frame d a p)
+  by_act frame d On (PowerOff boots) holds = by_event Boot None (record d { power = PowerOn (rebooted (boots + 1)) }) (PowerOn (rebooted (boots + 1))) (kept.powered d (PowerOn (rebooted (boots + 1))) holds)
+  by_act frame d On (PowerOn n) holds = holds
+  by_act frame d Off (PowerOff boots) holds = holds
+  by_act frame d Off (PowerOn n) holds = kept.off d n.core.boot holds
+  by_act frame d (Declare i interval) (PowerOff boots) holds = holds
+  by_act frame d (Declare i interval) (PowerOn n) holds = kept.powered d _ holds
+  by_act frame d (Leave i) (PowerOff boots) holds = holds
+  by_act frame d (Leave i) (PowerOn n) holds = kept.powered d _ holds
+  by_act frame d (Put i payload) (PowerOff boots) holds = kept.dropping frame i d holds
+  by_act frame d (Put i payload) (PowerOn n) holds =
+      cond_both (drops n.core.streams i) (dropped s.id frame i d) (with_new_streams d n (put i payload n.core.streams)) P (λ is. kept.dropping frame i d holds) (λ is. kept.powered d _ holds)
+
+  by_lines : (ls : List ScriptLine) (d : Device) → P d → P (fold (after_line clock s t) d ls)
+  by_lines [] d holds = holds
+  by_lines (l ∷ ls) d holds = by_lines ls (after_line clock s t d l) (by_act l.frame d l.act d.power holds)
+
+  by_hearings : (hs : List Reception) (d : Device) → P d → P (fold (hears clock s t) d hs)
+  by_hearings [] d holds = holds
+  by_hearings (h ∷ hs) d holds = by_hearings hs (hears clock s t d h) (by_event (Heard h.packet) None d d.power holds)
+
+  by_end : (d : Device) (x : Option Sending) → P d → P (ended_by clock s t d x)
+  by_end d None holds = holds
+  by_end d (Some x) holds =
+      cond_both (x.end == t) (event clock s t Sent (Some x) (record d { sending = None })) d P (λ is. by_event Sent (Some x) (record d { sending = None }) d.power (kept.after_sending d holds)) (λ is. holds)
+
+  by_alarms : (b : Bool) (more : ℕ) (d : Device) → P d → P (alarms clock s t b more d)
+  unfolding alarms
+  by_alarms false more d holds = holds
+  by_alarms true zero d holds = holds
+  by_alarms true (suc more) d holds =
+      let after = event clock s t Alarm None (record d { alarm = None }) in
+      by_alarms (is_due t after.alarm) more after (by_event Alarm None (record d { alarm = None }) d.power (kept.without_alarm d holds))
+
+pub in_tick : (P : Device → Type 0) (s : ScenarioParts) (v : ℕ) (clock : ℕ → ℕ) (hs : List Reception) (t : ℕ) (d : Device) → IsKept P clock (setup_of s v) t → P d → P (before_start s v clock hs t d)
+in_tick P s v clock hs t d kept holds =
+    let x = setup_of s v in
+    let one = by_lines P clock x t kept (lines_at s v t) d holds in
+    let two = by_hearings P clock x t kept (ending_at t hs) (scripted s v clock t d) one in
+    let d2 = heard clock x t hs (scripted s v clock t d) in
+    let three = by_end P clock x t kept d2 d2.sending two in
+    let d3 = ended clock x t d2 in
+    by_alarms P clock x t kept (is_due t d3.alarm) (clock t + 300) d3 three

@@ -1,0 +1,112 @@
+-- A node with its radio and its alarm: what an event does to it, and what it has made so far.
+use Rattle.std.specs.Prelude.{ℕ, List, [], ◌∷◌, ◌++◌, Bool, false, ◌&&◌, ◌==◌, nat_lt, if◌then◌else◌, Some, None, max, option_to_list, option_and_then, fold}
+use Rattle.std.specs.declared.option.Option.{Option}
+use Rattle.lwb_base.specs.declared.event.Event.{Event}
+use Rattle.lwb_base.specs.declared.order.Order.{Order}
+use Rattle.lwb_base.specs.declared.order.Order.TheVariants.{Listen, Off, SendAt, Alarm}
+use Rattle.tick_clock.specs.Clocks.{due}
+use Rattle.radio_model.specs.declared.sending.Sending.{Sending}
+use Rattle.radio_model.specs.OnAir.{Tuning}
+use Rattle.bus_rules.specs.declared.delivery.Delivery.{Delivery}
+use Rattle.bus_rules.specs.declared.delivery.DropLine.{DropLine}
+use Rattle.bus_rules.specs.Cores.{Setup}
+use Rattle.node_core.specs.Nodes.{Node}
+use Rattle.node_core.specs.Rows.{Stepped, row}
+use Rattle.node_core.specs.Runs.{node_after, orders_by}
+use Rattle.air_log.specs.WindowLogs.{WindowLog, windows_after}
+
+-- off after so many boots, or on
+pub data Power : Type 0 where
+  PowerOff : (boots : ℕ) → Power
+  PowerOn : (node : Node) → Power
+
+-- the radio is on at the channel of a rank since a tick
+pub record Listening : Type 0 where
+  pub rank : ℕ
+  pub since : ℕ
+
+-- a packet that is to be sent at a tick
+pub record Ordered : Type 0 where
+  pub tick : ℕ
+  pub packet : List ℕ
+
+-- all that a node has made: sendings, deliveries and drops in their order, tunings that ended and windows with the last
+-- first
+pub record Made : Type 0 where
+  pub sent : List Sending
+  pub tuned : List Tuning
+  pub deliveries : List Delivery
+  pub drops : List DropLine
+  pub windows : List WindowLog
+
+-- the node, its radio, its one alarm with the tick, its one ordered sending, and its sending that runs
+pub record Device : Type 0 where
+  pub power : Power
+  pub listening : Option Listening
+  pub alarm : Option ℕ
+  pub ordered : Option Ordered
+  pub sending : Option Sending
+  pub made : Made
+
+abbrev pub nothing_made : Made
+nothing_made = record { sent = []; tuned = []; deliveries = []; drops = []; windows = [] }
+
+-- before the run
+abbrev pub at_rest : Device
+at_rest = record { power = PowerOff 0; listening = None; alarm = None; ordered = None; sending = None; made = nothing_made }
+
+-- the radio goes off at t. A tuning that is empty leaves no entry
+abbrev pub with_tuning : ℕ → ℕ → Option Listening → List Tuning → List Tuning
+with_tuning node t None tunings = tunings
+with_tuning node t (Some l) tunings = if nat_lt l.since t then record { rank = l.rank; node = node; start = l.since; end = t } ∷ tunings else tunings
+
+abbrev pub silenced : ℕ → ℕ → Device → Device
+silenced node t d = record d { listening = None; made = record (d.made) { tuned = with_tuning node t d.listening d.made.tuned } }
+
+-- the radio goes on at t. A tuning of the same rank that ended at this very tick goes on
+abbrev pub tunes : ℕ → ℕ → Device → List Tuning → Device
+tunes rank t d [] = record d { listening = Some (record { rank = rank; since = t }) }
+tunes rank t d (e ∷ earlier) =
+    if (e.rank == rank) && (e.end == t)
+    then record d { listening = Some (record { rank = rank; since = e.start }); made = record (d.made) { tuned = earlier } }
+    else record d { listening = Some (record { rank = rank; since = t }) }
+
+abbrev pub retuned : ℕ → ℕ → Device → Device
+retuned rank t d = tunes rank t d d.made.tuned
+
+abbrev pub listens_to : ℕ → Option Listening → Bool
+listens_to rank None = false
+listens_to rank (Some l) = l.rank == rank
+
+-- an order at tick t. Times by the clock are those at which it first reads them, or the present tick if that has passed
+abbrev pub obeyed : (ℕ → ℕ) → ℕ → ℕ → Device → Order → Device
+obeyed clock node t d (Listen rank) = if listens_to rank d.listening then d else retuned rank t (silenced node t d)
+obeyed clock node t d Off = silenced node t d
+obeyed clock node t d (SendAt local packet) = record d { ordered = Some (record { tick = max (due clock local) t; packet = packet }) }
+obeyed clock node t d (Alarm local) = record d { alarm = Some (max (due clock local) t) }
+
+abbrev pub delivery_by : Option Stepped → Option Delivery
+delivery_by r = option_and_then (λ s. s.delivery) r
+
+-- the row that fits the event, if one does; its orders act at once
+abbrev pub moved : ℕ → Event → Option Sending → Device → Node → Option Stepped → Device
+moved t e ended d n r = record d {
+  power = PowerOn (node_after n r);
+  made = record (d.made) {
+    deliveries = d.made.deliveries ++ option_to_list (delivery_by r);
+    windows = windows_after t e ended n (node_after n r) n.stage (node_after n r).stage d.made.windows;
+  };
+}
+
+abbrev pub stepped : (ℕ → ℕ) → Setup → ℕ → Event → Option Sending → Device → Node → Device
+stepped clock s t e ended d n =
+    let r = row s n (clock t) e in
+    fold (obeyed clock s.id t) (moved t e ended d n r) (orders_by r)
+
+-- an event at tick t; a Sent comes with the sending that ended. At a node that is off it has no effect
+abbrev pub event_by : (ℕ → ℕ) → Setup → ℕ → Event → Option Sending → Device → Power → Device
+event_by clock s t e ended d (PowerOff boots) = d
+event_by clock s t e ended d (PowerOn n) = stepped clock s t e ended d n
+
+abbrev pub event : (ℕ → ℕ) → Setup → ℕ → Event → Option Sending → Device → Device
+event clock s t e ended d = event_by clock s t e ended d d.power

@@ -1,0 +1,121 @@
+-- The trail of a node: what it does from tick to tick, by the script, its clock and what it hears.
+use Rattle.std.specs.Prelude.{ℕ, zero, suc, ◌+◌, ◌*◌, List, [], ◌∷◌, ◌++◌, Bool, true, false, ◌&&◌, ◌==◌, nat_lt, if◌then◌else◌, Some, None, filter, fold, length}
+use Rattle.std.specs.declared.option.Option.{Option}
+use Rattle.lwb_base.specs.Profile.{airtime}
+use Rattle.lwb_base.specs.declared.event.Event.TheVariants.{Alarm, Heard, Sent}
+use Rattle.radio_model.specs.declared.sending.Sending.{Sending}
+use Rattle.scenario_text.specs.ScenarioParts.{ScenarioParts}
+use Rattle.scenario_text.specs.declared.script.ScriptLine.{ScriptLine}
+use Rattle.bus_rules.specs.declared.tune.Tune.{Tune}
+use Rattle.bus_rules.specs.Cores.{Setup, own_rank}
+use Rattle.air_log.specs.Devices.{Device, Power, PowerOff, PowerOn, Listening, Ordered, at_rest, event, silenced}
+use Rattle.air_log.specs.ScriptedDevices.{after_line}
+
+-- a packet that was heard whole, and the tick at which its hearing ended
+pub record Reception : Type 0 where
+  pub packet : List ℕ
+  pub end : ℕ
+
+-- what is fixed for the node of this id
+abbrev pub setup_of : ScenarioParts → ℕ → Setup
+setup_of s v = record { profile = s.profile; id = v; own = own_rank v s.hosts; ranks = length s.hosts; sends = s.sends }
+
+-- the run ends at this tick
+abbrev pub run_end : ScenarioParts → ℕ
+run_end s = s.frames * s.profile.frame
+
+-- the first tick of frame f
+abbrev pub frame_start : ScenarioParts → ℕ → ℕ
+frame_start s f = f * s.profile.frame
+
+-- first: the script lines of v, if the frame that they name starts at t
+abbrev pub lines_at : ScenarioParts → ℕ → ℕ → List ScriptLine
+lines_at s v t = filter (λ l. (l.node == v) && (frame_start s l.frame == t)) s.script
+
+abbrev pub scripted : ScenarioParts → ℕ → (ℕ → ℕ) → ℕ → Device → Device
+scripted s v clock t d = fold (after_line clock (setup_of s v) t) d (lines_at s v t)
+
+-- second: the hearings that end at t, in the order of the list
+abbrev pub ending_at : ℕ → List Reception → List Reception
+ending_at t hs = filter (λ h. h.end == t) hs
+
+abbrev pub hears : (ℕ → ℕ) → Setup → ℕ → Device → Reception → Device
+hears clock s t d h = event clock s t (Heard h.packet) None d
+
+abbrev pub heard : (ℕ → ℕ) → Setup → ℕ → List Reception → Device → Device
+heard clock s t hs d = fold (hears clock s t) d (ending_at t hs)
+
+-- third: the end of the own sending
+abbrev pub ended_by : (ℕ → ℕ) → Setup → ℕ → Device → Option Sending → Device
+ended_by clock s t d None = d
+ended_by clock s t d (Some x) = if x.end == t then event clock s t Sent (Some x) (record d { sending = None }) else d
+
+abbrev pub ended : (ℕ → ℕ) → Setup → ℕ → Device → Device
+ended clock s t d = ended_by clock s t d d.sending
+
+-- fourth: the alarm, and again as long as one is due at t. By a clock that keeps the drift law they are never as many as
+-- the number that is given here
+abbrev pub is_due : ℕ → Option ℕ → Bool
+is_due t None = false
+is_due t (Some tick) = tick == t
+
+unfoldable pub alarms : (ℕ → ℕ) → Setup → ℕ → Bool → ℕ → Device → Device
+alarms clock s t false more d = d
+alarms clock s t true zero d = d
+alarms clock s t true (suc more) d =
+    let after = event clock s t Alarm None (record d { alarm = None }) in
+    alarms clock s t (is_due t after.alarm) more after
+
+abbrev pub alarmed : (ℕ → ℕ) → Setup → ℕ → Device → Device
+alarmed clock s t d = alarms clock s t (is_due t d.alarm) (clock t + 300) d
+
+-- fifth: the start of the ordered sending. It has no effect where the radio is off or the node still sends
+abbrev pub sending_from : Setup → ℕ → List ℕ → Listening → Sending
+sending_from s t packet l = record { rank = l.rank; node = s.id; start = t; end = t + airtime s.profile (length packet); packet = packet }
+
+abbrev pub starts : Setup → ℕ → List ℕ → Device → Option Listening → Option Sending → Device
+starts s t packet d None sending = record d { ordered = None }
+starts s t packet d (Some l) (Some x) = record d { ordered = None }
+starts s t packet d (Some l) None =
+    record d { ordered = None; sending = Some (sending_from s t packet l); made = record (d.made) { sent = d.made.sent ++ sending_from s t packet l ∷ [] } }
+
+abbrev pub begun_by : Setup → ℕ → Device → Option Ordered → Device
+begun_by s t d None = d
+begun_by s t d (Some o) = if o.tick == t then starts s t o.packet d d.listening d.sending else d
+
+abbrev pub begun : Setup → ℕ → Device → Device
+begun s t d = begun_by s t d d.ordered
+
+-- tick t: all that comes before the start of a sending, and the whole of it
+abbrev pub before_start : ScenarioParts → ℕ → (ℕ → ℕ) → List Reception → ℕ → Device → Device
+before_start s v clock hs t d =
+    let node = setup_of s v in
+    alarmed clock node t (ended clock node t (heard clock node t hs (scripted s v clock t d)))
+
+abbrev pub tick : ScenarioParts → ℕ → (ℕ → ℕ) → List Reception → ℕ → Device → Device
+tick s v clock hs t d = begun (setup_of s v) t (before_start s v clock hs t d)
+
+-- the device before tick t
+unfoldable pub before_tick : ScenarioParts → ℕ → (ℕ → ℕ) → List Reception → ℕ → Device
+before_tick s v clock hs zero = at_rest
+before_tick s v clock hs (suc t) = tick s v clock hs t (before_tick s v clock hs t)
+
+-- the trail of v by its clock and what it heard: the device at the end of the run, at which its tuning ends
+abbrev pub trail : ScenarioParts → ℕ → (ℕ → ℕ) → List Reception → Device
+trail s v clock hs = silenced v (run_end s) (before_tick s v clock hs (run_end s))
+
+-- the device after the script lines of frame f
+abbrev pub at_frame : ScenarioParts → ℕ → (ℕ → ℕ) → List Reception → ℕ → Device
+at_frame s v clock hs f = scripted s v clock (frame_start s f) (before_tick s v clock hs (frame_start s f))
+
+abbrev pub tune_of : Power → Option Tune
+tune_of (PowerOff boots) = None
+tune_of (PowerOn n) = Some n.core.tune
+
+-- the tune after the script lines of frame f; none where the node is off, or the run has no such frame
+abbrev pub tune_at : ScenarioParts → ℕ → (ℕ → ℕ) → List Reception → ℕ → Option Tune
+tune_at s v clock hs f = if nat_lt f s.frames then tune_of (at_frame s v clock hs f).power else None
+
+-- the tune with which a sending of tick t begins; none where the node is off
+abbrev pub tune_when : ScenarioParts → ℕ → (ℕ → ℕ) → List Reception → ℕ → Option Tune
+tune_when s v clock hs t = tune_of (before_start s v clock hs t (before_tick s v clock hs t)).power

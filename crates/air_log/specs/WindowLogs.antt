@@ -1,0 +1,82 @@
+-- What is kept of the windows of a node: how each opened, what happened in it, and how it closed.
+use Rattle.std.specs.Prelude.{ℕ, List, [], ◌∷◌, ◌++◌, Bool, true, false, Some, None}
+use Rattle.std.specs.declared.option.Option.{Option}
+use Rattle.lwb_base.specs.declared.event.Event.{Event}
+use Rattle.lwb_base.specs.declared.event.Event.TheVariants.{Boot, Alarm, Heard, Sent}
+use Rattle.radio_model.specs.declared.sending.Sending.{Sending}
+use Rattle.bus_rules.specs.Tuning.{rank_of}
+use Rattle.node_core.specs.declared.stage.Stage.{Stage}
+use Rattle.node_core.specs.declared.stage.Stage.TheVariants.{Idle, Scanning, AwaitFrame, AwaitSlot, InWindow}
+use Rattle.node_core.specs.Windows.{Window}
+use Rattle.node_core.specs.Nodes.{Node}
+
+-- what happened at a tick while a window was open: a packet was heard whole, or an own sending of it ended
+pub data Happening : Type 0 where
+  HeardAt : (tick : ℕ) → (packet : List ℕ) → Happening
+  SentAt : (tick : ℕ) → (packet : List ℕ) → Happening
+
+-- how a window closed: the tick, and the node after it
+pub record Closing : Type 0 where
+  pub tick : ℕ
+  pub after : Node
+
+-- by_alarm: it opened by its alarm, and not by a schedule that a scanner heard; opened: the tick; before, after: the node
+-- round the event that opened it; last: the window itself as it stood at the last event in it
+pub record WindowLog : Type 0 where
+  pub frame : ℕ
+  pub rank : ℕ
+  pub slot : ℕ
+  pub by_alarm : Bool
+  pub opened : ℕ
+  pub before : Node
+  pub after : Node
+  pub happenings : List Happening
+  pub last : Window
+  pub closed : Option Closing
+
+abbrev pub is_alarm : Event → Bool
+is_alarm Boot = false
+is_alarm Alarm = true
+is_alarm (Heard p) = false
+is_alarm Sent = false
+
+-- what an event at tick t is to the window that is open; a Sent comes with the sending that ended
+abbrev pub happening : ℕ → Event → Option Sending → List Happening
+happening t (Heard p) ended = HeardAt t p ∷ []
+happening t Sent (Some x) = SentAt t x.packet ∷ []
+happening t Sent None = []
+happening t Boot ended = []
+happening t Alarm ended = []
+
+abbrev pub opened_log : ℕ → Event → Option Sending → Node → Node → ℕ → Window → WindowLog
+opened_log t e ended n m j w = record {
+  frame = n.frame;
+  rank = rank_of n.core.tune;
+  slot = j;
+  by_alarm = is_alarm e;
+  opened = t;
+  before = n;
+  after = m;
+  happenings = happening t e ended;
+  last = w;
+  closed = None;
+}
+
+-- the open window stands first
+abbrev pub gone_on : ℕ → Event → Option Sending → Window → List WindowLog → List WindowLog
+gone_on t e ended w [] = []
+gone_on t e ended w (x ∷ xs) = record x { happenings = x.happenings ++ happening t e ended; last = w } ∷ xs
+
+abbrev pub closed_log : ℕ → Node → List WindowLog → List WindowLog
+closed_log t m [] = []
+closed_log t m (x ∷ xs) = record x { closed = Some (record { tick = t; after = m }) } ∷ xs
+
+-- the windows after an event at tick t that took the node n, in the one stage, to m, in the other
+abbrev pub windows_after : ℕ → Event → Option Sending → Node → Node → Stage → Stage → List WindowLog → List WindowLog
+windows_after t e ended n m (InWindow j w) (InWindow i x) logs = gone_on t e ended x logs
+windows_after t e ended n m (InWindow j w) Idle logs = closed_log t m logs
+windows_after t e ended n m (InWindow j w) Scanning logs = closed_log t m logs
+windows_after t e ended n m (InWindow j w) AwaitFrame logs = closed_log t m logs
+windows_after t e ended n m (InWindow j w) (AwaitSlot i) logs = closed_log t m logs
+windows_after t e ended n m from (InWindow i x) logs = opened_log t e ended n m i x ∷ logs
+windows_after t e ended n m from to logs = logs

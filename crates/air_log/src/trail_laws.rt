@@ -1,0 +1,39 @@
+//! Laws of the trails of nodes, each a function that does nothing and has the law as its contract.
+
+ghost use Rattle.std.specs.Prelude.{◌≡◌, ℕ, suc, ◌<◌, ◌≤◌, List, filter, All, AllPairs};
+ghost use Rattle.scenario_text.specs.ScenarioParts.{ScenarioParts};
+ghost use Rattle.air_log.specs.Trails.{Reception, run_end, before_start, before_tick, trail};
+ghost use Rattle.air_log.specs.QuietTicks.{IsQuiet, ends_before};
+ghost use Rattle.air_log.specs.TrailEntries.{IsSentBefore, IsTunedBy, StartsBefore, FollowsOn};
+
+/// While nothing is due at a node, it stays as it is.
+pub fn quiet_ticks_change_nothing()
+    ensures { (s : ScenarioParts) (v : ℕ) (clock : ℕ → ℕ) (hs : List Reception) (a b : ℕ) → a ≤ b
+        → ((t : ℕ) → a ≤ t → t < b → IsQuiet s v hs t (before_tick s v clock hs a))
+        → before_tick s v clock hs b ≡ before_tick s v clock hs a }
+{}
+
+/// What a node does before a tick hangs on the hearings alone that ended before it, and what it does at a tick before a
+/// sending starts on those that ended by then.
+pub fn later_hearings_change_nothing_before()
+    ensures before { (s : ScenarioParts) (v : ℕ) (clock : ℕ → ℕ) (gs hs : List Reception) (t : ℕ)
+        → filter (ends_before t) gs ≡ filter (ends_before t) hs
+        → before_tick s v clock gs t ≡ before_tick s v clock hs t }
+    ensures within { (s : ScenarioParts) (v : ℕ) (clock : ℕ → ℕ) (gs hs : List Reception) (t : ℕ)
+        → filter (ends_before (suc t)) gs ≡ filter (ends_before (suc t)) hs
+        → before_start s v clock gs t (before_tick s v clock gs t) ≡ before_start s v clock hs t (before_tick s v clock hs t) }
+{}
+
+/// No entry of a trail stands twice. Each sending starts after the one before it, in the run, and lasts its airtime. No
+/// tuning is empty, and they stand with the last first: each begins when the one before it has ended, or later if both
+/// are of one rank.
+pub fn entries_of_a_trail_differ()
+    ensures sent { (s : ScenarioParts) (v : ℕ) (clock : ℕ → ℕ) (hs : List Reception)
+        → AllPairs StartsBefore (trail s v clock hs).made.sent }
+    ensures each_sent { (s : ScenarioParts) (v : ℕ) (clock : ℕ → ℕ) (hs : List Reception)
+        → All (IsSentBefore s v (run_end s)) (trail s v clock hs).made.sent }
+    ensures tuned { (s : ScenarioParts) (v : ℕ) (clock : ℕ → ℕ) (hs : List Reception)
+        → AllPairs FollowsOn (trail s v clock hs).made.tuned }
+    ensures each_tuned { (s : ScenarioParts) (v : ℕ) (clock : ℕ → ℕ) (hs : List Reception)
+        → All (IsTunedBy v (run_end s)) (trail s v clock hs).made.tuned }
+{}
