@@ -91,8 +91,7 @@ module _ (f : FloodParts) (clocks : ℕ → ℕ → ℕ) (has : HasClocks f cloc
 
     counted : (m.flood.sent ≡ length (own_ends member.past)) × (m.flood.limit ≡ f.sends)
     counted =
-        let first = first_is f m.node in
-        (
+        let first = first_is f m.node in (
           omega (arith, ap (λ (s : FloodState). s.sent) member.flood, sent_among (first_flood f m.node) member.past, first.1),
           ap (λ (s : FloodState). s.limit) member.flood ∙ limit_among (first_flood f m.node) member.past ∙ first.0,
         )
