@@ -1,13 +1,14 @@
 -- What a change of one order does to a map, and that a map has one least order.
 use Rattle.std.proofs.Common.{◌≡◌, ◌≢◌, ◌⊎◌, ℕ, ◌<◌, List, None, Some, length, replicate, refl, sym, ◌∙◌, ap, inl, inr, arith}
 use Rattle.std.specs.declared.option.Option.{Option}
+use Rattle.std.specs.Option.{IfSome}
 use Rattle.std.proofs.Math.ListN.{length-replicate, length-set}
 use Rattle.std.proofs.lemmas.Bool.{cases_eq, cases_lt}
 use Rattle.std.proofs.lemmas.List.{get_or-replicate, get_or-set_other}
 use Rattle.std.proofs.lemmas.Grind.{get_or-set_at}
 use Rattle.event_calendar.specs.declared.class.Class.{Class}
 use Rattle.event_calendar.specs.declared.class.Class.TheVariants.{SendingEnd, Alarm, SendingStart}
-use Rattle.event_calendar.specs.Orders.{Due, Order, IsNext, IsNotAfter, at, changed, due_at, nothing_due, rank, tick_of, with_tick}
+use Rattle.event_calendar.specs.Orders.{Due, Order, Stands, IsNext, IsNotAfter, at, changed, due_at, nothing_due, rank, tick_of, with_tick}
 use Rattle.event_calendar.proofs.NextOrders.{nothing_past, ticks_of_nothing}
 
 pub new_tick : (class : Class) (tick : Option ℕ) (d : Due) → tick_of class (with_tick class tick d) ≡ tick
@@ -52,6 +53,17 @@ elsewhere map place other class another tick (inr apart) =
             ∙ sym (nothing_past map other another past)
       ]
     ]
+
+pub stands_within : (map : List Due) (x : Order) → Stands map x → x.2 < length map
+stands_within map x stands =
+    elim (cases_lt x.2 (length map)) [
+      | inl within ↦ within
+      | inr past ↦ let none = nothing_past map x.2 x.1 past in absurd (cc)
+    ]
+
+pub next_within : (map : List Due) (o : Option Order) → IsNext map o → IfSome o (λ x. x.2 < length map)
+next_within map None least = tt
+next_within map (Some x) least = stands_within map x least.0
 
 same_class : (c d : Class) → rank c ≡ rank d → c ≡ d
 same_class SendingEnd SendingEnd is = refl

@@ -1,4 +1,4 @@
-ghost use Rattle.std.specs.Prelude.{◌≡◌, ◌<◌, ◌≤◌, IfOk, length, replicate, Some, None};
+ghost use Rattle.std.specs.Prelude.{◌≡◌, ◌<◌, ◌≤◌, IfOk, IfSome, length, replicate, Some, None};
 ghost use Rattle.event_calendar.specs.Orders.{nothing_due, changed, IsNext};
 
 use crate::Class;
@@ -42,7 +42,7 @@ impl Calendar {
         Ok(Calendar { due, tree })
     }
 
-    /// The map has that tick there, in ticks of 1/64 µs, and all else stays. The place is counted from 0.
+    /// The map has that tick of 1/64 µs there, and all else stays. Places are counted from 0.
     pub fn set(&mut self, place: u8, class: Class, tick: u64)
         requires { place < length self.old }
         ensures { self.new ≡ changed self.old place class (Some tick) }
@@ -50,7 +50,7 @@ impl Calendar {
         self.change(place, class, Some(tick));
     }
 
-    /// The map has nothing there, and all else stays. The place is counted from 0.
+    /// The map has nothing there, and all else stays. Places are counted from 0.
     pub fn clear(&mut self, place: u8, class: Class)
         requires { place < length self.old }
         ensures { self.new ≡ changed self.old place class None }
@@ -60,7 +60,8 @@ impl Calendar {
 
     /// The least order by tick, then class, then place. None comes exactly where the map is empty.
     pub fn next(&self) -> Option<(u64, Class, u8)>
-        ensures { IsNext self.now result }
+        ensures least { IsNext self.now result }
+        ensures within { IfSome result (λ x. x.2 < length self.now) }
     {
         self.tree[1]
     }

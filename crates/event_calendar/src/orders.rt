@@ -1,9 +1,10 @@
-ghost use Rattle.std.specs.Prelude.{◌≡◌, ◌<◌, List, Some, None, length};
+ghost use Rattle.std.specs.Prelude.{◌≡◌, ◌<◌, List, IfSome, Some, None, length};
 ghost use Rattle.event_calendar.specs.Orders.{Due, changed, IsNext};
 
 use crate::{Calendar, Class};
 
-/// Orders as a finite map from a place and a class to a tick. Places are counted from 0.
+/// Orders as a finite map from a place and a class to a tick of 1/64 µs. The map is the list of its places, which are
+/// counted from 0, so their number is its length.
 pub trait Orders {
     ghost map: { Self → List Due };
 
@@ -19,7 +20,8 @@ pub trait Orders {
 
     /// The least by tick, then class, then place. None comes exactly where the map is empty.
     fn next(&self) -> Option<(u64, Class, u8)>
-        ensures { IsNext (map self.now) result };
+        ensures least { IsNext (map self.now) result }
+        ensures within { IfSome result (λ x. x.2 < length (map self.now)) };
 }
 
 impl Orders for Calendar {
