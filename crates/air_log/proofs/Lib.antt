@@ -1,2 +1,4 @@
 pub mod Elements
 pub mod TwoNodeLog
+pub mod StableSorts
+pub mod LogTextExamples

@@ -3,3 +3,4 @@ pub mod HearsAir
 pub mod NodeEvents
 pub mod FloodLaw
 pub mod TwoNodeLog
+pub mod LogText

@@ -55,4 +55,10 @@ impl Air {
     {
         self.entries.get(i)
     }
+    /// All entries.
+    pub(crate) fn entries(&self) -> &[Entry]
+        ensures { result.now ≡ self.now }
+    {
+        self.entries.as_slice()
+    }
 }

@@ -4,9 +4,12 @@
 mod air;
 mod entry;
 pub mod flood_law;
+mod line_writers;
+mod printing;
 
 pub use air::Air;
 pub use entry::{Entry, HeardEntry, SentEntry, TunedEntry};
+pub use printing::text;
 
 #[cfg(test)]
 mod tests;

@@ -1,5 +1,5 @@
 -- What holds of a window holds when a packet was heard in it.
-use Rattle.std.proofs.Common.{◌≡◌, ℕ, ◌^◌, ◌<◌, ◌&&◌, List, Option, Some, None, true, not, ◌==◌, nat_lt, is_none, subst, arith}
+use Rattle.std.proofs.Common.{◌≡◌, ℕ, ◌^◌, ◌<◌, ◌&&◌, List, Option, Some, None, true, not, ◌==◌, nat_lt, is_none, refl, ◌∙◌, subst, arith}
 use Rattle.std.proofs.lemmas.Bool.{cond_both, and_parts}
 use Rattle.std.specs.Option.{IfSome}
 use Rattle.lwb_base.specs.Profile.{Numbers}
@@ -11,10 +11,11 @@ use Rattle.node_core.specs.Said.{message_of}
 use Rattle.node_core.specs.Windows.{Window}
 use Rattle.node_core.specs.Nodes.{zero_from}
 use Rattle.node_core.specs.Rows.{is_foreign, hearing, kind_for, is_schedule_part, is_ignored, reply_by}
-use Rattle.node_core.specs.Standing.{IsWindow}
+use Rattle.node_core.specs.declared.stage.Stage.TheVariants.{InWindow}
+use Rattle.node_core.specs.Standing.{IsWindow, HostsIn}
 
 -- what a flood of this kind carries is a spelling of it
-abbrev Carries : Kind → FloodState → Type 0
+abbrev pub Carries : Kind → FloodState → Type 0
 Carries k f = (f.kind ≡ k) × IfSome f.first (λ p. is_spelling k p ≡ true)
 
 spelled : (f : FloodState) (p : List ℕ) → fits f p ≡ true → is_spelling f.kind p ≡ true
@@ -28,7 +29,7 @@ first_carried : (k : Kind) (first : Option (List ℕ)) (p : List ℕ) → is_spe
 first_carried k None p is had = is
 first_carried k (Some q) p is had = had
 
-carried : (k : Kind) (f : FloodState) (p : List ℕ) → Carries k f → Carries k (after_heard f p)
+pub carried : (k : Kind) (f : FloodState) (p : List ℕ) → Carries k f → Carries k (after_heard f p)
 carried k f p (same, had) =
     cond_both (fits f p) (record f { waiting = nat_lt (counter_of p) 11; first = first_of f.first p }) f (Carries k)
     (λ is. (same, first_carried k f.first p (subst (λ (x : Kind). is_spelling x p ≡ true) same (spelled f p is)) had))
@@ -47,3 +48,13 @@ hearing_stands p rank now j c w q early is =
       carried = after.1;
       reference = cond_both test (Some (zero_from p now q)) w.reference (λ (o : Option ℕ). IfSome o (λ z. z < 2 ^ 47)) (λ first. omega arith) (λ not. is.reference);
     }
+
+-- a host that says the schedules of its round itself goes on doing so
+begun_here : (f : FloodState) (p : List ℕ) → (after_heard f p).initiated ≡ f.initiated
+begun_here f p = cond_both (fits f p) (record f { waiting = nat_lt (counter_of p) 11; first = first_of f.first p }) f (λ (g : FloodState). g.initiated ≡ f.initiated) (λ is. refl) (λ is. refl)
+
+pub hearing_hosted : (p : Numbers) (rank now frame j : ℕ) (c : Core) (w : Window) (q : List ℕ) → HostsIn frame c (InWindow j w) → HostsIn frame c (InWindow j (hearing p rank now w q))
+hearing_hosted p rank now frame j c w q hosted =
+    let same : (hearing p rank now w q).flood.initiated ≡ w.flood.initiated =
+    cond_both (is_foreign rank (message_of q)) w.flood (after_heard w.flood q) (λ (g : FloodState). g.initiated ≡ w.flood.initiated) (λ foreign. refl) (λ own. begun_here w.flood q) in
+    (hosted.0, λ host is. same ∙ hosted.1 host is)

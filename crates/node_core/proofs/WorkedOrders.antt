@@ -1,5 +1,5 @@
 -- Orders of nodes, worked out by hand from the rules, by clocks without drift.
-use Rattle.std.proofs.Common.{◌≡◌, List, [], ◌∷◌, Some, None, refl}
+use Rattle.std.proofs.Common.{◌≡◌, ℕ, List, [], ◌∷◌, Some, None, refl}
 use Rattle.lwb_base.specs.Profile.{one}
 use Rattle.lwb_base.specs.declared.event.Event.TheVariants.{Boot, Alarm, Heard, Sent}
 use Rattle.lwb_base.specs.declared.order.Order.{Order}
@@ -189,3 +189,61 @@ holds_a_round = refl
 -- an own sending that ends without having been ordered fits no row
 sent_alone : orders_of_each other (rebooted 1) (Step 0 Boot ∷ Step 1 Sent ∷ []) ≡ (Listen 0 ∷ AlarmAt 204800000 ∷ []) ∷ [] ∷ []
 sent_alone = refl
+
+-- a node that heard nothing of frame 5 but its closing relays it, and waits for the round that is 4 frames later
+abbrev late_calls : List Call
+late_calls =
+    Step 0 Boot
+    ∷ Step 204800000 Alarm
+    ∷ Step 460800000 Alarm
+    ∷ Step 716800000 Alarm
+    ∷ Step 972800000 Alarm
+    ∷ Step 1228800000 Alarm
+    ∷ Step 1348324864 (Heard (0x01 ∷ 0x02 ∷ 0x00 ∷ 0x04 ∷ 0x01 ∷ 0x00 ∷ 0x00 ∷ 0x00 ∷ 0x00 ∷ 0x00 ∷ []))
+    ∷ Step 1348374016 Sent
+    ∷ Step 1350320000 Alarm
+    ∷ Step 1484800000 Alarm
+    ∷ Step 1740800000 Alarm
+    ∷ Step 1996800000 Alarm
+    ∷ Step 2252800000 Alarm
+    ∷ []
+
+abbrev late_orders : List (List Order)
+late_orders =
+    (Listen 0 ∷ AlarmAt 204800000 ∷ [])
+    ∷ (Listen 0 ∷ AlarmAt 460800000 ∷ [])
+    ∷ (Listen 0 ∷ AlarmAt 716800000 ∷ [])
+    ∷ (Listen 0 ∷ AlarmAt 972800000 ∷ [])
+    ∷ (Listen 0 ∷ AlarmAt 1228800000 ∷ [])
+    ∷ (Listen 0 ∷ AlarmAt 1484800000 ∷ [])
+    ∷ (SendAt 1348337152 (0x01 ∷ 0x02 ∷ 0x01 ∷ 0x04 ∷ 0x01 ∷ 0x00 ∷ 0x00 ∷ 0x00 ∷ 0x00 ∷ 0x00 ∷ []) ∷ AlarmAt 1350320000 ∷ [])
+    ∷ []
+    ∷ (Off ∷ AlarmAt 1484800000 ∷ [])
+    ∷ (Off ∷ AlarmAt 1740800000 ∷ [])
+    ∷ (Off ∷ AlarmAt 1996800000 ∷ [])
+    ∷ (Off ∷ AlarmAt 2252800000 ∷ [])
+    ∷ (Off ∷ AlarmAt 2368000000 ∷ [])
+    ∷ []
+
+joins_late : orders_of_each other (rebooted 1) late_calls ≡ late_orders
+unfolding least digits number schedule_of asks_in schedule_heard
+joins_late = refl
+
+-- a schedule of a rank that is not scanned fits no row, nor does a packet that is no schedule; in a window the first is
+-- ignored, and the schedule of the node's own rank is still the first that it accepts
+abbrev opening_of_one : List ℕ
+opening_of_one = 0x01 ∷ 0x00 ∷ 0x00 ∷ 0x10 ∷ 0x01 ∷ 0x00 ∷ 0x00 ∷ 0x00 ∷ 0x00 ∷ 0x00 ∷ []
+
+not_scanned : orders_of_each other (rebooted 1) (Step 0 Boot ∷ Step 1100864 (Heard opening_of_one) ∷ Step 1200864 (Heard (0x03 ∷ 0x01 ∷ 0x01 ∷ 0x02 ∷ 0x01 ∷ 0x00 ∷ 0x04 ∷ [])) ∷ [])
+    ≡ (Listen 0 ∷ AlarmAt 204800000 ∷ []) ∷ [] ∷ [] ∷ []
+unfolding least digits number schedule_of asks_in schedule_heard
+not_scanned = refl
+
+ignored : orders_of_each other joined
+    (Step 2368000000 Alarm ∷ Step 2368100864 (Heard opening_of_one) ∷ Step 2368211456 (Heard (0x01 ∷ 0x00 ∷ 0x02 ∷ 0x00 ∷ 0x01 ∷ 0x02 ∷ 0x01 ∷ 0x00 ∷ 0x04 ∷ 0x04 ∷ 0x00 ∷ 0x80 ∷ [])) ∷ [])
+    ≡ (Listen 0 ∷ AlarmAt 2370096000 ∷ [])
+    ∷ []
+    ∷ (SendAt 2368223744 (0x01 ∷ 0x00 ∷ 0x03 ∷ 0x00 ∷ 0x01 ∷ 0x02 ∷ 0x01 ∷ 0x00 ∷ 0x04 ∷ 0x04 ∷ 0x00 ∷ 0x80 ∷ []) ∷ [])
+    ∷ []
+unfolding least digits number schedule_of asks_in schedule_heard
+ignored = refl

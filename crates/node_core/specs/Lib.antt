@@ -4,4 +4,7 @@ pub mod Nodes
 pub mod Rows
 pub mod Runs
 pub mod Members
+pub mod Planning
 pub mod Standing
+pub mod Openings
+pub mod Closings

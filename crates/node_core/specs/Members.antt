@@ -4,7 +4,7 @@ use Rattle.std.specs.List.{list_all}
 use Rattle.lwb_base.specs.Messages.{Plan}
 use Rattle.lwb_packets.specs.Requests.{InRange}
 use Rattle.schedule_codec.specs.AckLists.{ask_in_range}
-use Rattle.schedule_codec.specs.Spelling.{most_acks}
+use Rattle.schedule_codec.specs.Spelling.{most_acks, slot_fits}
 use Rattle.bus_rules.specs.Tuning.{hosts}
 use Rattle.bus_rules.specs.Cores.{Core, Setup}
 use Rattle.bus_rules.specs.Slots.{most_kept}
@@ -30,7 +30,7 @@ pub record IsMember (s : Setup) (c : Core) (joined : Bool) : Type 0 where
   pub boot : IsBoot c.boot
   pub fresh : joined ≡ is_some c.own_slot
   pub plan : IsPlan c.plan
-  pub hosted : hosts c.tune ≡ true → IsBoot c.plan.boot
+  pub hosted : hosts c.tune ≡ true → IsBoot c.plan.boot × (c.plan.contend ≡ s.profile.contend)
   pub few : length c.kept ≤ most_kept s.profile
   pub kept : list_all ask_in_range c.kept ≡ true
 
@@ -39,3 +39,9 @@ abbrev pub IsHeard : Heard → Type 0
 IsHeard (Schedule s) = IsPlan s.plan × IsBoot s.plan.boot
 IsHeard (Data d) = ⊤
 IsHeard (Request r) = InRange r
+
+-- a schedule was read in a slot that it may stand in
+abbrev pub StandsIn : ℕ → Heard → Type 0
+StandsIn slot (Schedule s) = slot_fits s.gap s.plan.contend slot ≡ true
+StandsIn slot (Data d) = ⊤
+StandsIn slot (Request r) = ⊤

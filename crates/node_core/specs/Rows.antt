@@ -197,9 +197,9 @@ zero_next p z (Scan r waited) = z
 abbrev pub delivery_of : Setup → ℕ → ℕ → ℕ → Data → Delivery
 delivery_of s frame rank j d = record { frame = frame; rank = rank; slot = j; node = s.id; from = d.node; boot = d.boot; stream = d.stream; seq = d.seq; payload = d.payload }
 
-abbrev pub goes_on : Setup → ℕ → Window → Node → Option Delivery → Stepped
-goes_on s j w n delivery =
-    let more = nat_lt j w.last in
+abbrev pub goes_on : Setup → ℕ → ℕ → Node → Option Delivery → Stepped
+goes_on s j last n delivery =
+    let more = nat_lt j last in
     record {
       node = record n { stage = if more then AwaitSlot (j + 1) else AwaitFrame; zero = if more then n.zero else zero_next s.profile n.zero n.core.tune };
       orders = Off ∷ AlarmAt (if more then opens_at s.profile n.zero (j + 1) else frame_alarm s.profile n.frame) ∷ [];
@@ -213,7 +213,7 @@ accepted_in w = option_and_then (λ a. message_of a.0) (accepted_of w.flood)
 abbrev pub window_closes : Setup → Node → ℕ → Window → Stepped
 window_closes s n j w =
     let c = closed s n.frame w.part w.flood.initiated n.core (accepted_in w) in
-    goes_on s j w (record n { core = c.core; zero = zero_by s.profile n.zero w.reference (accepted_in w) }) (option_map (delivery_of s n.frame (rank_of n.core.tune) j) c.delivered)
+    goes_on s j w.last (record n { core = c.core; zero = zero_by s.profile n.zero w.reference (accepted_in w) }) (option_map (delivery_of s n.frame (rank_of n.core.tune) j) c.delivered)
 
 -- the row that fits, by the place and the event; none where no row fits
 abbrev pub at_alarm : Setup → Node → Stage → Option Stepped

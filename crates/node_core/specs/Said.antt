@@ -1,11 +1,14 @@
 -- What is said in a slot, and its bytes.
-use Rattle.std.specs.Prelude.{ℕ, ◌+◌, ◌*◌, List, if◌then◌else◌, slice_index, drop, Some, option_map}
+use Rattle.std.specs.Prelude.{◌≡◌, ℕ, true, ◌+◌, ◌*◌, List, if◌then◌else◌, slice_index, drop, Some, option_map}
 use Rattle.std.specs.declared.option.Option.{Option}
 use Rattle.lwb_base.specs.Messages.{Ask}
 use Rattle.lwb_packets.specs.DataPackets.{is_data, spelling as data_spelling}
 use Rattle.lwb_packets.specs.Requests.{is_request, spelling as request_spelling}
 use Rattle.lwb_packets.specs.declared.data_packet.DataPacket.{DataPacket}
 use Rattle.lwb_packets.specs.declared.request.Request as Requested
+use Rattle.lwb_packets.specs.declared.kind.Kind.{Kind}
+use Rattle.glossy_relay.specs.FloodState.{kind_named}
+use Rattle.glossy_relay.specs.Relaying.{is_packet, is_spelling}
 use Rattle.schedule_codec.specs.Spelling.{spelling as schedule_spelling}
 use Rattle.schedule_codec.specs.Reading.{schedule_of}
 use Rattle.node_core.specs.declared.message.Heard.{Heard}
@@ -46,3 +49,10 @@ message_of p =
     if is_data p then Some (DataOf (data_in p))
     else if is_request p then Some (RequestOf (request_in p))
     else option_map ScheduleOf (schedule_of p)
+
+-- a packet of this kind, as its initiator sends it
+pub record IsSaid (kind : Kind) (p : List ℕ) : Type 0 where
+  pub packet : is_packet p ≡ true
+  pub counter : slice_index p 2 ≡ 0
+  pub named : kind_named p ≡ kind
+  pub spelled : is_spelling kind p ≡ true

@@ -5,12 +5,17 @@ use Rattle.lwb_base.specs.declared.order.Order.{Order}
 use Rattle.glossy_relay.specs.Relaying.{is_spelling}
 use Rattle.std.specs.declared.option.Option.{Option}
 use Rattle.bus_rules.specs.Plans.{last_slot}
+use Rattle.bus_rules.specs.declared.tune.Tune.{Tune}
+use Rattle.bus_rules.specs.declared.tune.Tune.TheVariants.{Scan, Hold, Host}
+use Rattle.bus_rules.specs.Tuning.{hosts}
 use Rattle.bus_rules.specs.Cores.{Core}
+use Rattle.bus_rules.specs.Slots.{hosts_now}
 use Rattle.node_core.specs.declared.node.Place as Place
 use Rattle.node_core.specs.declared.stage.Stage.{Stage}
 use Rattle.node_core.specs.declared.stage.Stage.TheVariants.{Idle, Scanning, AwaitFrame, AwaitSlot, InWindow}
 use Rattle.node_core.specs.Windows.{Window}
 use Rattle.node_core.specs.Nodes.{NodeState}
+use Rattle.node_core.specs.Planning.{IsEarly}
 use Rattle.node_core.specs.Rows.{Stepped, kind_for, is_schedule_part}
 
 abbrev pub place_of : Stage → Place.Place
@@ -35,10 +40,30 @@ IsStage c AwaitFrame = ⊤
 IsStage c (AwaitSlot j) = j ≤ last_slot c.plan
 IsStage c (InWindow j w) = IsWindow c j w
 
+-- a host that is in a round is in its own
+abbrev pub IsOwn : ℕ → Core → Type 0
+IsOwn frame c = hosts c.tune ≡ true → hosts_now frame c ≡ true
+
+-- what is so where a node hosts: it does not scan, and the schedules of its round are its own
+abbrev pub HostsIn : ℕ → Core → Stage → Type 0
+HostsIn frame c Idle = ⊤
+HostsIn frame c Scanning = hosts c.tune ≡ false
+HostsIn frame c AwaitFrame = ⊤
+HostsIn frame c (AwaitSlot j) = IsOwn frame c
+HostsIn frame c (InWindow j w) = (j < w.last → IsOwn frame c) × (hosts c.tune ≡ true → is_schedule_part w.part ≡ true → w.flood.initiated ≡ true)
+
 pub record IsNode (c : Core) (frame z : ℕ) (stage : Stage) : Type 0 where
   pub few : frame ≤ 16777215
   pub early : z < 2 ^ 47
   pub stands : IsStage c stage
+  pub accepted : IsEarly frame c.table
+  pub hosted : HostsIn frame c stage
+
+-- the frame of the next round of a holder or host
+abbrev pub IsDue : ℕ → Tune → Type 0
+IsDue f (Scan r waited) = ⊤
+IsDue f (Hold r due) = due ≡ f
+IsDue f (Host r due) = due ≡ f
 
 -- these orders were given to a radio, one after another, and as much less room is left
 pub record Gives (before after : List Order) (room left : ℕ) (orders : List Order) : Type 0 where

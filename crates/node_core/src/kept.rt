@@ -1,3 +1,6 @@
+ghost use Rattle.std.specs.Prelude.{◌≡◌};
+ghost use Rattle.lwb_base.specs.Messages.{code_of};
+
 use lwb_base::NodeId;
 use schedule_codec::Ack;
 use std::marker::Model;
@@ -28,5 +31,15 @@ impl Default for Kept {
                 interval: 0,
             },
         }
+    }
+}
+
+impl Kept {
+    // The code of the stream's owner.
+    pub(crate) fn code(&self) -> u16
+        ensures { result ≡ code_of self.now }
+    {
+        let stream = self.ask.stream;
+        u16::from(self.ask.node.number()) * 4 + u16::from(stream)
     }
 }

@@ -13,6 +13,7 @@ ghost use Rattle.bus_rules.specs.declared.part.Part.TheVariants.{Opening};
 ghost use Rattle.stream_source.specs.declared.stream.Put.TheVariants.{Queued, Dropped};
 ghost use Rattle.node_core.specs.Members.{IsBoot, IsPlan};
 ghost use Rattle.node_core.specs.Said.{bytes_of};
+ghost use Rattle.node_core.specs.Openings.{IsPlaced};
 
 use crate::kept::Kept;
 use arrayvec::ArrayVec;
@@ -194,7 +195,8 @@ impl Member {
     pub(crate) fn part(&self, round: &Round, slot: u8) -> Part
         requires round { (z : ℕ) × (round.now ≡ round_of self.now.setup.profile (times_of self.now.setup.profile z) (length self.now.core.plan.owners) self.now.core.plan.contend) }
         requires slot { slot ≤ last_slot self.now.core.plan }
-        ensures { result ≡ part_of self.now.core.plan slot }
+        ensures value { result ≡ part_of self.now.core.plan slot }
+        ensures placed { IsPlaced self.now.core.plan slot result }
     {
         let owners = self.plan.owners.count();
         match round.kind(slot) {

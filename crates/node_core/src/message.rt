@@ -1,5 +1,7 @@
 ghost use Rattle.std.specs.Prelude.{◌≡◌, IfSome};
 ghost use Rattle.std.specs.Option.{option_map};
+ghost use Rattle.glossy_relay.specs.Relaying.{slot_of};
+ghost use Rattle.node_core.specs.Members.{IsHeard, StandsIn};
 ghost use Rattle.node_core.specs.Said.{meaning, message_of};
 
 use lwb_base::Packet;
@@ -17,7 +19,9 @@ pub(crate) enum Heard {
 // None exactly where the bytes are no spelling.
 #[tactic(auto, using(crate::proofs::Meanings::says_data, crate::proofs::Meanings::says_request))]
 pub(crate) fn message_in(p: &Packet) -> Option<Heard>
-    ensures { option_map meaning result ≡ message_of p.now }
+    ensures value { option_map meaning result ≡ message_of p.now }
+    ensures ranges { IfSome result IsHeard }
+    ensures place { IfSome result (StandsIn (slot_of p.now)) }
 {
     if let Some(data) = decode_payload(p) {
         return Some(Heard::Data(data));

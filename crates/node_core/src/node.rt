@@ -1,4 +1,4 @@
-ghost use Rattle.std.specs.Prelude.{◌≡◌, ◌≤◌, ◌<◌, Some, None, IfOk, if◌then◌else◌, length};
+ghost use Rattle.std.specs.Prelude.{◌≡◌, ◌≤◌, ◌<◌, Some, None, IfOk, IfSome, if◌then◌else◌, length};
 ghost use Rattle.bus_rules.specs.Cores.{own_rank};
 ghost use Rattle.bus_rules.specs.Streams as rule;
 ghost use Rattle.stream_source.specs.declared.stream.Put.TheVariants.{Queued, Dropped};
@@ -10,7 +10,8 @@ ghost use Rattle.node_core.specs.Standing.{place_of};
 use crate::member::Member;
 use crate::stage::Stage;
 use bus_rules::{Delivery, Tune};
-use lwb_base::Payload;
+use lwb_base::{Memory, NodeId, Payload, Profile, Rank};
+use std::alloc::Global;
 use std::marker::Model;
 use stream_source::Put;
 
@@ -51,6 +52,29 @@ impl Model for Node {
 }
 
 impl Node {
+    /// A node whose power is off, with boot 1. The hosts are those of the network by rank, 1 to 4 that differ, and in one
+    /// flood a node sends at most n times, 1 to 4.
+    pub fn new(
+        alloc: Global,
+        profile: &Profile,
+        id: NodeId,
+        hosts: &[NodeId],
+        n: u8,
+    ) -> Result<Node, Memory>
+        requires hosts { (1 ≤ length hosts.now) × (length hosts.now ≤ 4) }
+        requires sends { (1 ≤ n) × (n ≤ 4) }
+        ensures { IfOk result (λ x. x ≡ record { setup = record { profile = profile.now; id = id; own = own_rank id hosts.now; ranks = length hosts.now; sends = n }; node = rebooted 1; delivery = None }) }
+    {
+        let own = rank_among(id, hosts);
+        Ok(Node {
+            member: Member::new(alloc, profile, id, own, hosts.len() as u8, n)?,
+            frame: 0,
+            zero: 0,
+            stage: Stage::Idle,
+            delivery: None,
+        })
+    }
+
     /// As a new node, with this boot number, 1 to 200.
     pub fn reboot(&mut self, boot: u8)
         requires { IsBoot boot }
@@ -119,4 +143,23 @@ impl Node {
     {
         self.delivery.take()
     }
+}
+
+// The rank that a node hosts, if it is one of the hosts.
+fn rank_among(id: NodeId, hosts: &[NodeId]) -> Option<Rank>
+    requires { length hosts.now ≤ 4 }
+    ensures value { result ≡ own_rank id hosts.now }
+    ensures range { IfSome result (λ r. r < length hosts.now) }
+{
+    match place_among(id, hosts) {
+        Some(place) => Rank::new(place as u8),
+        None => None,
+    }
+}
+
+fn place_among(id: NodeId, hosts: &[NodeId]) -> Option<usize>
+    ensures value { result ≡ own_rank id hosts.now }
+    ensures within { IfSome result (λ i. i < length hosts.now) }
+{
+    hosts.iter().position(|host| *host == id)
 }

@@ -1,23 +1,69 @@
 //! What a member says where the window of a slot opens.
 
-ghost use Rattle.std.specs.Prelude.{◌≡◌, ◌≤◌, true, IfSome, slice_index};
+ghost use Rattle.std.specs.Prelude.{◌≡◌, ◌≤◌, IfSome};
 ghost use Rattle.std.specs.Option.{option_map};
-ghost use Rattle.glossy_relay.specs.Relaying.{is_packet};
+ghost use Rattle.lwb_packets.specs.declared.kind.Kind.TheVariants.{Schedule as OfSchedule, Payload as OfData, Request as OfRequest};
 ghost use Rattle.bus_rules.specs.Slots.{opened, data_opened, contention_opened};
-ghost use Rattle.bus_rules.specs.declared.part.Part.TheVariants.{Opening};
-ghost use Rattle.node_core.specs.Said.{bytes_of, said_in};
+ghost use Rattle.bus_rules.specs.declared.part.Part.TheVariants.{Opening, Closing};
+ghost use Rattle.node_core.specs.Rows.{kind_for};
+ghost use Rattle.node_core.specs.Said.{bytes_of, said_in, IsSaid};
+ghost use Rattle.node_core.specs.Planning.{IsEarly};
+ghost use Rattle.node_core.specs.Openings.{IsPlaced};
 
 use crate::member::Member;
+use bus_rules::Part;
 use lwb_base::{Owner, Packet};
 use lwb_packets::{DataPacket, Request, encode_payload, encode_request};
 use schedule_codec::write;
 
 impl Member {
+    // How often it sends at most in one flood.
+    pub(crate) fn sends(&self) -> u8
+        ensures value { result ≡ self.now.setup.sends }
+        ensures range { (1 ≤ result) × (result ≤ 4) }
+    {
+        self.sends
+    }
+
+    // What it says in a slot of its round, if it says something.
+    pub(crate) fn speak(&mut self, part: &Part, slot: u8, frame: u32) -> Option<Packet>
+        requires placed { IsPlaced self.old.core.plan slot part.now }
+        requires frame { frame ≤ 16777215 }
+        requires early { IsEarly frame self.old.core.table }
+        ensures packet { result ≡ option_map (said_in slot) (opened self.old.setup frame part.now self.old.core).message }
+        ensures said { IfSome result (IsSaid (kind_for part.now)) }
+        ensures core { self.new ≡ record self.old { core = (opened self.old.setup frame part.now self.old.core).core } }
+        ensures early { IsEarly frame self.new.core.table }
+    {
+        match part {
+            Part::Opening => self.open_round(frame),
+            Part::Data(owner) => self.send_data(*owner, slot),
+            Part::Contention(own) => self.contend(*own, slot),
+            Part::Closing => self.close_round(frame, slot),
+        }
+    }
+
+    // The last slot: a host plans, and closes its round.
+    fn close_round(&mut self, frame: u32, slot: u8) -> Option<Packet>
+        requires slot { IsPlaced self.old.core.plan slot Closing }
+        requires frame { frame ≤ 16777215 }
+        requires early { IsEarly frame self.old.core.table }
+        ensures packet { result ≡ option_map (said_in slot) (opened self.old.setup frame Closing self.old.core).message }
+        ensures said { IfSome result (IsSaid OfSchedule) }
+        ensures core { self.new ≡ record self.old { core = (opened self.old.setup frame Closing self.old.core).core } }
+        ensures early { IsEarly frame self.new.core.table }
+    {
+        if !self.hosts_now(frame) {
+            return None;
+        }
+        Some(self.plan_next(frame, slot))
+    }
+
     // Slot 0: a host opens its round.
     #[tactic(auto, using(crate::proofs::Spoken::schedule_spoken))]
-    pub(crate) fn open_round(&mut self, frame: u32) -> Option<Packet>
+    fn open_round(&mut self, frame: u32) -> Option<Packet>
         ensures packet { result ≡ option_map (said_in 0) (opened self.old.setup frame Opening self.old.core).message }
-        ensures spelled { IfSome result (λ p. (is_packet p ≡ true) × (slice_index p 2 ≡ 0)) }
+        ensures said { IfSome result (IsSaid OfSchedule) }
         ensures core { self.new ≡ self.old }
     {
         if !self.hosts_now(frame) {
@@ -29,10 +75,10 @@ impl Member {
 
     // A data slot: of its own stream the node sends the packet that waits longest.
     #[tactic(auto, using(crate::proofs::Spoken::data_spoken))]
-    pub(crate) fn send_data(&mut self, owner: Owner, slot: u8) -> Option<Packet>
+    fn send_data(&mut self, owner: Owner, slot: u8) -> Option<Packet>
         requires { (1 ≤ slot) × (slot ≤ 40) }
         ensures packet { result ≡ option_map (said_in slot) (data_opened self.old.setup.id owner self.old.core).message }
-        ensures spelled { IfSome result (λ p. (is_packet p ≡ true) × (slice_index p 2 ≡ 0)) }
+        ensures said { IfSome result (IsSaid OfData) }
         ensures core { self.new ≡ record self.old { core = (data_opened self.old.setup.id owner self.old.core).core } }
     {
         if owner.node() != self.id {
@@ -54,10 +100,10 @@ impl Member {
 
     // A contention slot, counted from 1: a fresh node whose own it is may request.
     #[tactic(auto, using(crate::proofs::Spoken::request_spoken))]
-    pub(crate) fn contend(&mut self, own: u8, slot: u8) -> Option<Packet>
+    fn contend(&mut self, own: u8, slot: u8) -> Option<Packet>
         requires { (1 ≤ slot) × (slot ≤ 44) }
         ensures packet { result ≡ option_map (said_in slot) (contention_opened self.old.setup.id own self.old.core).message }
-        ensures spelled { IfSome result (λ p. (is_packet p ≡ true) × (slice_index p 2 ≡ 0)) }
+        ensures said { IfSome result (IsSaid OfRequest) }
         ensures core { self.new ≡ record self.old { core = (contention_opened self.old.setup.id own self.old.core).core } }
     {
         if self.own_slot != Some(own) {

@@ -4,7 +4,7 @@ ghost use Rattle.std.specs.Prelude.{◌≡◌, ◌≤◌, ◌<◌, ◌^◌, ◌=
 ghost use Rattle.node_core.specs.declared.stage.Stage.TheVariants.{AwaitFrame, AwaitSlot};
 ghost use Rattle.node_core.specs.Rows.{boots, frame_alarms, waits, at_sent, in_window, relaying};
 ghost use Rattle.bus_rules.specs.Tuning.{rank_of as rank_in};
-ghost use Rattle.node_core.specs.Standing.{Gives, Follows};
+ghost use Rattle.node_core.specs.Standing.{Gives, Follows, IsDue};
 
 use crate::node::Node;
 use crate::stage::Stage;
@@ -15,7 +15,7 @@ use lwb_base::{Packet, Profile, Radio, Rank};
 
 impl Node {
     // Boot.
-    fn boot<R: Radio>(&mut self, now: u64, radio: &mut R)
+    pub(crate) fn boot<R: Radio>(&mut self, now: u64, radio: &mut R)
         requires now { now < 2 ^ 46 }
         requires room { 2 ≤ R.room radio.old }
         ensures node { self.new ≡ record self.old { node = (boots self.old.setup self.old.node now).node; delivery = None } }
@@ -31,7 +31,7 @@ impl Node {
     }
 
     // Frame alarm, and quiet ends where the node begins to host.
-    fn end_frame<R: Radio>(&mut self, radio: &mut R)
+    pub(crate) fn end_frame<R: Radio>(&mut self, radio: &mut R)
         requires { 2 ≤ R.room radio.old }
         ensures node { self.new ≡ record self.old { node = (frame_alarms self.old.setup self.old.node).node; delivery = None } }
         ensures orders { Gives (R.given radio.old) (R.given radio.new) (R.room radio.old) (R.room radio.new) (frame_alarms self.old.setup self.old.node).orders }
@@ -59,7 +59,8 @@ impl Node {
 
     // It waits for slot 0 where the round is due in this frame, else for the end of the frame.
     fn wait_for<R: Radio>(&mut self, due: u32, radio: &mut R)
-        requires { 2 ≤ R.room radio.old }
+        requires room { 2 ≤ R.room radio.old }
+        requires due { IsDue due self.old.node.core.tune }
         ensures node { self.new ≡ record self.old { node = record self.old.node { stage = if due == self.old.node.frame then AwaitSlot 0 else AwaitFrame } } }
         ensures orders { Gives (R.given radio.old) (R.given radio.new) (R.room radio.old) (R.room radio.new) (waits self.old.setup.profile due self.old.node.frame self.old.node.zero) }
     {
@@ -74,7 +75,7 @@ impl Node {
     }
 
     // Sent, where the flood of a window waits for it.
-    fn end_sending<R: Radio>(&mut self, radio: &mut R)
+    pub(crate) fn end_sending<R: Radio>(&mut self, radio: &mut R)
         requires { 1 ≤ R.room radio.old }
         ensures { Follows self.old self.new (R.given radio.old) (R.given radio.new) (R.room radio.old) (R.room radio.new) (at_sent self.old.node self.old.node.stage) }
     {
@@ -94,7 +95,7 @@ impl Node {
 }
 
 // A relay begins a turnaround after the end of the hearing.
-fn relay<R: Radio>(profile: &Profile, now: u64, reply: Reply, radio: &mut R)
+pub(crate) fn relay<R: Radio>(profile: &Profile, now: u64, reply: Reply, radio: &mut R)
     requires now { now < 2 ^ 46 }
     requires room { 1 ≤ R.room radio.old }
     ensures { Gives (R.given radio.old) (R.given radio.new) (R.room radio.old) (R.room radio.new) (relaying profile.now now reply) }
@@ -106,7 +107,7 @@ fn relay<R: Radio>(profile: &Profile, now: u64, reply: Reply, radio: &mut R)
     }
 }
 
-fn rank_of(tune: Tune) -> Rank
+pub(crate) fn rank_of(tune: Tune) -> Rank
     ensures { result ≡ rank_in tune }
 {
     match tune {

@@ -1,5 +1,5 @@
 ghost use Rattle.std.specs.Prelude.{◌≡◌, ◌≤◌, ◌<◌, ◌^◌, ◌+◌, ◌/◌};
-ghost use Rattle.node_core.specs.Nodes.{frame_alarm as alarm_of_frame, zero_of_host, zero_from, stopped_frame};
+ghost use Rattle.node_core.specs.Nodes.{frame_alarm as alarm_of_frame, zero_of_host, zero_from, opens_at as opening_of_slot, closes_at as closing_of_slot, stopped_frame};
 
 use lwb_base::{Packet, Profile};
 use time_reference::Reference;
@@ -34,6 +34,23 @@ pub(crate) fn heard_zero(profile: &Profile, now: u64, schedule: &Packet) -> u64
     let length = schedule.length();
     let start = now.saturating_sub(profile.airtime(length));
     Reference::from_heard(profile, start, schedule.counter(), length, schedule.slot()).zero()
+}
+
+// When the window of a slot opens, in a round whose slot 0 begins at this zero.
+pub(crate) fn opens_at(profile: &Profile, zero: u64, slot: u8) -> u64
+    requires { zero < 2 ^ 47 }
+    ensures { result ≡ opening_of_slot profile.now zero slot }
+{
+    Reference::with_zero(profile, zero).slot_start(slot)
+}
+
+// When it closes.
+pub(crate) fn closes_at(profile: &Profile, zero: u64, slot: u8) -> u64
+    requires { zero < 2 ^ 47 }
+    ensures { result ≡ closing_of_slot profile.now zero slot }
+{
+    let _contend = profile.contend();
+    LAST_TIME.min(zero + u64::from(slot) * profile.slot() + profile.close())
 }
 
 // The frame at this reading: one that begins within a lead counts.

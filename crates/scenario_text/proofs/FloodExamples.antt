@@ -1,5 +1,5 @@
 -- The definition of a flood text, tried on small texts.
-use Rattle.std.proofs.Common.{◌≡◌, ℕ, pos, negsuc, List, [], ◌∷◌, ◌++◌, true, false, Some, None, Ok, Err, Result, Option, refl, codes, map}
+use Rattle.std.proofs.Common.{◌≡◌, ℕ, pos, negsuc, List, [], ◌∷◌, ◌++◌, true, false, Ok, Err, Result, refl, codes, map}
 use Rattle.std.specs.Str.Lines.{lines}
 use Rattle.std.specs.Str.{is_utf8, chars}
 use lib.Utf8.{encode}
@@ -9,7 +9,7 @@ use Rattle.scenario_text.specs.Words.{words, is_number, is_signed, is_skipped}
 use Rattle.scenario_text.specs.FloodGrammar.{flood_of, after_line, flood_line}
 use Rattle.scenario_text.specs.Network.{network_line}
 use Rattle.scenario_text.specs.declared.fault.FaultKind.{FaultKind}
-use Rattle.scenario_text.specs.declared.fault.FaultKind.TheVariants.{NotUtf8, BadWord, BadNumber, Range, UnknownNode, Order, Twice, TooMany, Missing}
+use Rattle.scenario_text.specs.declared.fault.FaultKind.TheVariants.{NotUtf8, BadWord, BadNumber, Range, UnknownNode, Order, Twice, Missing}
 
 -- of two carriage returns before a line feed one is dropped, and one at the end of the text stays
 cut_into_lines : lines (codes "a\r\r\n\nb\r") ≡ codes "a\r" ∷ [] ∷ codes "b\r" ∷ []

@@ -21,7 +21,7 @@ use Rattle.scenario_text.specs.declared.lines.RateLine.{RateLine}
 use Rattle.scenario_text.specs.declared.network_line.NetworkLine.{NetworkLine}
 use Rattle.scenario_text.specs.declared.network_line.NetworkLine.TheVariants.{Sends, Node, Rate, Link, Pair}
 use Rattle.scenario_text.proofs.NodeIds.{with_node-all, with_node-rises, with_node-length, with_node-knows, pairs_rise}
-use Rattle.scenario_text.proofs.RatesKept.{map_all, later_all, all_append, follows_more, all_by_node, each_ascends, ppm_small}
+use Rattle.scenario_text.proofs.RatesKept.{map_all, later_all, all_append, climbs_more, all_by_node, each_ascends, ppm_small}
 
 -- a test that makes no fault, and those behind it
 pub passed : (b : Bool) (k : FaultKind) (others : Option FaultKind) → cond b others (Some k) ≡ None → (b ≡ true) × (others ≡ None)
@@ -60,7 +60,7 @@ network_keeps last d (Rate i t slow p) early sound none =
       few_nodes = sound.few_nodes;
       rises = sound.rises;
       offsets = sound.offsets;
-      follows = follows_more d.rates r sound.follows (later_all d.rates i t sound.follows order.0);
+      follows = climbs_more (λ q s. q.node ≡ s.node → q.from < s.from) d.rates r sound.follows (later_all d.rates i t sound.follows order.0);
       rates = all_append (IsRate d.nodes) d.rates (r ∷ []) sound.rates
           (record { known = known.0; early = omega (arith, tick, early); small = ppm_small slow p (leb-true p 20 ends.1) }, tt);
     }

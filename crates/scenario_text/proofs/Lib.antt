@@ -2,6 +2,8 @@ pub mod Digits
 pub mod Known
 pub mod FloodExamples
 pub mod ScenarioExamples
+pub mod CanonicalExamples
+pub mod CanonicalParts
 pub mod LineFeeds
 pub mod LinesRead
 pub mod NodeIds
@@ -9,3 +11,17 @@ pub mod RatesKept
 pub mod FloodKeeps
 pub mod ScenarioKeeps
 pub mod LinksBack
+pub mod TextBack
+pub mod NumbersBack
+pub mod LinesSaid
+pub mod CanonicalFacts
+pub mod LineRuns
+pub mod CanonicalGoes
+pub mod ScriptGoes
+pub mod CanonicalSays
+pub mod DraftFacts
+pub mod DraftKept
+pub mod RatesInTurn
+pub mod SaidParts
+pub mod BootsCounted
+pub mod SoundScenarios

@@ -1,20 +1,19 @@
 -- Lines and words, as the code finds them.
-use Rattle.std.proofs.Common.{◌≡◌, ℕ, ◌+◌, ◌<◌, ◌≤◌, List, [], ◌∷◌, Bool, true, false, not, nat_lt, ◌==◌, Option, Some, None, Result, Ok, Err, length, take, drop, get_or, position, MatchResult, is_ok, Bor, refl, sym, ◌∙◌, ap, arith, cond, All}
+use Rattle.std.proofs.Common.{◌≡◌, ℕ, ◌+◌, ◌<◌, List, [], ◌∷◌, Bool, true, false, not, nat_lt, ◌==◌, Some, None, Result, Ok, Err, length, take, drop, position, MatchResult, is_ok, refl, sym, ◌∙◌, ap, arith, cond, All}
 use Rattle.std.proofs.lemmas.Bool.{ltb-true, ltb-false, false_from_ne_true, cond-false, ne_eqb, not-true}
-use Rattle.std.proofs.lemmas.List.{take_all}
 use Rattle.std.proofs.lemmas.List.Splits.{slice_split_first, slice_split_none, length-slice_split}
-use Rattle.std.proofs.lemmas.List.Sums.{prefix_len_passes, prefix_len-le-length}
+use Rattle.std.proofs.lemmas.List.Sums.{prefix_len_passes}
 use Rattle.std.proofs.lemmas.Option.{cond_some}
 use Rattle.std.proofs.lemmas.Str.{IsUtf8-from_is_utf8, is_utf8-from_IsUtf8}
-use Rattle.std.specs.List.{slice_split, position_or_len, before_first, after_first, count_by}
+use Rattle.std.specs.List.{slice_split, position_or_len, before_first, after_first}
 use Rattle.std.specs.Str.{IsUtf8, is_utf8}
 use Rattle.std.specs.Str.Lines.{lines, lines_of_parts, strip_carriage_return}
 
-abbrev is_feed : ℕ → Bool
+abbrev pub is_feed : ℕ → Bool
 is_feed b = b == 10
 
 -- a part that others follow is a line
-part_is_line : (part : List ℕ) (parts : List (List ℕ)) → 0 < length parts → lines_of_parts (part ∷ parts) ≡ strip_carriage_return part ∷ lines_of_parts parts
+pub part_is_line : (part : List ℕ) (parts : List (List ℕ)) → 0 < length parts → lines_of_parts (part ∷ parts) ≡ strip_carriage_return part ∷ lines_of_parts parts
 part_is_line part [] some = absurd (omega arith)
 part_is_line part (next ∷ parts) some = refl
 

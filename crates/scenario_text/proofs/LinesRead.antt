@@ -1,5 +1,5 @@
 -- The lines of a text, one after another.
-use Rattle.std.proofs.Common.{◌≡◌, ℕ, ◌+◌, List, ◌∷◌, Ok, Err, Result, refl}
+use Rattle.std.proofs.Common.{◌≡◌, ℕ, ◌+◌, List, ◌∷◌, Ok, Result, refl}
 use Rattle.scenario_text.specs.Faults.{after_lines}
 use Rattle.scenario_text.specs.declared.fault.FaultKind.{FaultKind}
 

@@ -1,12 +1,11 @@
 -- A link and the link back are two lines.
-use Rattle.std.proofs.Common.{◌≡◌, ℕ, List, [], ◌∷◌, Bool, true, false, ◌||◌, ◌&&◌, ◌==◌, cond, refl, sym, ◌∙◌, ap, inl, inr}
+use Rattle.std.proofs.Common.{◌≡◌, ℕ, List, [], ◌∷◌, Bool, false, ◌||◌, ◌==◌, ◌∙◌, ap, inl, inr}
 use Rattle.std.proofs.lemmas.Bool.{cases_Bool, cond-true, cond-false, false_from_ne_true, and_parts, eqb-true}
 use Rattle.std.specs.List.{list_any}
 use Rattle.std.specs.Ordering.{is_lt}
 use Rattle.std.specs.declared.cmp.Ordering.{Ordering}
 use Rattle.link_trace.specs.Order.{with_line, by_link}
 use Rattle.link_trace.specs.Passes.{Lines, is_link}
-use Rattle.link_trace.specs.declared.lines.LinkLine.{LinkLine}
 use Rattle.scenario_text.specs.Network.{has_link, with_link}
 
 -- a line that does not pass changes nothing

@@ -1,21 +1,21 @@
 -- Nodes in the order of their ids, and a node more among them.
-use Rattle.std.proofs.Common.{◌≡◌, ℕ, zero, suc, ◌+◌, ◌<◌, ◌≤◌, List, [], ◌∷◌, ◌++◌, Bool, true, false, ◌||◌, ◌==◌, nat_lt, cond, length, take, drop, map, get_or, count_by, insert, refl, sym, ◌∙◌, ap, subst, arith, inl, inr}
-use Rattle.std.proofs.lemmas.Bool.{cond-true, cond-false, ltb-true, ltb-false, lt-ltb, le-ltb, or_left, or_right, or_cases, or_parts, eqb-false, cases_order, cases_Bool, false≢true}
+use Rattle.std.proofs.Common.{◌≡◌, ℕ, zero, suc, ◌<◌, ◌≤◌, List, [], ◌∷◌, Bool, true, false, ◌==◌, nat_lt, cond, length, map, get_or, count_by, insert, refl, sym, ◌∙◌, ap, subst, arith, inl, inr}
+use Rattle.std.proofs.lemmas.Bool.{cond-true, cond-false, ltb-true, ltb-false, le-ltb, or_left, or_right, or_cases, or_parts, eqb-false, cases_order, cases_Bool, false≢true}
 use Rattle.std.proofs.lemmas.List.{get_or-map, length-map}
 use Rattle.std.proofs.lemmas.List.Sums.{sum_by-cons}
 use Rattle.link_trace.specs.Masks.{AreNodes}
 use Rattle.std.proofs.lemmas.List.Elements.{All-from_recursion}
-use Rattle.std.specs.List.{AllByRecursion, AllPairs, list_any}
+use Rattle.std.specs.List.{AllByRecursion, AllPairs}
 use Rattle.scenario_text.specs.FloodParts.{knows}
 use Rattle.scenario_text.specs.Network.{with_node}
 use Rattle.scenario_text.specs.FloodDrafts.{Rises}
 use Rattle.scenario_text.specs.declared.lines.NodeLine.{NodeLine}
 
-abbrev below : NodeLine → NodeLine → Bool
+abbrev pub below : NodeLine → NodeLine → Bool
 below n m = nat_lt m.node n.node
 
 -- the node behind those with lesser ids
-abbrev put : NodeLine → List NodeLine → List NodeLine
+abbrev pub put : NodeLine → List NodeLine → List NodeLine
 put n [] = n ∷ []
 put n (m ∷ ms) = cond (below n m) (m ∷ put n ms) (n ∷ m ∷ ms)
 

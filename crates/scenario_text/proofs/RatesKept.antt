@@ -10,11 +10,11 @@ use Rattle.std.specs.Int.RustNames.{unsigned_abs}
 use Rattle.std.specs.Option.{option_or, option_map_or}
 use Rattle.scenario_text.specs.FloodParts.{knows}
 use Rattle.scenario_text.specs.Network.{last_rate, rates_by_node, ppm}
-use Rattle.scenario_text.specs.FloodDrafts.{Rises, Follows}
+use Rattle.scenario_text.specs.FloodDrafts.{Climbs, Rises, Follows}
 use Rattle.scenario_text.specs.declared.lines.NodeLine.{NodeLine}
 use Rattle.scenario_text.specs.declared.lines.RateLine.{RateLine}
 
-abbrev is_of : ℕ → RateLine → Bool
+abbrev pub is_of : ℕ → RateLine → Bool
 is_of i r = r.node == i
 
 -- the last of the others, or the first
@@ -22,7 +22,7 @@ last_more : (r : RateLine) (rs : List RateLine) (i : ℕ) → last_rate (r ∷ r
 last_more r rs i = ap (find (is_of i)) (reverse-append (r ∷ []) rs) ∙ find-append (is_of i) (reverse rs) (reverse (r ∷ []))
 
 -- what holds of all holds of the last
-last_holds : (P : RateLine → Type 0) (i : ℕ) (rs : List RateLine) → AllByRecursion P rs → IfSome (last_rate rs i) P
+pub last_holds : (P : RateLine → Type 0) (i : ℕ) (rs : List RateLine) → AllByRecursion P rs → IfSome (last_rate rs i) P
 last_holds P i [] all = tt
 last_holds P i (r ∷ rs) all = subst (λ (o : Option RateLine). IfSome o P) (sym (last_more r rs i)) (either (last_rate rs i) (last_holds P i rs all.1))
   where
@@ -33,6 +33,15 @@ last_holds P i (r ∷ rs) all = subst (λ (o : Option RateLine). IfSome o P) (sy
         here : (b : Bool) → IfSome (cond b (Some r) None) P
         here true = all.0
         here false = tt
+
+-- and is of the node
+pub last_of : (rs : List RateLine) (i : ℕ) → IfSome (last_rate rs i) (λ r. r.node ≡ i)
+last_of [] i = tt
+last_of (r ∷ rs) i = subst (λ (o : Option RateLine). IfSome o (λ r. r.node ≡ i)) (sym (last_more r rs i)) (either (last_rate rs i) (last_of rs i))
+  where
+    either : (o : Option RateLine) → IfSome o (λ r. r.node ≡ i) → IfSome (option_or o (cond (is_of i r) (Some r) None)) (λ r. r.node ≡ i)
+    either (Some l) is = is
+    either None is = cond_both (is_of i r) (Some r) None (λ (o : Option RateLine). IfSome o (λ r. r.node ≡ i)) (λ here. eqb-true r.node i here) (λ other. tt)
 
 -- the last rate of a node begins last, if it has any
 abbrev Tops : Option RateLine → ℕ → List RateLine → Type 0
@@ -66,14 +75,14 @@ later_all rs i t follows above = by_last (last_rate rs i) (tops i rs follows) ab
         let lt = ltb-true l.from t above in
         map_all (λ r. r.node ≡ i → r.from ≤ l.from) (λ r. r.node ≡ i → r.from < t) rs (λ r le same. let early = le same in omega (arith, lt, early)) top.1
 
--- a rate more
+-- an element more behind all
 pub all_append : {X : Type 0} (P : X → Type 0) (xs ys : List X) → AllByRecursion P xs → AllByRecursion P ys → AllByRecursion P (xs ++ ys)
 all_append P [] ys all others = others
 all_append P (x ∷ xs) ys all others = (all.0, all_append P xs ys all.1 others)
 
-pub follows_more : (rs : List RateLine) (r : RateLine) → Follows rs → AllByRecursion (λ s. s.node ≡ r.node → s.from < r.from) rs → Follows (rs ++ r ∷ [])
-follows_more [] r follows later = (tt, tt)
-follows_more (s ∷ rs) r follows later = (all_append (λ t. s.node ≡ t.node → s.from < t.from) rs (r ∷ []) follows.0 (later.0, tt), follows_more rs r follows.1 later.1)
+pub climbs_more : {X : Type 0} (R : X → X → Type 0) (xs : List X) (x : X) → Climbs R xs → AllByRecursion (λ y. R y x) xs → Climbs R (xs ++ x ∷ [])
+climbs_more R [] x climbs all = (tt, tt)
+climbs_more R (y ∷ xs) x climbs all = (all_append (R y) xs (x ∷ []) climbs.0 (all.0, tt), climbs_more R xs x climbs.1 all.1)
 
 -- those that pass
 pub all_filter : {X : Type 0} (P : X → Type 0) (p : X → Bool) (xs : List X) → AllByRecursion P xs → AllByRecursion P (filter p xs)
@@ -120,7 +129,7 @@ filter_other i j (r ∷ rs) differ =
     cond-false (is_of j r) (r ∷ filter (is_of j) fs) (filter (is_of j) fs) not ∙ filter_other i j rs differ)
     (λ other. filter_other i j rs differ)
 
-above_unknown : (n : NodeLine) (ns : List NodeLine) → AllByRecursion (λ m. n.node < m.node) ns → knows ns n.node ≡ false
+pub above_unknown : (n : NodeLine) (ns : List NodeLine) → AllByRecursion (λ m. n.node < m.node) ns → knows ns n.node ≡ false
 above_unknown n [] all = refl
 above_unknown n (m ∷ ns) all =
     let first = all.0 in

@@ -1,5 +1,5 @@
 -- The definition of a scenario's text, tried on small texts.
-use Rattle.std.proofs.Common.{◌≡◌, ℕ, pos, negsuc, List, [], ◌∷◌, ◌++◌, true, false, Some, None, Ok, Err, Result, Option, refl, codes, map}
+use Rattle.std.proofs.Common.{◌≡◌, ℕ, negsuc, List, [], ◌∷◌, ◌++◌, true, false, Some, Ok, Err, Result, refl, codes, map}
 use Rattle.std.specs.Str.{is_utf8, chars}
 use lib.Utf8.{encode}
 use Rattle.lwb_base.specs.Profile.{one, contended}
@@ -9,7 +9,7 @@ use Rattle.scenario_text.specs.Payloads.{is_payload, payload}
 use Rattle.scenario_text.specs.ScenarioParts.{ScenarioParts}
 use Rattle.scenario_text.specs.ScenarioGrammar.{scenario_of, after_line, scenario_line}
 use Rattle.scenario_text.specs.declared.fault.FaultKind.{FaultKind}
-use Rattle.scenario_text.specs.declared.fault.FaultKind.TheVariants.{NotUtf8, BadWord, BadNumber, Range, UnknownNode, Order, Twice, TooMany, Missing, TooBig}
+use Rattle.scenario_text.specs.declared.fault.FaultKind.TheVariants.{NotUtf8, BadWord, BadNumber, Range, UnknownNode, Order, Twice, Missing}
 use Rattle.scenario_text.specs.declared.script.Act.TheVariants as act
 
 payloads : map payload (codes "-" ∷ codes "aA0f" ∷ []) ≡ Some [] ∷ Some (170 ∷ 15 ∷ []) ∷ []
@@ -21,7 +21,7 @@ spelled_payloads = refl
 abbrev base : List ℕ
 base = codes "sends 2\nnode 1 0\nnode 2 0\nhost 0 1\npair 1 2\n"
 
-abbrev first_round_parts : ScenarioParts
+abbrev pub first_round_parts : ScenarioParts
 first_round_parts = record {
   profile = one;
   frames = 6;
@@ -37,22 +37,25 @@ first_round : scenario_of (base ++ codes "frames 6\non 0 1\non 0 2") ≡ Ok firs
 unfolding after_line scenario_line network_line is_utf8 chars encode
 first_round = refl
 
+abbrev pub every_line_parts : ScenarioParts
+every_line_parts = record {
+  profile = contended 3;
+  frames = 6;
+  sends = 2;
+  nodes = record { node = 1; offset = 0 } ∷ record { node = 2; offset = 0 } ∷ [];
+  rates = record { node = 2; from = 1310720000000; ppm = negsuc 19 } ∷ [];
+  hosts = 1 ∷ [];
+  trace = record {
+    links = record { from = 1; to = 2 } ∷ record { from = 2; to = 1 } ∷ [];
+    losses = record { frame = 5; slot = 45; step = 11; from = 1; to = 2 } ∷ [];
+    cuts = record { frame = 5; slot = 0; step = 0; node = 1 } ∷ [];
+    captures = record { frame = 0; slot = 45; step = 1; at = 1; from = 2 } ∷ [];
+  };
+  script = record { frame = 0; node = 2; act = act.On } ∷ record { frame = 0; node = 2; act = act.Declare 3 120 } ∷ record { frame = 1; node = 2; act = act.Put 3 [] } ∷ record { frame = 1; node = 2; act = act.Put 0 (171 ∷ []) } ∷ record { frame = 2; node = 2; act = act.Leave 3 } ∷ record { frame = 5; node = 2; act = act.Off } ∷ [];
+}
+
 every_line : scenario_of (codes "# all\nprofile 2\n\ncontend 3\n" ++ base ++ codes "frames 6\nrate 2 1310720000000 -20\non 0 2\nstream 0 2 3 120\nput 1 2 3 -\nput 1 2 0 AB\nleave 2 2 3\noff 5 2\nlose 5 45 11 1 2\ncut 5 0 0 1\ncapture 0 45 1 1 2\n")
-    ≡ Ok (record {
-      profile = contended 3;
-      frames = 6;
-      sends = 2;
-      nodes = record { node = 1; offset = 0 } ∷ record { node = 2; offset = 0 } ∷ [];
-      rates = record { node = 2; from = 1310720000000; ppm = negsuc 19 } ∷ [];
-      hosts = 1 ∷ [];
-      trace = record {
-        links = record { from = 1; to = 2 } ∷ record { from = 2; to = 1 } ∷ [];
-        losses = record { frame = 5; slot = 45; step = 11; from = 1; to = 2 } ∷ [];
-        cuts = record { frame = 5; slot = 0; step = 0; node = 1 } ∷ [];
-        captures = record { frame = 0; slot = 45; step = 1; at = 1; from = 2 } ∷ [];
-      };
-      script = record { frame = 0; node = 2; act = act.On } ∷ record { frame = 0; node = 2; act = act.Declare 3 120 } ∷ record { frame = 1; node = 2; act = act.Put 3 [] } ∷ record { frame = 1; node = 2; act = act.Put 0 (171 ∷ []) } ∷ record { frame = 2; node = 2; act = act.Leave 3 } ∷ record { frame = 5; node = 2; act = act.Off } ∷ [];
-    })
+    ≡ Ok every_line_parts
 unfolding after_line scenario_line network_line is_utf8 chars encode
 every_line = refl
 

@@ -11,15 +11,18 @@ use Rattle.scenario_text.specs.Network.{Drafted}
 use Rattle.scenario_text.specs.declared.lines.NodeLine.{NodeLine}
 use Rattle.scenario_text.specs.declared.lines.RateLine.{RateLine}
 
+-- R holds of each element and each later one
+abbrev pub Climbs : {X : Type 0} → (X → X → Type 0) → List X → Type 0
+Climbs R [] = Unit {0}
+Climbs R (x ∷ xs) = AllByRecursion (R x) xs × Climbs R xs
+
 -- the ids ascend
 abbrev pub Rises : List NodeLine → Type 0
-Rises [] = Unit {0}
-Rises (n ∷ ns) = AllByRecursion (λ m. n.node < m.node) ns × Rises ns
+Rises ns = Climbs (λ n m. n.node < m.node) ns
 
 -- of two rates of one node the later begins later
 abbrev pub Follows : List RateLine → Type 0
-Follows [] = Unit {0}
-Follows (r ∷ rs) = AllByRecursion (λ s. r.node ≡ s.node → r.from < s.from) rs × Follows rs
+Follows rs = Climbs (λ r s. r.node ≡ s.node → r.from < s.from) rs
 
 -- the rate is of one of these nodes, and its tick and millionths are in range
 pub record IsRate (ns : List NodeLine) (r : RateLine) : Type 0 where

@@ -1,5 +1,5 @@
 -- Flood text: what its lines say, and the first line that is refused.
-use Rattle.std.specs.Prelude.{◌≡◌, ℕ, ◌+◌, List, [], ◌∷◌, ◌++◌, Bool, true, false, not, ◌&&◌, ◌==◌, nat_lt, nat_le, if◌then◌else◌, Some, None, Option, is_none, is_some, Ok, Err, Result, length, drop, codes, option_map}
+use Rattle.std.specs.Prelude.{◌≡◌, ℕ, ◌+◌, List, [], ◌∷◌, Bool, not, ◌&&◌, nat_le, if◌then◌else◌, Some, None, Option, is_none, Ok, Err, Result, length, drop, codes, option_map}
 use Rattle.std.specs.List.{list_all}
 use Rattle.std.specs.Option.{ok_or}
 use Rattle.std.specs.Str.{bytes_eq, is_utf8}
@@ -9,7 +9,7 @@ use Rattle.scenario_text.specs.Faults.{first_fault, unless_fault, in_line, ◌>>
 use Rattle.scenario_text.specs.Words.{words, word, is_skipped, is_number, number_at, counted}
 use Rattle.scenario_text.specs.Network.{Drafted, Parts, network_parts, network_line, network_numbers, no_network, is_id, are_ends, network_fault, has_loss, has_script_room, with_line, with_loss, with_script_line}
 use Rattle.scenario_text.specs.declared.fault.FaultKind.{FaultKind}
-use Rattle.scenario_text.specs.declared.fault.FaultKind.TheVariants.{NotUtf8, BadWord, BadNumber, Range, UnknownNode, Order, Twice, TooMany, Missing}
+use Rattle.scenario_text.specs.declared.fault.FaultKind.TheVariants.{NotUtf8, BadWord, BadNumber, Range, UnknownNode, Twice, TooMany, Missing}
 use Rattle.scenario_text.specs.declared.flood_line.FloodLine.{FloodLine}
 use Rattle.scenario_text.specs.declared.flood_line.FloodLine.TheVariants.{InNetwork, Lose, Start}
 

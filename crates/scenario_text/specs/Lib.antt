@@ -8,4 +8,6 @@ pub mod FloodDrafts
 pub mod Payloads
 pub mod ScenarioParts
 pub mod ScenarioGrammar
+pub mod Canonical
 pub mod ScenarioDrafts
+pub mod ScenarioFacts

@@ -1,7 +1,7 @@
 -- The text of a scenario: what its lines say, and the first line that is refused.
 use Rattle.std.specs.Prelude.{◌≡◌, ℕ, ◌+◌, ◌-◌, ◌*◌, List, [], ◌∷◌, ◌++◌, Bool, true, false, not, ◌&&◌, ◌||◌, ◌==◌, nat_lt, nat_le, if◌then◌else◌, Some, None, Option, is_none, is_some, Ok, Err, Result, length, drop, codes, option_map, replicate, slice_get, slice_set, slice_index, slice_index_or}
 use Rattle.std.specs.List.{list_all, list_any}
-use Rattle.std.specs.Option.{ok_or, option_map_or}
+use Rattle.std.specs.Option.{option_map_or}
 use Rattle.std.specs.Str.{bytes_eq, is_utf8}
 use Rattle.std.specs.Str.Lines.{lines}
 use Rattle.lwb_base.specs.Profile.{Numbers, one, contended}

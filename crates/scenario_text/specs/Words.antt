@@ -1,6 +1,6 @@
 -- The words of a line, and what they spell. The lines of a text are cut at each line feed, and one carriage return before it
 -- is dropped: `lines` of std says so.
-use Rattle.std.specs.Prelude.{ℕ, List, [], ◌-◌, Bool, not, ◌&&◌, ◌||◌, ◌==◌, nat_lt, nat_le, if◌then◌else◌, Some, None, Option, length, drop, filter, slice_index, slice_index_or}
+use Rattle.std.specs.Prelude.{ℕ, List, [], Bool, not, ◌&&◌, ◌||◌, ◌==◌, nat_lt, nat_le, if◌then◌else◌, Some, None, Option, length, drop, filter, slice_index, slice_index_or}
 use Rattle.std.specs.Char.{is_ascii_digit}
 use Rattle.std.specs.List.{slice_split, list_all}
 use Rattle.std.specs.Str.Parse.{digits_value}

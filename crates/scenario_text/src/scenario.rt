@@ -1,4 +1,5 @@
 ghost use Rattle.std.specs.Prelude.{◌≡◌};
+ghost use Rattle.scenario_text.specs.Canonical.{IsSaid};
 ghost use Rattle.scenario_text.specs.FloodParts.{IsSealed};
 ghost use Rattle.scenario_text.specs.ScenarioGrammar.{IsScenario};
 
@@ -55,6 +56,34 @@ impl Scenario {
         } = network;
         Scenario {
             profile,
+            frames,
+            sends,
+            nodes,
+            rates,
+            hosts,
+            trace,
+            script,
+        }
+    }
+
+    /// The scenario of these parts, each list in its order. Their canonical text is accepted and says them, and the
+    /// trace is sealed with the nodes.
+    pub fn of_parts(
+        profile: &Profile,
+        frames: u32,
+        sends: u8,
+        nodes: Vec<NodeLine>,
+        rates: Vec<RateLine>,
+        hosts: Vec<NodeId>,
+        trace: Trace,
+        script: Vec<ScriptLine>,
+    ) -> Scenario
+        requires said { IsSaid (record { profile = profile.now; frames = frames; sends = sends; nodes = nodes.items; rates = rates.items; hosts = hosts.items; trace = trace.lines; script = script.items }) }
+        requires sealed { IsSealed trace nodes.items }
+        ensures { result ≡ record { profile = profile.now; frames = frames; sends = sends; nodes = nodes.items; rates = rates.items; hosts = hosts.items; trace = trace.lines; script = script.items } }
+    {
+        Scenario {
+            profile: *profile,
             frames,
             sends,
             nodes,

@@ -1,8 +1,15 @@
+ghost use Rattle.std.specs.Prelude.{◌≡◌, ◌<◌, IfOk, [], ◌∷◌};
+ghost use Rattle.link_trace.specs.Sealed.{no_lines};
+
 use crate::FaultKind::{
     BadNumber, BadWord, Missing, NotUtf8, Order, Range, TooBig, TooMany, Twice, UnknownNode,
 };
-use crate::{Act, FaultKind, ParseFault, parse, parse_flood};
-use lwb_base::INPUT_LIMIT;
+use crate::{
+    Act, FaultKind, NodeLine, ParseFault, Scenario, ScriptLine, parse, parse_flood, print,
+};
+use link_trace::Trace;
+use lwb_base::{INPUT_LIMIT, NodeId, Profile};
+use std::alloc::Global;
 use std::test::Fail;
 
 // Behind `sends 2` and the nodes 1, 2 and 3 with pairs of neighbours: the lines that follow, and the fault.
@@ -362,5 +369,132 @@ fn the_parts_of_a_scenario(rt: HostRuntime) -> Result<(), Fail> {
     };
     assert_eq!(rt; *stream, 1);
     assert_eq!(rt; payload.bytes(), b"\xab\x0f".as_slice());
+    Ok(())
+}
+
+// Texts, and their canonical texts.
+const PRINTED: [(&str, &str); 3] = [
+    (
+        "sends 2\nnode 1 0\nnode 2 0\nhost 0 1\npair 1 2\nframes 6\non 0 1\non 0 2\n",
+        "profile 1\nframes 6\nsends 2\nnode 1 0\nnode 2 0\nhost 0 1\nlink 1 2\nlink 2 1\non 0 1\n\
+         on 0 2\n",
+    ),
+    (
+        "sends 2\nnode 1 0\nnode 2 0\nhost 0 1\npair 1 2\nframes 12\non 0 1\non 0 2\n\
+         stream 0 2 0 4\nput 0 2 0 aa\n",
+        "profile 1\nframes 12\nsends 2\nnode 1 0\nnode 2 0\nhost 0 1\nlink 1 2\nlink 2 1\non 0 1\n\
+         on 0 2\nstream 0 2 0 4\nput 0 2 0 aa\n",
+    ),
+    (
+        "profile 2\ncontend 3\nnode 9 7\nnode 4 0\nhost 0 9\nhost 1 4\nsends 1\npair 9 4\n\
+         rate 9 5 -20\nrate 4 6 0\nframes 3\ncapture 1 45 2 9 4\nlose 1 0 11 9 4\nlose 0 0 0 9 4\n\
+         \tput 0 9 3 - \r\ncut 2 1 0 4\nput 0 9 0 00Af\nleave 1 9 3\noff 2 4",
+        "profile 2\ncontend 3\nframes 3\nsends 1\nnode 4 0\nnode 9 7\nrate 4 6 0\nrate 9 5 -20\n\
+         host 0 9\nhost 1 4\nlink 4 9\nlink 9 4\nput 0 9 3 -\nput 0 9 0 00af\nleave 1 9 3\n\
+         off 2 4\nlose 0 0 0 9 4\nlose 1 0 11 9 4\ncut 2 1 0 4\ncapture 1 45 2 9 4\n",
+    ),
+];
+
+fn printed(alloc: Global, scenario: &Scenario) -> Result<String, Fail> {
+    match print(alloc, scenario) {
+        Ok(text) => Ok(text),
+        Err(_) => Err("memory")?,
+    }
+}
+
+fn read_and_printed(alloc: Global, text: &str) -> Result<String, Fail> {
+    let bytes = text.as_bytes();
+    if bytes.len() > INPUT_LIMIT {
+        return Err("length")?;
+    }
+    match parse(alloc, bytes) {
+        Ok(scenario) => printed(alloc, &scenario),
+        Err(_) => Err("refused")?,
+    }
+}
+
+#[test]
+fn canonical_texts(rt: HostRuntime) -> Result<(), Fail> {
+    let alloc = rt.alloc();
+    for (text, canonical) in PRINTED {
+        let once = read_and_printed(alloc, text)?;
+        assert_eq!(rt; once.as_str(), canonical);
+        let twice = read_and_printed(alloc, once.as_str())?;
+        assert_eq!(rt; twice.as_str(), canonical);
+    }
+    Ok(())
+}
+
+fn node(id: u8) -> Result<NodeId, Fail>
+    ensures { IfOk result (λ n. n ≡ id) }
+{
+    match NodeId::new(id) {
+        Some(node) => Ok(node),
+        None => Err("id")?,
+    }
+}
+
+// The links of a pair of nodes, sealed with both.
+fn trace_of_two(alloc: Global, one: NodeId, two: NodeId) -> Result<Trace, Fail>
+    requires { one < two }
+    ensures { IfOk result (λ t. t ≡ record { lines = record no_lines { links = record { from = one; to = two } ∷ record { from = two; to = one } ∷ [] }; nodes = one ∷ two ∷ [] }) }
+{
+    let mut trace = Trace::new(alloc);
+    if trace.link(one, two) != Ok(true) || trace.link(two, one) != Ok(true) {
+        return Err("links")?;
+    }
+    match trace.seal(&[one, two]) {
+        Ok(()) => Ok(trace),
+        Err(_) => Err("memory")?,
+    }
+}
+
+fn first_round(alloc: Global) -> Result<Scenario, Fail> {
+    let (one, two) = (node(1)?, node(2)?);
+    let trace = trace_of_two(alloc, one, two)?;
+    let nodes = vec![in alloc;
+        NodeLine {
+            node: one,
+            offset: 0
+        },
+        NodeLine {
+            node: two,
+            offset: 0
+        },
+    ]?;
+    let hosts = vec![in alloc; one]?;
+    let script = vec![in alloc;
+        ScriptLine {
+            frame: 0,
+            node: one,
+            act: Act::On
+        },
+        ScriptLine {
+            frame: 0,
+            node: two,
+            act: Act::On
+        },
+    ]?;
+    Ok(Scenario::of_parts(
+        &Profile::one(),
+        6,
+        2,
+        nodes,
+        Vec::new(alloc),
+        hosts,
+        trace,
+        script,
+    ))
+}
+
+#[test]
+fn a_scenario_of_its_parts(rt: HostRuntime) -> Result<(), Fail> {
+    let alloc = rt.alloc();
+    let scenario = first_round(alloc)?;
+    let text = printed(alloc, &scenario)?;
+    assert_eq!(rt;
+        text.as_str(),
+        "profile 1\nframes 6\nsends 2\nnode 1 0\nnode 2 0\nhost 0 1\nlink 1 2\nlink 2 1\non 0 1\non 0 2\n"
+    );
     Ok(())
 }

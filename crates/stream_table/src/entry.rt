@@ -29,7 +29,7 @@ impl Model for Entry {
 
     ghost view = { λ e. record { code = e.owner; boot = e.boot; interval = e.interval; accepted = e.accepted; granted = e.granted; unheard = e.unheard } };
 
-    ghost invariant = { λ e. (1 ≤ e.interval) × (e.unheard ≤ 15) };
+    ghost invariant = { λ e. (1 ≤ e.interval) × (e.interval ≤ 120) × (e.unheard ≤ 15) };
 
     ghost inverse = { λ e. record { owner = e.code; boot = e.boot; interval = e.interval; accepted = e.accepted; granted = e.granted; unheard = e.unheard } };
 }
@@ -44,7 +44,7 @@ impl Default for Entry {
 impl Entry {
     // A stream accepted in this frame.
     pub(crate) fn new(owner: Owner, boot: u8, interval: u8, frame: u32) -> Entry
-        requires { 1 ≤ interval }
+        requires { (1 ≤ interval) × (interval ≤ 120) }
         ensures { result ≡ record { code = owner; boot = boot; interval = interval; accepted = frame; granted = 0; unheard = 0 } }
     {
         Entry {
@@ -70,7 +70,8 @@ impl Entry {
     }
 
     pub(crate) fn interval(&self) -> u8
-        ensures { result ≡ self.now.interval }
+        ensures value { result ≡ self.now.interval }
+        ensures range { result ≤ 120 }
     {
         self.interval
     }

@@ -128,9 +128,10 @@ impl Table {
         places::grant(&mut self.entries, owner.code());
     }
 
-    /// The interval of this owner in seconds, 0 for none.
+    /// The interval of this owner in seconds, 1 to 120, or 0 for none.
     pub fn interval(&self, owner: Owner) -> u8
-        ensures { result ≡ rule.interval_of self.now owner }
+        ensures value { result ≡ rule.interval_of self.now owner }
+        ensures range { result ≤ 120 }
     {
         match places::search(self.entries.as_slice(), owner.code()) {
             Ok(place) => self.entries[place].interval(),

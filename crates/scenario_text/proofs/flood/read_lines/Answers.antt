@@ -1,4 +1,4 @@
-use Rattle.std.proofs.Common.{◌≡◌, ◌∙◌, ap, arith, length, ◌+◌, Ok}
+use Rattle.std.proofs.Common.{◌∙◌, ap, arith, length, ◌+◌}
 use Rattle.std.specs.Str.Lines.{lines}
 use Rattle.scenario_text.specs.FloodGrammar.{after_line}
 use Rattle.scenario_text.specs.Faults.{after_lines}

@@ -5,8 +5,8 @@ use Rattle.stream_table.specs.Entries.{IsAt}
 use Rattle.stream_table.proofs.Changes.{value_at}
 use Rattle.stream_table.proofs.table.Table.interval.Goals as goal
 
-pub returns-in-Ok : goal.returns-in-Ok
-returns-in-Ok c =
+pub returns-in-Ok-clause-value : goal.returns-in-Ok-clause-value
+returns-in-Ok-clause-value c =
     let es = c.self.inside.entries.items in
     let owner = c.args.owner in
     let f : Entry → ℕ = interval_in in
@@ -14,4 +14,4 @@ returns-in-Ok c =
     let at : IsAt es owner c.in-Ok.place = subst (λ (d : ℕ). IsAt es d c.in-Ok.place) c.code.ensures.value here in
     let x = c.index-deref-place.result in
     let read : x ≡ get_or es c.in-Ok.place x = c.index-deref-place.is ∙ ap (λ (l : List Entry). get_or l c.in-Ok.place x) c.deref.ensures.0 in
-    c.interval.ensures ∙ value_at f es owner c.in-Ok.place at x c.self.invariant read ∙ ap (λ (t : Table). option_map_or f (entry_of t.entries owner) 0) c.self.view_is
+    c.interval.ensures.value ∙ value_at f es owner c.in-Ok.place at x c.self.invariant read ∙ ap (λ (t : Table). option_map_or f (entry_of t.entries owner) 0) c.self.view_is

@@ -1,0 +1,56 @@
+-- The log text: a line for each entry, by start, then kind in the order sent, heard, tuned, then node.
+-- Entries that this order leaves equal stay in the air's order.
+use Rattle.std.specs.Prelude.{ℕ, List, [], ◌∷◌, ◌++◌, Bool, if◌then◌else◌, codes, flat_map}
+use Rattle.std.specs.Ordering.{nat_cmp, ordering_then, is_lt}
+use Rattle.scenario_text.specs.Canonical.{line_text, numbered}
+use Rattle.scenario_text.specs.Payloads.{hex_digits}
+use Rattle.air_log.specs.Entries.{node_of}
+use Rattle.air_log.specs.declared.entry.Entry.{Entry}
+use Rattle.air_log.specs.declared.entry.Entry.TheVariants.{Sent, Heard, Tuned}
+use Rattle.air_log.specs.declared.entry.SentEntry.{SentEntry}
+use Rattle.air_log.specs.declared.entry.HeardEntry.{HeardEntry}
+use Rattle.air_log.specs.declared.entry.TunedEntry.{TunedEntry}
+
+abbrev pub start_of : Entry → ℕ
+start_of (Sent x) = x.start
+start_of (Heard h) = h.start
+start_of (Tuned t) = t.start
+
+abbrev pub kind_of : Entry → ℕ
+kind_of (Sent x) = 0
+kind_of (Heard h) = 1
+kind_of (Tuned t) = 2
+
+-- by start, then kind, then node
+abbrev pub is_before : Entry → Entry → Bool
+is_before a b = is_lt (ordering_then (ordering_then (nat_cmp (start_of a) (start_of b)) (nat_cmp (kind_of a) (kind_of b))) (nat_cmp (node_of a) (node_of b)))
+
+-- x in front of the first that is not before it
+abbrev pub placed : {X : Type 0} → (X → X → Bool) → X → List X → List X
+placed before x [] = x ∷ []
+placed before x (y ∷ ys) = if before y x then y ∷ placed before x ys else x ∷ y ∷ ys
+
+-- each in its place among those that come after it in the list
+abbrev pub in_order : {X : Type 0} → (X → X → Bool) → List X → List X
+in_order before [] = []
+in_order before (x ∷ xs) = placed before x (in_order before xs)
+
+abbrev pub hex_word : List ℕ → List ℕ
+hex_word bytes = flat_map hex_digits bytes
+
+abbrev pub sent_line : SentEntry → List ℕ
+sent_line x = line_text (numbered (codes "sent") (x.rank ∷ x.node ∷ x.start ∷ x.end ∷ []) ++ hex_word x.packet ∷ [])
+
+abbrev pub heard_line : HeardEntry → List ℕ
+heard_line h = line_text (numbered (codes "heard") (h.rank ∷ h.node ∷ h.from ∷ h.start ∷ h.end ∷ []) ++ hex_word h.packet ∷ [])
+
+abbrev pub tuned_line : TunedEntry → List ℕ
+tuned_line t = line_text (numbered (codes "tuned") (t.rank ∷ t.node ∷ t.start ∷ t.end ∷ []))
+
+abbrev pub entry_line : Entry → List ℕ
+entry_line (Sent x) = sent_line x
+entry_line (Heard h) = heard_line h
+entry_line (Tuned t) = tuned_line t
+
+abbrev pub log_text : List Entry → List ℕ
+log_text air = flat_map entry_line (in_order is_before air)

@@ -1,0 +1,50 @@
+ghost use Rattle.std.specs.Prelude.{◌≡◌, map, IfOk, string_bytes};
+ghost use Rattle.air_log.specs.Entries.{node_of};
+ghost use Rattle.air_log.specs.LogText.{log_text, in_order, is_before, start_of, kind_of};
+
+use crate::line_writers::write_entry;
+use crate::{Air, Entry};
+use lwb_base::Memory;
+use std::alloc::{AllocError, Global};
+
+/// The log text: one line for each entry, by start, then kind in the order sent, heard, tuned, then node. Entries that
+/// this order leaves equal stay in the air's order.
+pub fn text(alloc: Global, a: &Air) -> Result<String, Memory>
+    ensures { IfOk result (λ text. string_bytes text ≡ log_text a.now) }
+{
+    match text_of(alloc, a) {
+        Ok(text) => Ok(text),
+        Err(_) => Err(Memory),
+    }
+}
+
+fn text_of(alloc: Global, a: &Air) -> Result<String, AllocError>
+    ensures { IfOk result (λ text. string_bytes text ≡ log_text a.now) }
+{
+    let sorted = entries_in_order(alloc, a.entries())?;
+    let mut text = String::new(alloc);
+    for entry in &sorted {
+        write_entry(&mut text, entry)?;
+    }
+    Ok(text)
+}
+
+// References are sorted, so that no entry is copied.
+fn entries_in_order(alloc: Global, entries: &[Entry]) -> Result<Vec<&Entry>, AllocError>
+    ensures { IfOk result (λ v. map (λ e. e.now) v.items ≡ in_order is_before entries.now) }
+{
+    let mut sorted: Vec<&Entry> = entries.iter().collect(alloc)?;
+    sorted.sort_by_key(|entry| place(entry))?;
+    Ok(sorted)
+}
+
+// What the order goes by: the start, the number of the kind, and the node.
+fn place(entry: &Entry) -> (u64, u8, u8)
+    ensures { result ≡ (start_of entry.now, kind_of entry.now, node_of entry.now) }
+{
+    match entry {
+        Entry::Sent(sent) => (sent.start, 0, sent.node.number()),
+        Entry::Heard(heard) => (heard.start, 1, heard.node.number()),
+        Entry::Tuned(tuned) => (tuned.start, 2, tuned.node.number()),
+    }
+}

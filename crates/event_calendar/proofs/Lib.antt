@@ -1,0 +1,4 @@
+pub mod FirstOrders
+pub mod NextOrders
+pub mod OneOrder
+pub mod TreeOfWinners

@@ -1,0 +1,46 @@
+ghost use Rattle.std.specs.Prelude.{◌≡◌, ◌≢◌, ◌<◌, ◌≤◌, ℕ};
+ghost use Rattle.event_calendar.specs.Winners as winners;
+ghost use Rattle.event_calendar.specs.Winners.{is_before, node, HasWinnersBut};
+
+use crate::Class;
+
+/// The first of two orders by tick, then class, then place; either may be missing.
+pub fn first(a: Option<(u64, Class, u8)>, b: Option<(u64, Class, u8)>) -> Option<(u64, Class, u8)>
+    ensures { result ≡ winners.first a b }
+{
+    match (a, b) {
+        (None, _) => b,
+        (Some(x), None) => Some(x),
+        (Some(x), Some(y)) => Some(if is_before(y, x) { y } else { x }),
+    }
+}
+
+fn is_before(x: (u64, Class, u8), y: (u64, Class, u8)) -> bool
+    ensures { result ≡ is_before x y }
+{
+    let (tick, class, place) = x;
+    let (other_tick, other_class, other_place) = y;
+    if tick != other_tick {
+        return tick < other_tick;
+    }
+    if class != other_class {
+        return class.rank() < other_class.rank();
+    }
+    place < other_place
+}
+
+/// Replaces a leaf, counted as a node from 64 to 127, and plays the matches from there to the root again.
+pub fn replay(tree: &mut [Option<(u64, Class, u8)>], leaf: usize, order: Option<(u64, Class, u8)>)
+    requires leaf { (64 ≤ leaf) × (leaf < 128) }
+    requires winners { HasWinnersBut 0 tree.old }
+    ensures winners { HasWinnersBut 0 tree.new }
+    ensures leaf { node tree.new leaf ≡ order }
+    ensures others { (i : ℕ) → 64 ≤ i → i ≢ leaf → node tree.new i ≡ node tree.old i }
+{
+    tree[leaf] = order;
+    let mut parent = leaf / 2;
+    while parent > 0 {
+        tree[parent] = first(tree[2 * parent], tree[2 * parent + 1]);
+        parent /= 2;
+    }
+}

@@ -1,0 +1,10 @@
+-- What is fixed for a node stays in each step.
+use Rattle.std.proofs.Common.{◌≡◌, ℕ, List, Option, Some, None, ap}
+use Rattle.lwb_base.specs.declared.order.Order.{Order}
+use Rattle.node_core.specs.Nodes.{NodeState}
+use Rattle.node_core.specs.Rows.{Stepped}
+use Rattle.node_core.specs.Standing.{Follows}
+
+pub setup_stays : (old new : NodeState) (before after : List Order) (room left : ℕ) (row : Option Stepped) → Follows old new before after room left row → new.setup ≡ old.setup
+setup_stays old new before after room left None is = ap (λ (s : NodeState). s.setup) is.0
+setup_stays old new before after room left (Some r) is = ap (λ (s : NodeState). s.setup) is.0

@@ -1,0 +1,27 @@
+use Rattle.std.proofs.Common.{subst, sym}
+use Rattle.node_core.specs.Standing.{HostsIn, IsStage, IsWindow}
+use Rattle.node_core.specs.Windows.{Window}
+use Rattle.node_core.specs.declared.stage.Stage.{Stage}
+use Rattle.node_core.specs.declared.stage.Stage.TheVariants.{InWindow}
+use Rattle.node_core.proofs.KeptWindows.{hearing_stands, hearing_hosted}
+use Rattle.node_core.proofs.node.Node.hear_in_window.Goals as goal
+
+pub invariant_of-self : goal.invariant_of-self
+invariant_of-self g c =
+    let core = c.self.inside.member.core in
+    let slot = c.in-InWindow.slot in
+    let window = c.in-InWindow.window in
+    let frame = c.self.inside.frame in
+    let new_is = sym c.hear-reply.ensures.after in
+    let profile = c.self-inside.inside.0.0.profile in
+    let rank = c.rank_of-rank.result in
+    let heard = c.args.packet.now in
+    let hosted : HostsIn frame core (InWindow slot window) = subst (λ (x : Stage). HostsIn frame core x) (sym c.in-InWindow.ensures.value) c.self.invariant.hosted in
+    let stood : IsWindow core slot window = subst (λ (x : Stage). IsStage core x) (sym c.in-InWindow.ensures.value) c.self.invariant.stands in
+    record {
+      few = c.self.invariant.few;
+      early = c.self.invariant.early;
+      stands = subst (λ (w : Window). IsWindow core slot w) new_is (hearing_stands profile rank c.args.now slot core window heard c.requires.now stood);
+      accepted = c.self.invariant.accepted;
+      hosted = subst (λ (w : Window). HostsIn frame core (InWindow slot w)) new_is (hearing_hosted profile rank c.args.now frame slot core window heard hosted);
+    }

@@ -1,0 +1,22 @@
+use Rattle.std.proofs.Common.{◌∙◌, ap, subst, List, option_map}
+use Rattle.lwb_base.specs.declared.order.Order.{Order}
+use Rattle.bus_rules.specs.declared.part.Part.{Part}
+use Rattle.bus_rules.specs.Tuning.{rank_of}
+use Rattle.bus_rules.specs.Slots.{opened, part_of}
+use Rattle.node_core.specs.Said.{said_in}
+use Rattle.node_core.specs.Nodes.{NodeState}
+use Rattle.node_core.specs.Rows.{window_opens}
+use Rattle.node_core.specs.Standing.{Gives}
+use Rattle.node_core.proofs.Opened.{orders_are}
+use Rattle.node_core.proofs.node.Node.open_window.Goals as goal
+
+pub returns-clause-orders : goal.returns-clause-orders
+returns-clause-orders g c =
+    let i = c.self.inside in
+    let m = i.member in
+    let slot = c.args.slot in
+    let ranked = c.rank_of-rank.ensures ∙ ap rank_of c.tune.ensures in
+    let said = c.speak-packet.ensures.packet ∙ ap (λ (p : Part). option_map (said_in slot) (opened m.setup i.frame p m.core).message) c.part-part.ensures.value in
+    let orders = orders_are m.setup.profile i.zero slot _ _ c.round-round.result c.window-times.result c.round-round.ensures.value c.window-times.ensures c.rank_of-rank.result (rank_of m.core.tune) c.speak-packet.result (opened m.setup i.frame (part_of m.core.plan slot) m.core).message ranked said in
+    subst (λ (l : List Order). Gives (g.R.Radio.given c.args.radio.now) (g.R.Radio.given c.order.new.radio) (g.R.Radio.room c.args.radio.now) (g.R.Radio.room c.order.new.radio) l)
+    (orders ∙ ap (λ (n : NodeState). (window_opens n.setup n.node slot).orders) c.self.view_is) c.order.ensures

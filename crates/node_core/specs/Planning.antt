@@ -1,0 +1,24 @@
+-- What holds while a host plans.
+use Rattle.std.specs.Prelude.{◌≡◌, ℕ, ◌≤◌, true, Bool, nat_le, List, length, All}
+use Rattle.std.specs.List.{list_all}
+use Rattle.lwb_base.specs.Messages.{Ask, code_of}
+use Rattle.schedule_codec.specs.AckLists.{strictly_ascend, ask_in_range}
+use Rattle.bus_rules.specs.Tables.{Entry, Table}
+
+-- its code is not below this one
+abbrev pub from_code : ℕ → Ask → Bool
+from_code c a = nat_le c (code_of a)
+
+-- acknowledgements while they are collected: by ascending code, each in its ranges
+pub record AreAnswers (acks : List Ask) : Type 0 where
+  pub ascend : strictly_ascend acks ≡ true
+  pub ranges : list_all ask_in_range acks ≡ true
+
+-- each of these requests can be put to a table, and no more than a host keeps
+pub record AreKept (kept : List Ask) : Type 0 where
+  pub few : length kept ≤ 4
+  pub ranges : list_all ask_in_range kept ≡ true
+
+-- no stream of the table was accepted after this frame
+abbrev pub IsEarly : ℕ → Table → Type 0
+IsEarly frame t = All (λ (e : Entry). e.accepted ≤ frame) t.entries

@@ -1,0 +1,49 @@
+//! One event at a node.
+
+ghost use Rattle.std.specs.Prelude.{◌≡◌, ◌≤◌, ◌<◌, ◌^◌};
+ghost use Rattle.node_core.specs.Rows.{at_alarm, row};
+ghost use Rattle.node_core.specs.Standing.{Follows};
+
+use crate::node::Node;
+use crate::stage::Stage;
+use lwb_base::{Event, LocalClock, Radio};
+
+impl Node {
+    /// Handles an event that happens now, by the clock's reading: goes through the row of the node table that fits, and
+    /// gives its orders to the radio, which has room for at least 4. An event that fits no row changes nothing and gives no
+    /// order.
+    pub fn step<C: LocalClock, R: Radio>(&mut self, clock: &C, radio: &mut R, event: Event)
+        requires { 4 ≤ R.room radio.old }
+        ensures row { Follows self.old self.new (R.given radio.old) (R.given radio.new) (R.room radio.old) (R.room radio.new) (row self.old.setup self.old.node (C.time clock.now) event) }
+        ensures setup { self.new.setup ≡ self.old.setup }
+    {
+        self.go_through(clock.now(), radio, event);
+    }
+
+    // The event happens at this reading.
+    fn go_through<R: Radio>(&mut self, now: u64, radio: &mut R, event: Event)
+        requires now { now < 2 ^ 46 }
+        requires room { 4 ≤ R.room radio.old }
+        ensures { Follows self.old self.new (R.given radio.old) (R.given radio.new) (R.room radio.old) (R.room radio.new) (row self.old.setup self.old.node now event) }
+    {
+        match event {
+            Event::Boot => self.boot(now, radio),
+            Event::Alarm => self.alarm(radio),
+            Event::Heard(packet) => self.hear(now, &packet, radio),
+            Event::Sent => self.end_sending(radio),
+        }
+    }
+
+    // The alarm is due.
+    fn alarm<R: Radio>(&mut self, radio: &mut R)
+        requires { 3 ≤ R.room radio.old }
+        ensures { Follows self.old self.new (R.given radio.old) (R.given radio.new) (R.room radio.old) (R.room radio.new) (at_alarm self.old.setup self.old.node self.old.node.stage) }
+    {
+        match self.stage {
+            Stage::Idle => {}
+            Stage::Scanning | Stage::AwaitFrame => self.end_frame(radio),
+            Stage::AwaitSlot(slot) => self.open_window(slot, radio),
+            Stage::InWindow(..) => self.close_window(radio),
+        }
+    }
+}

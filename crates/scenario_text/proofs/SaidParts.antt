@@ -1,0 +1,215 @@
+-- What some text says meets the rules of the canonical text.
+use Rattle.std.proofs.Common.{◌≡◌, ℕ, ◌+◌, ◌*◌, ◌<◌, ◌≤◌, List, [], ◌∷◌, Bool, true, false, if◌then◌else◌, ◌==◌, nat_le, Option, Some, None, IfSome, Result, Ok, Err, IfOk, length, codes, option_map, refl, sym, ◌∙◌, ap, subst, arith, inl, inr}
+use Rattle.std.proofs.lemmas.Bool.{cond_both, or_cases, leb-true, eqb-true, eqb-false, false≢true}
+use Rattle.std.proofs.lemmas.Bool.Decides.{nat_tests}
+use Rattle.std.specs.Char.{is_ascii_hexdigit, digit_value}
+use Rattle.std.specs.List.{AllByRecursion}
+use Rattle.std.specs.Str.{bytes_eq, is_utf8}
+use Rattle.std.specs.Str.Lines.{lines}
+use Rattle.lwb_base.specs.Profile.{Numbers}
+use Rattle.scenario_text.specs.FloodParts.{knows}
+use Rattle.scenario_text.specs.FloodDrafts.{IsRate}
+use Rattle.scenario_text.specs.Words.{words, word, is_skipped, counted, number_at}
+use Rattle.scenario_text.specs.Faults.{unless_fault, after_lines, in_line, ◌>>=◌}
+use Rattle.scenario_text.specs.Network.{is_id, network_parts, network_line, rates_by_node}
+use Rattle.scenario_text.specs.Payloads.{is_payload, payload, payload_bytes, hex_bytes, hex_value}
+use Rattle.scenario_text.specs.ScenarioGrammar.{Scenario, no_scenario, last_tick, line_fault, with_scenario_line, after_words, after_line, scenario_line, scenario_numbers, begins, finished, finished_parts, if_small, scenario_of, IsScenario}
+use Rattle.scenario_text.specs.ScenarioParts.{ScenarioParts}
+use Rattle.scenario_text.specs.Canonical.{canonical}
+use Rattle.scenario_text.specs.declared.fault.FaultKind.{FaultKind}
+use Rattle.scenario_text.specs.declared.fault.FaultKind.TheVariants.{NotUtf8, BadNumber, Missing, TooBig}
+use Rattle.scenario_text.specs.declared.lines.NodeLine.{NodeLine}
+use Rattle.scenario_text.specs.declared.lines.RateLine.{RateLine}
+use Rattle.scenario_text.specs.declared.scenario_line.ScenarioLine.{ScenarioLine}
+use Rattle.scenario_text.specs.declared.scenario_line.ScenarioLine.TheVariants.{InNetwork, Profile, Contend, Frames, Host, On, Off, Stream, Leave, Put, Lose, Cut, Capture}
+use Rattle.scenario_text.proofs.FloodKeeps.{unless_keeps}
+use Rattle.scenario_text.proofs.RatesKept.{map_all, all_by_node}
+use Rattle.scenario_text.proofs.RatesInTurn.{in_turn_again, no_more, turns_follow}
+use Rattle.scenario_text.proofs.CanonicalFacts.{IsNode, IsRateOf, IsHost, KeepsRules}
+use Rattle.scenario_text.proofs.DraftFacts.{IsScript, IsTrace, IsFine}
+use Rattle.scenario_text.proofs.CanonicalSays.{canonical_says}
+use Rattle.scenario_text.proofs.DraftKept.{IsRead, fine_first, line_fine}
+
+-- the bytes of a payload
+letter_value : (c : ℕ) → is_ascii_hexdigit c ≡ true → digit_value c ≤ 15
+letter_value c is = grind (arith, nat_tests)
+
+hex_small : (c : ℕ) → hex_value c ≤ 15
+hex_small c = cond_both (is_ascii_hexdigit c) (digit_value c) 0 (λ (n : ℕ). n ≤ 15) (λ is. letter_value c is) (λ not. omega arith)
+
+are_bytes : (w : List ℕ) → AllByRecursion (λ b. b < 256) (hex_bytes w)
+are_bytes [] = tt
+are_bytes (a ∷ []) = tt
+are_bytes (a ∷ b ∷ w) = (omega (arith, hex_small a, hex_small b), are_bytes w)
+
+payload_read : (f i s : ℕ) (w : List ℕ) → IsRead (Put f i s (payload w))
+payload_read f i s w =
+    cond_both (nat_le (length (payload_bytes w)) 96) (Some (payload_bytes w)) None (λ (o : Option (List ℕ)). IsRead (Put f i s o))
+    (λ short. cond_both (bytes_eq w (codes "-")) [] (hex_bytes w) (AllByRecursion (λ b. b < 256)) (λ dash. tt) (λ other. are_bytes w)) (λ long. tt)
+
+either : (b : Bool) (x y : Option ScenarioLine) → IfSome x IsRead → IfSome y IsRead → IfSome (if b then x else y) IsRead
+either true x y first second = first
+either false x y first second = second
+
+counted_read : (n : ℕ) (ws : List (List ℕ)) (l : ScenarioLine) → IsRead l → IfSome (counted n ws l) IsRead
+counted_read n ws l is = cond_both (length ws == n) (Some l) None (λ o. IfSome o IsRead) (λ same. is) (λ other. tt)
+
+network_read : (o : Option _) → IfSome (option_map InNetwork o) IsRead
+network_read None = tt
+network_read (Some l) = tt
+
+line_read : (ws : List (List ℕ)) → IfSome (scenario_line ws) IsRead
+unfolding scenario_line
+line_read ws =
+    either (begins ws (codes "profile")) _ _ (counted_read 2 ws (Profile (number_at ws 1)) tt)
+    (either (begins ws (codes "contend")) _ _ (counted_read 2 ws (Contend (number_at ws 1)) tt)
+    (either (begins ws (codes "frames")) _ _ (counted_read 2 ws (Frames (number_at ws 1)) tt)
+    (either (begins ws (codes "host")) _ _ (counted_read 3 ws (Host (number_at ws 1) (number_at ws 2)) tt)
+    (either (begins ws (codes "on")) _ _ (counted_read 3 ws (On (number_at ws 1) (number_at ws 2)) tt)
+    (either (begins ws (codes "off")) _ _ (counted_read 3 ws (Off (number_at ws 1) (number_at ws 2)) tt)
+    (either (begins ws (codes "stream")) _ _ (counted_read 5 ws (Stream (number_at ws 1) (number_at ws 2) (number_at ws 3) (number_at ws 4)) tt)
+    (either (begins ws (codes "leave")) _ _ (counted_read 4 ws (Leave (number_at ws 1) (number_at ws 2) (number_at ws 3)) tt)
+    (either (begins ws (codes "put")) _ _
+    (either (is_payload (word ws 4)) _ None
+    (counted_read 5 ws (Put (number_at ws 1) (number_at ws 2) (number_at ws 3) (payload (word ws 4))) (payload_read (number_at ws 1) (number_at ws 2) (number_at ws 3) (word ws 4))) tt)
+    (either (begins ws (codes "lose")) _ _ (counted_read 6 ws (Lose (number_at ws 1) (number_at ws 2) (number_at ws 3) (number_at ws 4) (number_at ws 5)) tt)
+    (either (begins ws (codes "cut")) _ _ (counted_read 5 ws (Cut (number_at ws 1) (number_at ws 2) (number_at ws 3) (number_at ws 4)) tt)
+    (either (begins ws (codes "capture")) _ _ (counted_read 6 ws (Capture (number_at ws 1) (number_at ws 2) (number_at ws 3) (number_at ws 4) (number_at ws 5)) tt)
+    (network_read (network_line ws)))))))))))))
+
+-- behind a line
+words_fine : (d : Scenario) (ws : List (List ℕ)) (o : Option ScenarioLine) → IsFine d → IfSome o IsRead → IfOk (after_words d ws o) IsFine
+words_fine d ws None fine read = tt
+words_fine d ws (Some l) fine read =
+    cond_both (scenario_numbers l ws) (unless_fault (line_fault d l) (with_scenario_line d l)) (Err BadNumber) (λ r. IfOk r IsFine)
+    (λ is. unless_keeps IsFine (line_fault d l) (with_scenario_line d l) (λ none. line_fine d l fine read none)) (λ not. tt)
+
+read_fine : (d : Scenario) (text : List ℕ) → IsFine d → IfOk (after_line d text) IsFine
+unfolding after_line
+read_fine d text fine =
+    cond_both (is_skipped (words text)) (Ok d) (if is_utf8 text then after_words d (words text) (scenario_line (words text)) else Err NotUtf8) (λ r. IfOk r IsFine) (λ is. fine)
+    (λ not. cond_both (is_utf8 text) (after_words d (words text) (scenario_line (words text))) (Err NotUtf8) (λ r. IfOk r IsFine) (λ is. words_fine d (words text) (scenario_line (words text)) fine (line_read (words text))) (λ not. tt))
+
+lines_fine : (n : ℕ) (d e : Scenario) (texts : List (List ℕ)) → IsFine d → after_lines after_line n d texts ≡ Ok e → IsFine e
+lines_fine n d e [] fine is = subst (λ (r : Result Scenario (ℕ × FaultKind)). IfOk r IsFine) is fine
+lines_fine n d e (text ∷ texts) fine is = one (after_line d text) (read_fine d text fine) (λ x fine is. lines_fine (n + 1) x e texts fine is) is
+  where
+    one : (r : Result Scenario FaultKind) → IfOk r IsFine → ((x : Scenario) → IsFine x → after_lines after_line (n + 1) x texts ≡ Ok e → IsFine e)
+        → (in_line n r >>= (λ x. after_lines after_line (n + 1) x texts)) ≡ Ok e → IsFine e
+    one (Ok x) fine others is = others x fine is
+    one (Err k) fine others is = cc
+
+pub fine_lines : (d : Scenario) (texts : List (List ℕ)) → after_lines after_line 1 no_scenario texts ≡ Ok d → IsFine d
+fine_lines d texts is = lines_fine 1 no_scenario d texts fine_first is
+
+-- ids of known nodes
+pub known_id : (ns : List NodeLine) (v : ℕ) → AllByRecursion (λ n. is_id n.node ≡ true) ns → knows ns v ≡ true → is_id v ≡ true
+known_id [] v ids known = absurd (false≢true known)
+known_id (n ∷ ns) v ids known =
+    elim (or_cases (n.node == v) (knows ns v) known) [ inl here ↦ ap is_id (sym (eqb-true n.node v here)) ∙ ids.0 | inr later ↦ known_id ns v ids.1 later ]
+
+nodes_are : (ns : List NodeLine) → AllByRecursion (λ n. is_id n.node ≡ true) ns → AllByRecursion (λ n. n.offset ≤ 256000) ns → AllByRecursion IsNode ns
+nodes_are [] ids offsets = tt
+nodes_are (n ∷ ns) ids offsets = (record { id = ids.0; offset = offsets.0 }, nodes_are ns ids.1 offsets.1)
+
+rates_are : (p : Numbers) (ns : List NodeLine) (rs : List RateLine) → AllByRecursion (λ n. is_id n.node ≡ true) ns → AllByRecursion (IsRate ns) rs → AllByRecursion (λ r. r.from ≤ last_tick p) rs
+    → AllByRecursion (IsRateOf p ns) rs
+rates_are p ns [] ids rates ticks = tt
+rates_are p ns (r ∷ rs) ids rates ticks =
+    let first = rates.0 in
+    (record { id = known_id ns r.node ids first.known; known = first.known; early = ticks.0; small = first.small }, rates_are p ns rs ids rates.1 ticks.1)
+
+abbrev whole : Scenario → ℕ → ℕ → ScenarioParts
+whole d n f = record {
+  profile = d.profile;
+  frames = f;
+  sends = n;
+  nodes = d.network.nodes;
+  rates = rates_by_node d.network.nodes d.network.rates;
+  hosts = d.hosts;
+  trace = d.network.trace;
+  script = d.script;
+}
+
+whole_said : (d : Scenario) (n f : ℕ) → IsFine d → d.network.sends ≡ Some n → d.frames ≡ Some f → 2 ≤ length d.network.nodes → 1 ≤ length d.hosts → length d.network.nodes * f ≤ 16384 → KeepsRules (whole d n f)
+whole_said d n f fine sends frames two host small =
+    let ns = d.network.nodes in
+    let rs = d.network.rates in
+    let net = fine.network in
+    let script : IsScript d.profile (Some f) ns d.script = subst (λ (o : Option ℕ). IsScript d.profile o ns d.script) frames fine.script in
+    let trace : IsTrace d.profile (Some f) ns d.network.trace = subst (λ (o : Option ℕ). IsTrace d.profile o ns d.network.trace) frames fine.trace in
+    let counted = fine.counted in
+    let few = fine.few in
+    record {
+      profile = fine.profile;
+      frames = subst (λ (o : Option ℕ). IfSome o (λ g. (1 ≤ g) × (g ≤ 4096))) frames fine.frames;
+      sends = subst (λ (o : Option ℕ). IfSome o (λ m. (1 ≤ m) × (m ≤ 4))) sends net.sends;
+      some_nodes = two;
+      few_nodes = net.few_nodes;
+      nodes = nodes_are ns fine.ids net.offsets;
+      rises = net.rises;
+      rates = all_by_node (IsRateOf d.profile ns) ns rs (rates_are d.profile ns rs fine.ids net.rates fine.ticks);
+      follows = turns_follow ns rs net.rises net.follows;
+      in_turn = in_turn_again ns rs net.rises;
+      some_hosts = host;
+      few_hosts = fine.hosts.few;
+      hosts = map_all (λ h. knows ns h ≡ true) (IsHost ns) d.hosts (λ h known. record { id = known_id ns h fine.ids known; known = known }) fine.hosts.known;
+      distinct = fine.hosts.distinct;
+      links = trace.links;
+      links_climb = trace.links_climb;
+      script = script.fits;
+      script_climbs = script.climbs;
+      boots = script.boots;
+      losses = trace.losses;
+      losses_climb = trace.losses_climb;
+      cuts = trace.cuts;
+      cuts_climb = trace.cuts_climb;
+      captures = trace.captures;
+      captures_climb = trace.captures_climb;
+      scripted = omega (arith, counted, few, no_more ns rs net.rises);
+      small = small;
+    }
+
+ok_unless : {A E : Type 0} (b : Bool) (r : Result A E) (k : E) (s : A) → (if b then Err k else r) ≡ Ok s → (b ≡ false) × (r ≡ Ok s)
+ok_unless true r k s is = cc
+ok_unless false r k s is = (refl, is)
+
+ok_where : (b : Bool) (x : ScenarioParts) (k : FaultKind) (s : ScenarioParts) → ◌≡◌ {A = Result ScenarioParts FaultKind} (if b then Ok x else Err k) (Ok s) → (b ≡ true) × (x ≡ s)
+ok_where true x k s is = (refl, subst (λ (r : Result ScenarioParts FaultKind). IfOk r (λ y. x ≡ y)) is refl)
+ok_where false x k s is = cc
+
+finished_said : (d : Scenario) (s : ScenarioParts) → IsFine d → finished d ≡ Ok s → KeepsRules s
+finished_said d s fine is = by_parts d.network.sends d.frames refl refl is
+  where
+    by_parts : (o g : Option ℕ) → d.network.sends ≡ o → d.frames ≡ g → finished_parts d (network_parts d.network o) g ≡ Ok s → KeepsRules s
+    by_parts None g sends frames is = cc
+    by_parts (Some n) None sends frames is = by_two (nat_le 2 (length d.network.nodes)) is
+      where
+        by_two : (b : Bool) → finished_parts d (if b then Some (record { sends = n; nodes = d.network.nodes; rates = rates_by_node d.network.nodes d.network.rates; trace = d.network.trace }) else None) None ≡ Ok s → KeepsRules s
+        by_two true is = cc
+        by_two false is = cc
+    by_parts (Some n) (Some f) sends frames is = by_two (nat_le 2 (length d.network.nodes)) refl is
+      where
+        by_two : (b : Bool) → nat_le 2 (length d.network.nodes) ≡ b
+            → finished_parts d (if b then Some (record { sends = n; nodes = d.network.nodes; rates = rates_by_node d.network.nodes d.network.rates; trace = d.network.trace }) else None) (Some f) ≡ Ok s → KeepsRules s
+        by_two false two is = cc
+        by_two true two is =
+            let hosts = ok_unless (length d.hosts == 0) (if_small (whole d n f)) Missing s is in
+            let small = ok_where (nat_le (length d.network.nodes * f) 16384) (whole d n f) TooBig s hosts.1 in
+            let some = eqb-false (length d.hosts) 0 hosts.0 in
+            subst KeepsRules small.1 (whole_said d n f fine sends frames (leb-true 2 (length d.network.nodes) two) (omega (arith, some)) (leb-true (length d.network.nodes * f) 16384 small.0))
+
+pub said_is : (s : ScenarioParts) → IsScenario s → KeepsRules s
+said_is s said = by_lines (after_lines after_line 1 no_scenario (lines said.0)) refl said.1
+  where
+    by_lines : (r : Result Scenario (ℕ × FaultKind)) → after_lines after_line 1 no_scenario (lines said.0) ≡ r → (r >>= (λ e. in_line (length (lines said.0) + 1) (finished e))) ≡ Ok s → KeepsRules s
+    by_lines (Err k) read is = cc
+    by_lines (Ok d) read is = by_end (finished d) refl is
+      where
+        by_end : (q : Result ScenarioParts FaultKind) → finished d ≡ q → in_line (length (lines said.0) + 1) q ≡ Ok s → KeepsRules s
+        by_end (Err k) done is = cc
+        by_end (Ok x) done is = finished_said d s (fine_lines d (lines said.0) read) (done ∙ ap Ok (subst (λ (q : Result ScenarioParts (ℕ × FaultKind)). IfOk q (λ y. x ≡ y)) is refl))
+
+-- a text that is the canonical one
+pub says_again : (s : ScenarioParts) (text : List ℕ) → text ≡ canonical s → IsScenario s → scenario_of text ≡ Ok s
+says_again s text is said = ap scenario_of is ∙ canonical_says s (said_is s said)

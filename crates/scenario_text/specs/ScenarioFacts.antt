@@ -1,0 +1,79 @@
+-- What is true of each scenario.
+use Rattle.std.specs.Prelude.{◌≡◌, ◌≢◌, ◌+◌, ◌*◌, ◌^◌, ◌<◌, ◌≤◌, ℕ, List, [], ◌∷◌, filter, Bool, true, false, if◌then◌else◌, length, ◌==◌, All}
+use Rattle.std.specs.Int.RustNames.{unsigned_abs}
+use Rattle.std.specs.List.{AllPairs}
+use Rattle.lwb_base.specs.Profile.{Numbers, IsProfile}
+use Rattle.scenario_text.specs.FloodParts.{knows}
+use Rattle.scenario_text.specs.ScenarioGrammar.{last_tick, last_slot}
+use Rattle.scenario_text.specs.ScenarioParts.{ScenarioParts}
+use Rattle.scenario_text.specs.declared.lines.NodeLine.{NodeLine}
+use Rattle.scenario_text.specs.declared.script.Act.{Act}
+use Rattle.scenario_text.specs.declared.script.Act.TheVariants.{On, Off, Declare, Leave, Put}
+use Rattle.scenario_text.specs.declared.script.ScriptLine.{ScriptLine}
+
+-- two of these nodes, which differ
+pub record AreEnds (ns : List NodeLine) (u v : ℕ) : Type 0 where
+  pub from_known : knows ns u ≡ true
+  pub to_known : knows ns v ≡ true
+  pub differ : u ≢ v
+
+-- the step is one of a slot of a frame of the scenario
+pub record IsStepOf (s : ScenarioParts) (frame slot step : ℕ) : Type 0 where
+  pub in_run : frame < s.frames
+  pub in_frame : slot ≤ last_slot s.profile
+  pub in_slot : step ≤ 11
+
+-- the numbers of what a node is told are in range
+abbrev pub IsAct : Numbers → Act → Type 0
+IsAct p On = Unit {0}
+IsAct p Off = Unit {0}
+IsAct p (Declare stream interval) = (stream ≤ 3) × (1 ≤ interval) × (interval ≤ 120)
+IsAct p (Leave stream) = stream ≤ 3
+IsAct p (Put stream payload) = (stream ≤ 3) × (length payload ≤ p.payload_max)
+
+pub record IsScriptLine (s : ScenarioParts) (l : ScriptLine) : Type 0 where
+  pub in_run : l.frame < s.frames
+  pub known : knows s.nodes l.node ≡ true
+  pub act : IsAct s.profile l.act
+
+-- whether a node is on, and how often it booted, behind what it is told: it boots where it was off
+abbrev pub turned_by : Act → Bool × ℕ → Bool × ℕ
+turned_by On t = (true, if t.0 then t.1 else t.1 + 1)
+turned_by Off t = (false, t.1)
+turned_by (Declare stream interval) t = t
+turned_by (Leave stream) t = t
+turned_by (Put stream payload) t = t
+
+-- and behind these lines of a script
+abbrev pub turned : ℕ → Bool × ℕ → List ScriptLine → Bool × ℕ
+turned v t [] = t
+turned v t (l ∷ ls) = turned v (if l.node == v then turned_by l.act t else t) ls
+
+pub record IsSoundScenario (s : ScenarioParts) : Type 0 where
+  pub profile : IsProfile s.profile
+  pub some_frames : 1 ≤ s.frames
+  pub few_frames : s.frames ≤ 4096
+  pub some_sends : 1 ≤ s.sends
+  pub few_sends : s.sends ≤ 4
+  pub two_nodes : 2 ≤ length s.nodes
+  pub few_nodes : length s.nodes ≤ 64
+  pub node_frames : length s.nodes * s.frames ≤ 16384
+  pub ids : All (λ n. (1 ≤ n.node) × (n.node ≤ 200)) s.nodes
+  pub ascending : AllPairs (λ a b. a.node < b.node) s.nodes
+  pub offsets : All (λ n. n.offset ≤ 256000) s.nodes
+  pub rates_known : All (λ r. knows s.nodes r.node ≡ true) s.rates
+  pub rates_ascend : (i : ℕ) → AllPairs (λ a b. a.from < b.from) (filter (λ r. r.node == i) s.rates)
+  pub rates_in_run : All (λ r. r.from ≤ last_tick s.profile) s.rates
+  pub rates_early : All (λ r. r.from < 2 ^ 47) s.rates
+  pub rates_small : All (λ r. unsigned_abs r.ppm ≤ 20) s.rates
+  pub some_hosts : 1 ≤ length s.hosts
+  pub few_hosts : length s.hosts ≤ 4
+  pub hosts_known : All (λ h. knows s.nodes h ≡ true) s.hosts
+  pub hosts_differ : AllPairs (λ a b. a ≢ b) s.hosts
+  pub links : All (λ l. AreEnds s.nodes l.from l.to) s.trace.links
+  pub losses : All (λ l. IsStepOf s l.frame l.slot l.step × AreEnds s.nodes l.from l.to) s.trace.losses
+  pub cuts : All (λ l. IsStepOf s l.frame l.slot l.step × (knows s.nodes l.node ≡ true)) s.trace.cuts
+  pub captures : All (λ l. IsStepOf s l.frame l.slot l.step × AreEnds s.nodes l.at l.from) s.trace.captures
+  pub script : All (IsScriptLine s) s.script
+  pub script_ascends : AllPairs (λ a b. a.frame ≤ b.frame) s.script
+  pub few_boots : (v : ℕ) → (turned v (false, 0) s.script).1 ≤ 200

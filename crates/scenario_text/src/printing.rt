@@ -1,0 +1,75 @@
+ghost use Rattle.std.specs.Prelude.{◌≡◌, ◌++◌, Ok, IfOk, OnOk, string_bytes, codes, [], ◌∷◌};
+ghost use Rattle.scenario_text.specs.ScenarioGrammar.{scenario_of, IsScenario};
+ghost use Rattle.scenario_text.specs.Canonical.{canonical, line_text, render, numbered, profile_number, contend_lines};
+
+use crate::list_writers::{
+    write_captures, write_cuts, write_hosts, write_links, write_losses, write_nodes, write_rates,
+    write_script,
+};
+use crate::scenario::Scenario;
+use lwb_base::{Memory, Profile};
+use std::alloc::{AllocError, Global};
+use std::fmt::Write;
+
+/// The canonical text of a scenario: one space between words, a line feed after each line, the lines in one order,
+/// and each number and payload in its one spelling. Parsed again it gives the same scenario.
+#[tactic(auto, using(crate::proofs::SaidParts::says_again))]
+pub fn print(alloc: Global, s: &Scenario) -> Result<String, Memory>
+    ensures text { IfOk result (λ text. string_bytes text ≡ canonical s.now) }
+    ensures back { IfOk result (λ text. scenario_of (string_bytes text) ≡ Ok s.now) }
+{
+    match text_of(alloc, s) {
+        Ok(text) => Ok(text),
+        Err(_) => Err(Memory),
+    }
+}
+
+#[tactic(auto, using(crate::proofs::CanonicalParts::in_turn))]
+fn text_of(alloc: Global, s: &Scenario) -> Result<String, AllocError>
+    ensures text { IfOk result (λ text. string_bytes text ≡ canonical s.now) }
+    ensures said { IsScenario s.now }
+{
+    let mut text = String::new(alloc);
+    write_profile(&mut text, s.profile())?;
+    write_contend(&mut text, s.profile())?;
+    write_frames(&mut text, s.frames())?;
+    write_sends(&mut text, s.sends())?;
+    write_nodes(&mut text, s.nodes())?;
+    write_rates(&mut text, s.rates())?;
+    write_hosts(&mut text, s.hosts())?;
+    write_links(&mut text, s.trace().links())?;
+    write_script(&mut text, s.script())?;
+    write_losses(&mut text, s.trace().losses())?;
+    write_cuts(&mut text, s.trace().cuts())?;
+    write_captures(&mut text, s.trace().captures())?;
+    Ok(text)
+}
+
+fn write_profile(text: &mut String, profile: Profile) -> Result<(), AllocError>
+    ensures { OnOk result (string_bytes text.new ≡ string_bytes text.old ++ line_text (numbered (codes "profile") (profile_number profile ∷ []))) }
+{
+    let number = if profile.seconds() == 4 { 1u8 } else { 2u8 };
+    write!(text, "profile {number}\n")
+}
+
+fn write_contend(text: &mut String, profile: Profile) -> Result<(), AllocError>
+    ensures { OnOk result (string_bytes text.new ≡ string_bytes text.old ++ render (contend_lines profile.contend)) }
+{
+    let slots = profile.contend();
+    if slots == 0 {
+        return Ok(());
+    }
+    write!(text, "contend {slots}\n")
+}
+
+fn write_frames(text: &mut String, frames: u32) -> Result<(), AllocError>
+    ensures { OnOk result (string_bytes text.new ≡ string_bytes text.old ++ line_text (numbered (codes "frames") (frames ∷ []))) }
+{
+    write!(text, "frames {frames}\n")
+}
+
+fn write_sends(text: &mut String, sends: u8) -> Result<(), AllocError>
+    ensures { OnOk result (string_bytes text.new ≡ string_bytes text.old ++ line_text (numbered (codes "sends") (sends ∷ []))) }
+{
+    write!(text, "sends {sends}\n")
+}
