@@ -4,3 +4,8 @@ pub mod QuietTicks
 pub mod KeptByEvents
 pub mod TrailTunings
 pub mod TrailSendings
+pub mod SmallPlans
+pub mod SmallCores
+pub mod AlarmRows
+pub mod AlarmLoop
+pub mod AlarmRuns

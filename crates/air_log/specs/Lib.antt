@@ -8,6 +8,7 @@ pub mod Devices
 pub mod ScriptedDevices
 pub mod Trails
 pub mod QuietTicks
+pub mod AlarmRuns
 pub mod TrailEntries
 pub mod Charges
 pub mod Lawful

@@ -2,7 +2,10 @@
 
 ghost use Rattle.std.specs.Prelude.{◌≡◌, ℕ, suc, ◌<◌, ◌≤◌, List, filter, All, AllPairs};
 ghost use Rattle.scenario_text.specs.ScenarioParts.{ScenarioParts};
-ghost use Rattle.air_log.specs.Trails.{Reception, run_end, before_start, before_tick, trail};
+ghost use Rattle.scenario_text.specs.ScenarioFacts.{IsSoundScenario};
+ghost use Rattle.tick_clock.specs.Clocks.{IsClock};
+ghost use Rattle.air_log.specs.AlarmRuns.{IsAlarmRun};
+ghost use Rattle.air_log.specs.Trails.{Reception, setup_of, run_end, before_alarms, before_start, before_tick, trail};
 ghost use Rattle.air_log.specs.QuietTicks.{IsQuiet, ends_before};
 ghost use Rattle.air_log.specs.TrailEntries.{IsSentBefore, IsTunedBy, StartsBefore, FollowsOn};
 
@@ -22,6 +25,13 @@ pub fn later_hearings_change_nothing_before()
     ensures within { (s : ScenarioParts) (v : ℕ) (clock : ℕ → ℕ) (gs hs : List Reception) (t : ℕ)
         → filter (ends_before (suc t)) gs ≡ filter (ends_before (suc t)) hs
         → before_start s v clock gs t (before_tick s v clock gs t) ≡ before_start s v clock hs t (before_tick s v clock hs t) }
+{}
+
+/// Alarms of a tick come to an end, whatever a node hears: they are due one after another, until none is.
+pub fn alarms_of_a_tick_end()
+    ensures { (s : ScenarioParts) (v : ℕ) (clock : ℕ → ℕ) (hs : List Reception) (t : ℕ)
+        → IsSoundScenario s → IsClock clock → t ≤ run_end s
+        → IsAlarmRun clock (setup_of s v) t (before_alarms s v clock hs t (before_tick s v clock hs t)) (before_start s v clock hs t (before_tick s v clock hs t)) }
 {}
 
 /// No entry of a trail stands twice. Each sending starts after the one before it, in the run, and lasts its airtime. No
