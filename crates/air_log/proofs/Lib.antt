@@ -9,3 +9,4 @@ pub mod SmallCores
 pub mod AlarmRows
 pub mod AlarmLoop
 pub mod AlarmRuns
+pub mod NextDue

@@ -9,6 +9,7 @@ pub mod ScriptedDevices
 pub mod Trails
 pub mod QuietTicks
 pub mod AlarmRuns
+pub mod Ahead
 pub mod TrailEntries
 pub mod Charges
 pub mod Lawful
