@@ -74,12 +74,23 @@ module _ (P : Device → Type 0) (clock : ℕ → ℕ) (s : Setup) (t : ℕ) (ke
       let after = event clock s t Alarm None (record d { alarm = None }) in
       by_alarms (is_due t after.alarm) more after (by_event Alarm None (record d { alarm = None }) d.power (kept.without_alarm d holds))
 
+-- the phases of a tick up to the hearings, the alarms, and all before the start of a sending
+pub in_hearings : (P : Device → Type 0) (s : ScenarioParts) (v : ℕ) (clock : ℕ → ℕ) (hs : List Reception) (t : ℕ) (d : Device) → IsKept P clock (setup_of s v) t → P d → P (heard clock (setup_of s v) t hs (scripted s v clock t d))
+in_hearings P s v clock hs t d kept holds =
+    let x = setup_of s v in
+    by_hearings P clock x t kept (ending_at t hs) (scripted s v clock t d) (by_lines P clock x t kept (lines_at s v t) d holds)
+
+pub in_end : (P : Device → Type 0) (clock : ℕ → ℕ) (s : Setup) (t : ℕ) (d : Device) → IsKept P clock s t → P d → P (ended clock s t d)
+in_end P clock s t d kept holds = by_end P clock s t kept d d.sending holds
+
+pub in_event : (P : Device → Type 0) (clock : ℕ → ℕ) (s : Setup) (t : ℕ) (e : Event) (x : Option Sending) (d : Device) → IsKept P clock s t → P d → P (event clock s t e x d)
+in_event P clock s t e x d kept holds = by_event P clock s t kept e x d d.power holds
+
+pub in_alarms : (P : Device → Type 0) (clock : ℕ → ℕ) (s : Setup) (t : ℕ) (d : Device) → IsKept P clock s t → P d → P (alarmed clock s t d)
+in_alarms P clock s t d kept holds = by_alarms P clock s t kept (is_due t d.alarm) (clock t + 300) d holds
+
 pub in_tick : (P : Device → Type 0) (s : ScenarioParts) (v : ℕ) (clock : ℕ → ℕ) (hs : List Reception) (t : ℕ) (d : Device) → IsKept P clock (setup_of s v) t → P d → P (before_start s v clock hs t d)
 in_tick P s v clock hs t d kept holds =
     let x = setup_of s v in
-    let one = by_lines P clock x t kept (lines_at s v t) d holds in
-    let two = by_hearings P clock x t kept (ending_at t hs) (scripted s v clock t d) one in
     let d2 = heard clock x t hs (scripted s v clock t d) in
-    let three = by_end P clock x t kept d2 d2.sending two in
-    let d3 = ended clock x t d2 in
-    by_alarms P clock x t kept (is_due t d3.alarm) (clock t + 300) d3 three
+    in_alarms P clock x t (ended clock x t d2) kept (in_end P clock x t d2 kept (in_hearings P s v clock hs t d kept holds))

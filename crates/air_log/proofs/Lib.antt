@@ -6,3 +6,9 @@ pub mod QuietTicks
 pub mod KeptByEvents
 pub mod TrailTunings
 pub mod TrailSendings
+pub mod SmallPlans
+pub mod SmallCores
+pub mod AlarmRows
+pub mod AlarmLoop
+pub mod AlarmRuns
+pub mod NextDue

@@ -9,6 +9,8 @@ pub mod Devices
 pub mod ScriptedDevices
 pub mod Trails
 pub mod QuietTicks
+pub mod AlarmRuns
+pub mod Ahead
 pub mod TrailEntries
 pub mod Charges
 pub mod Lawful

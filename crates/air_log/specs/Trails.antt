@@ -53,19 +53,22 @@ ended_by clock s t d (Some x) = if x.end == t then event clock s t Sent (Some x)
 abbrev pub ended : (ℕ → ℕ) → Setup → ℕ → Device → Device
 ended clock s t d = ended_by clock s t d d.sending
 
--- fourth: the alarm, and again as long as one is due at t. By a clock that keeps the drift law they are never as many as
--- the number that is given here
+-- fourth: the alarm, and again as long as one is due at t
 abbrev pub is_due : ℕ → Option ℕ → Bool
 is_due t None = false
 is_due t (Some tick) = tick == t
+
+abbrev pub one_alarm : (ℕ → ℕ) → Setup → ℕ → Device → Device
+one_alarm clock s t d = event clock s t Alarm None (record d { alarm = None })
 
 unfoldable pub alarms : (ℕ → ℕ) → Setup → ℕ → Bool → ℕ → Device → Device
 alarms clock s t false more d = d
 alarms clock s t true zero d = d
 alarms clock s t true (suc more) d =
-    let after = event clock s t Alarm None (record d { alarm = None }) in
+    let after = one_alarm clock s t d in
     alarms clock s t (is_due t after.alarm) more after
 
+-- by a clock that keeps the drift law there are never as many as this
 abbrev pub alarmed : (ℕ → ℕ) → Setup → ℕ → Device → Device
 alarmed clock s t d = alarms clock s t (is_due t d.alarm) (clock t + 300) d
 
@@ -86,11 +89,14 @@ begun_by s t d (Some o) = if o.tick == t then starts s t o.packet d d.listening 
 abbrev pub begun : Setup → ℕ → Device → Device
 begun s t d = begun_by s t d d.ordered
 
--- tick t: all that comes before the start of a sending, and the whole of it
-abbrev pub before_start : ScenarioParts → ℕ → (ℕ → ℕ) → List Reception → ℕ → Device → Device
-before_start s v clock hs t d =
+-- tick t: what comes before the alarms, what comes before the start of a sending, and the whole
+abbrev pub before_alarms : ScenarioParts → ℕ → (ℕ → ℕ) → List Reception → ℕ → Device → Device
+before_alarms s v clock hs t d =
     let node = setup_of s v in
-    alarmed clock node t (ended clock node t (heard clock node t hs (scripted s v clock t d)))
+    ended clock node t (heard clock node t hs (scripted s v clock t d))
+
+abbrev pub before_start : ScenarioParts → ℕ → (ℕ → ℕ) → List Reception → ℕ → Device → Device
+before_start s v clock hs t d = alarmed clock (setup_of s v) t (before_alarms s v clock hs t d)
 
 abbrev pub tick : ScenarioParts → ℕ → (ℕ → ℕ) → List Reception → ℕ → Device → Device
 tick s v clock hs t d = begun (setup_of s v) t (before_start s v clock hs t d)

@@ -2,8 +2,12 @@
 
 ghost use Rattle.std.specs.Prelude.{◌≡◌, ℕ, suc, ◌<◌, ◌≤◌, List, filter, All, AllPairs};
 ghost use Rattle.scenario_text.specs.ScenarioParts.{ScenarioParts};
-ghost use Rattle.air_log.specs.Trails.{Reception, run_end, before_start, before_tick, trail};
+ghost use Rattle.scenario_text.specs.ScenarioFacts.{IsSoundScenario};
+ghost use Rattle.tick_clock.specs.Clocks.{IsClock};
+ghost use Rattle.air_log.specs.AlarmRuns.{IsAlarmRun};
+ghost use Rattle.air_log.specs.Trails.{Reception, setup_of, run_end, before_alarms, before_start, before_tick, trail};
 ghost use Rattle.air_log.specs.QuietTicks.{IsQuiet, ends_before};
+ghost use Rattle.air_log.specs.Ahead.{IsAhead, NextDue};
 ghost use Rattle.air_log.specs.TrailEntries.{IsSentBefore, IsTunedBy, StartsBefore, FollowsOn};
 
 /// While nothing is due at a node, it stays as it is.
@@ -22,6 +26,23 @@ pub fn later_hearings_change_nothing_before()
     ensures within { (s : ScenarioParts) (v : ℕ) (clock : ℕ → ℕ) (gs hs : List Reception) (t : ℕ)
         → filter (ends_before (suc t)) gs ≡ filter (ends_before (suc t)) hs
         → before_start s v clock gs t (before_tick s v clock gs t) ≡ before_start s v clock hs t (before_tick s v clock hs t) }
+{}
+
+/// Alarms of a tick come to an end, whatever a node hears: they are due one after another, until none is.
+pub fn alarms_of_a_tick_end()
+    ensures { (s : ScenarioParts) (v : ℕ) (clock : ℕ → ℕ) (hs : List Reception) (t : ℕ)
+        → IsSoundScenario s → IsClock clock → t ≤ run_end s
+        → IsAlarmRun clock (setup_of s v) t (before_alarms s v clock hs t (before_tick s v clock hs t)) (before_start s v clock hs t (before_tick s v clock hs t)) }
+{}
+
+/// What is set at a node lies ahead, and until the next of it, the next end of a hearing and the next script line the node
+/// stays as it is.
+pub fn nothing_happens_until_the_next_is_due()
+    ensures ahead { (s : ScenarioParts) (v : ℕ) (clock : ℕ → ℕ) (hs : List Reception) → IsSoundScenario s → IsClock clock
+        → (t : ℕ) → t ≤ run_end s → IsAhead t (before_tick s v clock hs t) }
+    ensures next { (s : ScenarioParts) (v : ℕ) (clock : ℕ → ℕ) (hs : List Reception) (a b : ℕ) → a ≤ b
+        → NextDue s v hs a b (before_tick s v clock hs a)
+        → before_tick s v clock hs b ≡ before_tick s v clock hs a }
 {}
 
 /// No entry of a trail stands twice. Each sending starts after the one before it, in the run, and lasts its airtime. No

@@ -1,0 +1,35 @@
+-- The alarms of a tick are those that are due one after another, until none is.
+use Rattle.std.proofs.Common.{◌≡◌, ℕ, zero, suc, ◌<◌, ◌≤◌, List, ◌+◌, Bool, true, false, refl, sym, ◌∙◌, ap, subst, arith}
+use Rattle.tick_clock.specs.Clocks.{IsClock}
+use Rattle.scenario_text.specs.ScenarioParts.{ScenarioParts}
+use Rattle.scenario_text.specs.ScenarioFacts.{IsSoundScenario}
+use Rattle.bus_rules.specs.Cores.{Setup}
+use Rattle.air_log.specs.Devices.{Device}
+use Rattle.air_log.specs.Trails.{Reception, run_end, setup_of, is_due, one_alarm, alarms, before_alarms, before_start, before_tick}
+use Rattle.air_log.specs.AlarmRuns.{after_alarms, IsAlarmRun}
+use Rattle.air_log.proofs.AlarmLoop.{no_alarm_left}
+
+module _ (clock : ℕ → ℕ) (s : Setup) (t : ℕ) where
+  first_of : (k : ℕ) (d : Device) → after_alarms clock s t k (one_alarm clock s t d) ≡ after_alarms clock s t (suc k) d
+  first_of zero d = refl
+  first_of (suc k) d = ap (one_alarm clock s t) (first_of k d)
+
+  -- one alarm, and a run after it
+  with_first : (d e : Device) → is_due t d.alarm ≡ true → IsAlarmRun clock s t (one_alarm clock s t d) e → IsAlarmRun clock s t d e
+  with_first d e due run = record { count = suc run.count; is = run.is ∙ first_of run.count d; due = each; over = run.over }
+    where
+      each : (j : ℕ) → j < suc run.count → is_due t (after_alarms clock s t j d).alarm ≡ true
+      each zero less = due
+      each (suc j) less = subst (λ (x : Device). is_due t x.alarm ≡ true) (first_of j d) (run.due j (omega (arith, less)))
+
+  pub is_run : (b : Bool) (more : ℕ) (d : Device) → is_due t d.alarm ≡ b → is_due t (alarms clock s t b more d).alarm ≡ false → IsAlarmRun clock s t d (alarms clock s t b more d)
+  unfolding alarms
+  is_run false more d due over = record { count = zero; is = refl; due = λ j less. absurd (omega (arith, less)); over = over }
+  is_run true zero d due over = record { count = zero; is = refl; due = λ j less. absurd (omega (arith, less)); over = over }
+  is_run true (suc more) d due over = let e = one_alarm clock s t d in with_first d _ due (is_run (is_due t e.alarm) more e refl over)
+
+pub alarms_are_run : (s : ScenarioParts) (v : ℕ) (clock : ℕ → ℕ) (hs : List Reception) (t : ℕ) → IsSoundScenario s → IsClock clock → t ≤ run_end s
+    → IsAlarmRun clock (setup_of s v) t (before_alarms s v clock hs t (before_tick s v clock hs t)) (before_start s v clock hs t (before_tick s v clock hs t))
+alarms_are_run s v clock hs t sound drifts within =
+    let d = before_alarms s v clock hs t (before_tick s v clock hs t) in
+    is_run clock (setup_of s v) t (is_due t d.alarm) (clock t + 300) d refl (no_alarm_left s v clock hs t sound drifts within)
