@@ -174,8 +174,8 @@ not_between a b t x (inr more) from below is = omega (arith, more, below, is)
 quiet_before : (s : ScenarioParts) (v : ℕ) (hs : List Reception) (a b t : ℕ) (d : Device) → NextDue s v hs a b d → a ≤ t → t < b → IsQuiet s v hs t d
 quiet_before s v hs a b t d next from below = record {
   lines = none_passes _ s.script (λ l there is.
-    let both = and_parts _ _ is in
-    not_between a b t (frame_start s l.frame) (next.lines l there (eqb-true l.node v both.0)) from below (eqb-true (frame_start s l.frame) t both.1));
+      let both = and_parts _ _ is in
+      not_between a b t (frame_start s l.frame) (next.lines l there (eqb-true l.node v both.0)) from below (eqb-true (frame_start s l.frame) t both.1));
   hearings = none_passes _ hs (λ h there is. not_between a b t h.end (next.hearings h there) from below (eqb-true h.end t is));
   sending = end_quiet t b d.sending below next.set.sending;
   alarm = alarm_quiet t b d.alarm below next.set.alarm;

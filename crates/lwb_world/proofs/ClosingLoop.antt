@@ -1,5 +1,5 @@
 -- The nodes go off one after another, by their places.
-use Rattle.std.proofs.Common.{◌≡◌, ℕ, ◌+◌, ◌<◌, List, map, take, length, get_or, refl, sym, ◌∙◌, ap, subst, arith}
+use Rattle.std.proofs.Common.{◌≡◌, ℕ, ◌+◌, ◌<◌, List, map, take, length, get_or, sym, ◌∙◌, ap, arith}
 use Rattle.std.proofs.lemmas.List.{length-map, get_or-map}
 use Rattle.lwb_world.specs.declared.member.Member.{Member}
 use Rattle.lwb_world.specs.FloodWorlds.{World, node_of, closed_by, closed_all}

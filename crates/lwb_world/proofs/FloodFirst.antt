@@ -1,5 +1,5 @@
 -- The world of a flood at the beginning is a flood so far.
-use Rattle.std.proofs.Common.{◌≡◌, ◌≢◌, ℕ, ◌+◌, ◌≤◌, ◌⊎◌, List, [], ◌∷◌, ◌++◌, find, Option, Some, None, option_to_list, Bool, true, false, ◌==◌, if◌then◌else◌, inl, inr, refl, sym, ◌∙◌, ap, subst, arith, length, eqb-true, eq-eqb}
+use Rattle.std.proofs.Common.{◌≡◌, ℕ, ◌+◌, ◌≤◌, ◌⊎◌, List, [], ◌∷◌, ◌++◌, find, Option, Some, None, option_to_list, Bool, true, false, ◌==◌, if◌then◌else◌, inl, inr, refl, sym, ◌∙◌, ap, subst, arith, length, eqb-true, eq-eqb}
 use Rattle.std.specs.Prelude.{Contains}
 use Rattle.std.proofs.lemmas.Bool.{cond_both, cond-true, false≢true}
 use Rattle.std.proofs.lemmas.List.{length-map, append-nil}
@@ -15,7 +15,7 @@ use Rattle.radio_model.specs.declared.station.Tuned.{Tuned as TunedTo}
 use Rattle.radio_model.specs.declared.station.Past.{Past}
 use Rattle.radio_model.specs.OnAir.{Tuning}
 use Rattle.radio_model.specs.Hearing.{Scene}
-use Rattle.radio_model.specs.Stations.{MediumState, IsMedium, station_of, node_of as station_node, after, retuned, tuned_in, tuned_out, is_tuned_to, first_state, stations_from, fresh, is_of, last_at, since_with}
+use Rattle.radio_model.specs.Stations.{MediumState, IsMedium, station_of, node_of as station_node, retuned, tuned_in, tuned_out, is_tuned_to, first_state, stations_from, fresh, is_of, last_at, since_with}
 use Rattle.radio_model.specs.Holding.{Holds, closed, tuned_of, after_tuning, nothing_yet}
 use Rattle.radio_model.proofs.AtFirst.{holds_at_first}
 use Rattle.radio_model.proofs.AfterTuning.{holds_after_tuning}

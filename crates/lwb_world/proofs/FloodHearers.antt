@@ -1,19 +1,19 @@
 -- Those who hear a sending, one after another, and the clocks at their places.
 use Rattle.std.proofs.Common.{◌≡◌, ◌≢◌, ℕ, zero, suc, ◌+◌, ◌<◌, List, [], ◌∷◌, ◌++◌, map, take, length, get_or, Bool, true, false, ◌&&◌, ◌||◌, ◌==◌, if◌then◌else◌, Some, inl, inr, refl, sym, ◌∙◌, ap, subst, arith, eq-eqb}
-use Rattle.std.specs.Prelude.{Contains, AllPairs, All, ◌↔◌, OnOk}
-use Rattle.std.specs.List.{list_any, slice_get}
-use Rattle.std.proofs.lemmas.Bool.{cond-true, cond-false, ne_eqb, cases_eq}
-use Rattle.std.proofs.lemmas.List.{get_or-map, length-map, map_more}
+use Rattle.std.specs.Prelude.{Contains, AllPairs, All}
+use Rattle.std.specs.List.{slice_get}
+use Rattle.std.proofs.lemmas.Bool.{cond-true, cond-false, ne_eqb}
+use Rattle.std.proofs.lemmas.List.{length-map, map_more}
 use Rattle.glossy_relay.specs.FloodState.{FloodState}
 use Rattle.glossy_relay.specs.Relaying.{after_heard, reply_to}
 use Rattle.glossy_relay.specs.declared.flood.Reply.{Reply}
 use Rattle.radio_model.specs.declared.sending.Sending.{Sending}
-use Rattle.radio_model.specs.Stations.{MediumState, nodes_of}
+use Rattle.radio_model.specs.Stations.{nodes_of}
 use Rattle.std.proofs.lemmas.Option.{slice_get_within, get_or_from_slice_get}
-use Rattle.air_log.proofs.Elements.{contains_cases, contains_head, contains_tail, not_in_none, map_contains, map_from, pairs_head, pairs_tail, Distinct}
+use Rattle.air_log.proofs.Elements.{contains_cases, contains_head, contains_tail, not_in_none, map_contains, pairs_head, pairs_tail, Distinct}
 use Rattle.lwb_world.specs.declared.member.Act.{Act}
 use Rattle.lwb_world.specs.declared.member.Member.{Member}
-use Rattle.lwb_world.specs.FloodWorlds.{World, IsShape, node_of, with_change, hearing_by, act_by, heard, heard_by_all, readings_at, is_last, is_last_of}
+use Rattle.lwb_world.specs.FloodWorlds.{World, IsShape, node_of, with_change, hearing_by, act_by, heard, heard_by_all, readings_at, is_last}
 use Rattle.lwb_world.proofs.MemberPlaces.{Ascend, set_is_change}
 use Rattle.lwb_world.proofs.WorldLists.{nodes_kept}
 

@@ -1,22 +1,19 @@
 -- The loop of a flood: what holds of its world before each step, and that steps come to an end.
 use Rattle.std.proofs.Common.{◌≡◌, ℕ, ◌+◌, ◌-◌, ◌<◌, ◌≤◌, ◌^◌, ◌↔◌, List, [], ◌∷◌, ◌++◌, map, length, get_or, Bool, true, false, nat_eq, if◌then◌else◌, Option, Some, None, inl, inr, refl, sym, ◌∙◌, ap, subst, arith, eq-eqb}
-use Rattle.std.specs.Prelude.{Contains, AllPairs, All, IfSome, IfNone}
+use Rattle.std.specs.Prelude.{Contains, All, IfSome}
 use Rattle.std.proofs.lemmas.Bool.{cond-true, cond-false, cond_both, eqb-true, or_cases, false≢true}
 use Rattle.std.proofs.lemmas.List.Elements.{filter_map-append}
 use Rattle.std.proofs.lemmas.List.{length-append, append-nil}
 use Rattle.lwb_base.specs.Profile.{one}
-use Rattle.link_trace.specs.Passes.{Lines}
 use Rattle.glossy_relay.specs.FloodState.{FloodState}
-use Rattle.glossy_relay.specs.Relaying.{fits, after_heard, after_sent, counter_of, first_of}
+use Rattle.glossy_relay.specs.Relaying.{fits, after_heard, counter_of, first_of}
 use Rattle.scenario_text.specs.FloodParts.{FloodParts, IsSound, knows}
 use Rattle.tick_clock.specs.Clocks.{IsClock}
 use Rattle.scenario_text.specs.declared.lines.NodeLine.{NodeLine}
 use Rattle.bus_model.specs.FloodOfText.{ids}
 use Rattle.radio_model.specs.declared.sending.Sending.{Sending}
-use Rattle.radio_model.specs.Hearing.{Hears}
-use Rattle.radio_model.specs.Holding.{as_it_stands}
 use Rattle.radio_model.specs.Stations.{MediumState, nodes_of}
-use Rattle.air_log.specs.FloodLaw.{OPENING, START, CLOSING, FloodLaw, first_flood, sending_at}
+use Rattle.air_log.specs.FloodLaw.{CLOSING, first_flood, sending_at}
 use Rattle.air_log.specs.NodeEvents.{Event, Heard, Ended, after, after_all, own_end, own_ends}
 use Rattle.air_log.proofs.Elements.{Distinct}
 use Rattle.lwb_world.specs.declared.member.Act.{Act}
@@ -24,19 +21,19 @@ use Rattle.lwb_world.specs.declared.member.Act.TheVariants.{Listens, Waits, Send
 use Rattle.lwb_world.specs.declared.member.Member.{Member}
 use Rattle.lwb_world.specs.ClockLists.{clocks_by}
 use Rattle.lwb_world.specs.FloodLog.{HasClocks}
-use Rattle.lwb_world.specs.FloodWorlds.{World, IsShape, node_of, first_world, moment_of, NotAfter, IsNext, begun, own_ended, gone, ended, heard, heard_by_all, is_last, after_own, readings_at, CanStep, CanEnd, Stepped, Ended as EndedTo, IsHeardBy}
+use Rattle.lwb_world.specs.FloodWorlds.{World, IsShape, node_of, first_world, moment_of, NotAfter, IsNext, begun, own_ended, gone, ended, heard, heard_by_all, is_last, after_own, readings_at, CanStep, Stepped, Ended as EndedTo, IsHeardBy}
 use Rattle.lwb_world.proofs.FloodSoFar.{IsFloodSoFar, IsMember, IsListening, IsWaiting, IsSending, Runs, running, scene, events_in}
 use Rattle.lwb_world.proofs.WorldLists.{changed_there, each_changed}
 use Rattle.lwb_world.proofs.TunedWindows.{sent_among}
 use Rattle.lwb_world.proofs.FloodShapes.{begun_shape, own_ended_shape, gone_shape, heard_shape}
-use Rattle.lwb_world.proofs.FloodOpening.{IsOpening, at_first, opened_is, sound_nodes, first_shape}
+use Rattle.lwb_world.proofs.FloodOpening.{at_first, opened_is, sound_nodes, first_shape}
 use Rattle.lwb_world.proofs.FloodBegun.{one_member, begun_time, begun_keeps}
 use Rattle.lwb_world.proofs.FloodEnded.{heard_at, own_node, own_waits, own_runs, ended_time, own_ends as own_end_there, own_ended_keeps}
 use Rattle.lwb_world.proofs.FloodGone.{gone_keeps, ended_over}
 use Rattle.lwb_world.proofs.FloodHeard.{heard_by_all_keeps}
 use Rattle.lwb_world.proofs.FloodHearers.{ascend_distinct, last_is}
 use Rattle.lwb_world.proofs.FloodFirst.{first_keeps}
-use Rattle.lwb_world.proofs.FloodClosing.{IsClosing, closing_time, closed_law, starts_early, ends_early}
+use Rattle.lwb_world.proofs.FloodClosing.{IsClosing, starts_early, ends_early}
 use Rattle.lwb_world.proofs.FloodMeasure.{started, remaining, begun_less, ended_less, all_heard_at_most}
 use Rattle.lwb_world.proofs.FloodSteps.{same_at}
 

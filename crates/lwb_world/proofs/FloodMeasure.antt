@@ -13,7 +13,7 @@ use Rattle.air_log.specs.NodeEvents.{Event, Heard, Ended, own_end, own_ends}
 use Rattle.air_log.proofs.Elements.{not_in_none, contains_head, contains_tail, contains_cases}
 use Rattle.lwb_world.specs.declared.member.Act.TheVariants.{Sends, Off}
 use Rattle.lwb_world.specs.declared.member.Member.{Member}
-use Rattle.lwb_world.specs.FloodWorlds.{World, node_of, changed_at, with_change, with_act, after_own, hearing_by, sent_entry, heard_entry, tuned_entry, begun, own_ended, gone, ended, heard, heard_by_all, is_last}
+use Rattle.lwb_world.specs.FloodWorlds.{World, changed_at, with_change, with_act, after_own, hearing_by, sent_entry, heard_entry, tuned_entry, begun, own_ended, gone, ended, heard, heard_by_all, is_last}
 use Rattle.lwb_world.proofs.FloodSoFar.{events_in}
 use Rattle.lwb_world.proofs.WorldLists.{events_sent_own, events_sent_other, events_heard_own, events_heard_other, events_tuned}
 

@@ -1,9 +1,8 @@
 -- The medium and the nodes of a flood's world are of the same ids, and stay so.
 use Rattle.std.proofs.Common.{◌≡◌, ℕ, map, Option, None, List, refl, sym, ◌∙◌, ap, subst}
 use Rattle.air_log.specs.declared.entry.Entry.{Entry}
-use Rattle.lwb_base.specs.Profile.{Numbers}
 use Rattle.radio_model.specs.declared.sending.Sending.{Sending}
-use Rattle.radio_model.specs.Stations.{MediumState, IsMedium, nodes_of, after, retuned, started, finished}
+use Rattle.radio_model.specs.Stations.{IsMedium, nodes_of, after, retuned, started, finished}
 use Rattle.radio_model.proofs.Places.{still_medium, Keeps}
 use Rattle.radio_model.proofs.Changes.{retuned_keeps, started_keeps, finished_keeps}
 use Rattle.radio_model.proofs.OneStation.{same_nodes}

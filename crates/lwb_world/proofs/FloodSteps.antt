@@ -1,19 +1,13 @@
 -- The next step of a flood's world, as the code takes it.
-use Rattle.std.proofs.Common.{◌≡◌, ◌≢◌, ℕ, zero, suc, ◌+◌, ◌<◌, List, [], ◌∷◌, ◌++◌, map, take, drop, length, get_or, Bool, true, false, ◌&&◌, ◌||◌, nat_eq, inl, inr, refl, sym, ◌∙◌, ap, subst, arith, eq-eqb}
-use Rattle.std.specs.Prelude.{Contains, OnOk, Result, Ok, Err}
-use Rattle.std.specs.List.{list_any}
-use Rattle.std.proofs.lemmas.Bool.{cond-true, cond-false, ne_eqb}
-use Rattle.std.proofs.lemmas.List.{take_more, length-map, get_or-map}
+use Rattle.std.proofs.Common.{◌≡◌, ℕ, zero, suc, ◌<◌, List, [], ◌∷◌, length, get_or, refl, sym, ◌∙◌, ap, subst, arith}
+use Rattle.std.specs.Prelude.{Contains}
 use Rattle.link_trace.specs.Passes.{Lines}
 use Rattle.radio_model.specs.declared.sending.Sending.{Sending}
 use Rattle.radio_model.specs.Stations.{nodes_of}
-use Rattle.air_log.specs.FloodLaw.{CLOSING}
-use Rattle.air_log.proofs.Elements.{contains_cases, contains_head, contains_tail, not_in_none, map_contains, Distinct}
-use Rattle.lwb_world.specs.declared.member.Act.{Act}
+use Rattle.air_log.proofs.Elements.{map_contains}
 use Rattle.lwb_world.specs.declared.member.Act.TheVariants.{Sends}
 use Rattle.lwb_world.specs.declared.member.Member.{Member}
-use Rattle.lwb_world.specs.FloodWorlds.{World, IsShape, node_of, gone, CanStep, CanEnd, is_off, stays, closed_by, closed_all}
-use Rattle.lwb_world.proofs.FloodHearers.{ascend_distinct}
+use Rattle.lwb_world.specs.FloodWorlds.{World, IsShape, node_of, CanStep, CanEnd}
 
 pub can_sends : (lines : Lines) (w : World) (m : Member) (x : Sending) → m.act ≡ Sends x → CanStep lines w m m.act → CanEnd lines w m x
 can_sends lines w m x is can = subst (CanStep lines w m) is can

@@ -1,10 +1,8 @@
 -- The nodes of a flood at their places, and a change of one of them.
-use Rattle.std.proofs.Common.{◌≡◌, ◌<◌, ℕ, zero, suc, List, [], ◌∷◌, length, set, map, get_or, refl, sym, ◌∙◌, ap, arith, Contains, ◌==◌, eq-eqb, inl, inr, AllPairs}
+use Rattle.std.proofs.Common.{◌≡◌, ◌<◌, ℕ, List, [], ◌∷◌, length, set, map, get_or, sym, ◌∙◌, ap, arith, Contains, ◌==◌, eq-eqb, inl, inr, AllPairs}
 use Rattle.std.proofs.lemmas.List.{get_or-map, length-map, same_lists, length-set, get_or-set_same, get_or-set_other}
 use Rattle.std.proofs.lemmas.Bool.{cond-true, cond-false, cases_eq, cases_order, ne_eqb}
-use Rattle.radio_model.specs.Stations.{MediumState, IsMedium, nodes_of}
 use Rattle.lwb_world.specs.declared.member.Member.{Member}
-use Rattle.lwb_world.specs.declared.member.Act.TheVariants.{Off}
 use Rattle.lwb_world.specs.FloodWorlds.{node_of, changed_at, with_change}
 
 abbrev pub Ascend : List Member → Type 0

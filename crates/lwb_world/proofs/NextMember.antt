@@ -1,7 +1,7 @@
 -- The node that is the next to do something.
-use Rattle.std.proofs.Common.{◌≡◌, ◌<◌, ◌≤◌, ◌+◌, ℕ, zero, suc, List, [], ◌∷◌, length, get_or, Bool, true, false, not, ◌&&◌, ◌||◌, ◌==◌, nat_lt, if◌then◌else◌, Option, Some, None, inl, inr, refl, sym, ◌∙◌, ap, subst, arith}
-use Rattle.std.specs.Prelude.{All, IfSome, IfNone, ◌⊎◌}
-use Rattle.std.proofs.lemmas.Bool.{cases_lt, cases_order, cond_both, or_cases, and_parts, ltb-true, eqb-true, ltb-false, or_left, or_right, and_from, lt-ltb, eq-eqb, not-true, false≢true}
+use Rattle.std.proofs.Common.{◌≡◌, ◌<◌, ◌+◌, ℕ, zero, suc, List, [], ◌∷◌, length, get_or, Bool, true, false, not, ◌&&◌, ◌||◌, ◌==◌, nat_lt, Option, Some, None, inl, inr, refl, sym, ◌∙◌, ap, subst, arith}
+use Rattle.std.specs.Prelude.{IfSome}
+use Rattle.std.proofs.lemmas.Bool.{cases_lt, cond_both, or_cases, and_parts, ltb-true, eqb-true, ltb-false, eq-eqb}
 use Rattle.lwb_world.specs.declared.member.Member.{Member}
 use Rattle.lwb_world.specs.FloodWorlds.{moment_of, NotAfter, comes_before, sooner, IsNext}
 

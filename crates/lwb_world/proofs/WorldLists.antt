@@ -1,21 +1,17 @@
 -- The lists of a flood's world after a change: its nodes, and its log with one entry more.
-use Rattle.std.proofs.Common.{◌≡◌, ◌≢◌, ℕ, zero, suc, ◌≤◌, ◌<◌, List, [], ◌∷◌, ◌++◌, map, filter_map, take, Bool, true, Option, Some, None, ◌==◌, ◌+◌, if◌then◌else◌, inl, inr, refl, sym, ◌∙◌, ap, subst, arith, length, get_or, eq-eqb}
+use Rattle.std.proofs.Common.{◌≡◌, ◌≢◌, ℕ, zero, suc, ◌≤◌, ◌<◌, List, [], ◌∷◌, ◌++◌, map, take, Option, Some, None, ◌==◌, ◌+◌, inl, inr, refl, sym, ◌∙◌, ap, subst, arith, length, get_or, eq-eqb}
 use Rattle.std.specs.Prelude.{Contains, AllPairs, ◌⊎◌}
 use Rattle.std.specs.List.{cons_option}
 use Rattle.std.proofs.lemmas.Bool.{cond_both, cond-true, cond-false, eqb-true, eqb-false, ne_eqb}
 use Rattle.std.proofs.lemmas.List.{append-nil, map_more}
-use Rattle.std.proofs.lemmas.List.Elements.{filter_map-append, Contains-push, Contains-push_cases, Contains-append_left}
+use Rattle.std.proofs.lemmas.List.Elements.{filter_map-append, Contains-push_cases, Contains-append_left}
 use Rattle.std.proofs.lemmas.List.Quantifiers.{all_pairs_push}
 use Rattle.glossy_relay.specs.FloodState.{FloodState}
-use Rattle.scenario_text.specs.FloodParts.{IsSound}
 use Rattle.radio_model.specs.declared.sending.Sending.{Sending}
-use Rattle.radio_model.specs.OnAir.{Hearing, Tuning}
-use Rattle.radio_model.specs.Stations.{MediumState, station_of, after}
 use Rattle.air_log.specs.declared.entry.Entry.{Entry}
-use Rattle.air_log.specs.declared.entry.Entry.TheVariants.{Sent, Heard as HeardOf, Tuned}
 use Rattle.air_log.specs.Entries.{sending_in, hearing_in, tuning_in, sendings_of, hearings_of, tunings_of}
 use Rattle.air_log.specs.NodeEvents.{Event, Heard, Ended, sending_of, InOrder, after_all, Occasion, occasions}
-use Rattle.air_log.proofs.Elements.{not_in_none, contains_head, contains_tail, contains_cases, map_contains, map_from, Distinct}
+use Rattle.air_log.proofs.Elements.{not_in_none, contains_cases, map_contains, map_from, Distinct}
 use Rattle.lwb_world.specs.declared.member.Member.{Member}
 use Rattle.lwb_world.specs.FloodWorlds.{node_of, changed_at, with_change, sent_entry, heard_entry, tuned_entry}
 use Rattle.lwb_world.proofs.EventOrder.{occasions_append}

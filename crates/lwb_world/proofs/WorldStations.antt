@@ -1,5 +1,5 @@
 -- What the medium keeps of a node, after a change at one.
-use Rattle.std.proofs.Common.{◌≡◌, ◌≢◌, ℕ, List, [], ◌∷◌, find, Option, Some, None, ◌==◌, ◌∙◌, sym, ap, eq-eqb, inl, inr, option_map}
+use Rattle.std.proofs.Common.{◌≡◌, ◌≢◌, ℕ, List, [], ◌∷◌, find, Option, Some, ◌==◌, ◌∙◌, sym, ap, eq-eqb, inl, inr, option_map}
 use Rattle.std.proofs.lemmas.Bool.{cond-true, cond-false, ne_eqb, cases_eq}
 use Rattle.radio_model.specs.declared.station.Station.{Station}
 use Rattle.radio_model.specs.Stations.{MediumState, station_of, is_of, after}

@@ -1,4 +1,4 @@
-use Rattle.std.proofs.Common.{◌≡◌, ℕ, List, take, get_or, ap, subst, sym, ◌∙◌}
+use Rattle.std.proofs.Common.{◌≡◌, ℕ, List, take, ap, subst, sym, ◌∙◌}
 use Rattle.std.specs.Prelude.{Contains}
 use Rattle.lwb_base.specs.Profile.{one}
 use Rattle.radio_model.specs.Stations.{IsTime, MediumState, after, retuned}

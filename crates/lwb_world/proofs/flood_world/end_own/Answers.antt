@@ -1,6 +1,5 @@
-use Rattle.std.proofs.Common.{◌≡◌, ◌<◌, ℕ, List, Bool, length, get_or, refl, sym, ◌∙◌, subst, ap, arith, if◌then◌else◌}
+use Rattle.std.proofs.Common.{◌≡◌, ◌<◌, List, Bool, length, get_or, sym, ◌∙◌, subst, ap, arith, if◌then◌else◌}
 use Rattle.glossy_relay.specs.FloodState.{FloodState}
-use Rattle.glossy_relay.specs.declared.flood.After.{After}
 use Rattle.glossy_relay.specs.declared.flood.After.TheVariants.{Off, More}
 use Rattle.lwb_world.specs.declared.member.Act.TheVariants.{Listens}
 use Rattle.lwb_world.specs.declared.member.Member.{Member}

@@ -1,4 +1,4 @@
-use Rattle.std.proofs.Common.{ℕ, sym, ◌∙◌, ap, refl, inl, inr}
+use Rattle.std.proofs.Common.{ℕ, sym, ◌∙◌, ap, inl, inr}
 use Rattle.glossy_relay.specs.declared.flood.Reply.{Reply}
 use Rattle.lwb_world.specs.declared.member.Act.{Act}
 use Rattle.lwb_world.specs.declared.member.Act.TheVariants.{Waits}

@@ -1,5 +1,4 @@
-use Rattle.std.proofs.Common.{arith, ◌<◌, ℕ}
-use Rattle.lwb_world.specs.declared.member.Member.{Member}
+use Rattle.std.proofs.Common.{arith}
 use Rattle.lwb_world.proofs.MemberPlaces.{somewhere}
 use Rattle.lwb_world.proofs.flood_world.place_of.Goals as goal
 

@@ -1,4 +1,4 @@
-use Rattle.std.proofs.Common.{◌≡◌, ℕ, List, length, get_or, refl, subst, ap, arith}
+use Rattle.std.proofs.Common.{◌≡◌, List, length, get_or, refl, subst, ap, arith}
 use Rattle.lwb_world.specs.declared.member.Member.{Member}
 use Rattle.lwb_world.specs.FloodWorlds.{with_act}
 use Rattle.lwb_world.proofs.MemberPlaces.{set_is_change}

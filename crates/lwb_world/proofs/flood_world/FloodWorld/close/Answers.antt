@@ -1,9 +1,8 @@
-use Rattle.std.proofs.Common.{◌≡◌, ℕ, ◌<◌, ◌+◌, List, map, take, length, get_or, subst, refl, sym, ◌∙◌, ap, arith}
-use Rattle.std.proofs.lemmas.List.{length-map, get_or-map}
+use Rattle.std.proofs.Common.{◌<◌, map, take, length, subst, sym, ap, arith}
 use Rattle.radio_model.specs.Stations.{IsTime}
 use Rattle.lwb_world.specs.declared.member.Member.{Member}
-use Rattle.lwb_world.specs.FloodWorlds.{World, IsShape, node_of, closed_by, closed_all}
-use Rattle.lwb_world.proofs.FloodClosing.{closed_more, closed_nodes, closed_time}
+use Rattle.lwb_world.specs.FloodWorlds.{World, node_of}
+use Rattle.lwb_world.proofs.FloodClosing.{closed_time}
 use Rattle.lwb_world.proofs.FloodHearers.{some_member}
 use Rattle.lwb_world.proofs.ClosingLoop.{closing_below, closing_on}
 use Rattle.lwb_world.proofs.flood_world.FloodWorld.close.Goals as goal

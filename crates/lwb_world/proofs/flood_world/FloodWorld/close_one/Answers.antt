@@ -1,7 +1,6 @@
 use Rattle.std.proofs.Common.{◌≡◌, ℕ, Bool, get_or, subst, sym, ◌∙◌, ap, if◌then◌else◌}
-use Rattle.std.specs.Prelude.{OnOk}
 use Rattle.lwb_world.specs.declared.member.Member.{Member}
-use Rattle.lwb_world.specs.FloodWorlds.{World, IsShape, gone, closed_by}
+use Rattle.lwb_world.specs.FloodWorlds.{IsShape, gone, closed_by}
 use Rattle.lwb_world.proofs.EndOfSending.{on_ok}
 use Rattle.lwb_world.proofs.FloodSteps.{node_at, at_old, same_at}
 use Rattle.lwb_world.proofs.FloodClosing.{closed_at}

@@ -1,8 +1,6 @@
-use Rattle.std.proofs.Common.{◌≡◌, ℕ, List, map, Some, sym, ◌∙◌, ap}
-use Rattle.std.specs.Prelude.{OnOk}
-use Rattle.radio_model.specs.Hearing.{Scene}
+use Rattle.std.proofs.Common.{map, ◌∙◌, ap}
 use Rattle.radio_model.specs.Stations.{sending_of, station_of}
-use Rattle.lwb_world.specs.FloodWorlds.{World, Ended, readings_at, heard_by_all, node_of}
+use Rattle.lwb_world.specs.FloodWorlds.{World}
 use Rattle.lwb_world.proofs.EndOfSending.{mid, mid_nodes, mid_node, mid_time, mid_known, mid_heard, is_ended_more, is_ended_off, gone_nodes, ended_by, own_shape, on_ok}
 use Rattle.lwb_world.proofs.flood_world.FloodWorld.end.Goals as goal
 

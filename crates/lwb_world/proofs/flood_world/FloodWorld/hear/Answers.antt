@@ -1,5 +1,3 @@
-use Rattle.lwb_world.specs.declared.member.Member.{Member}
-use Rattle.std.proofs.Common.{get_or}
 use Rattle.lwb_world.proofs.FloodShapes.{hearing_shape}
 use Rattle.lwb_world.proofs.flood_world.FloodWorld.hear.Goals as goal
 

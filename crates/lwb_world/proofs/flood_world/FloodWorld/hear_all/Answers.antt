@@ -1,7 +1,6 @@
-use Rattle.std.proofs.Common.{◌≡◌, ℕ, ◌<◌, ◌≤◌, List, map, take, length, get_or, Some, sym, refl, ◌∙◌, ap, subst, arith}
-use Rattle.std.specs.Prelude.{Contains}
+use Rattle.std.proofs.Common.{ℕ, map, take, sym, refl, ◌∙◌, ap, arith}
 use Rattle.lwb_world.specs.declared.member.Member.{Member}
-use Rattle.lwb_world.specs.FloodWorlds.{World, node_of, readings_at, heard}
+use Rattle.lwb_world.specs.FloodWorlds.{node_of, readings_at, heard}
 use Rattle.lwb_world.proofs.FloodHearers.{hearer_there, first_more, place_below, clock_there, node_now, some_member}
 use Rattle.lwb_world.proofs.flood_world.FloodWorld.hear_all.Goals as goal
 

@@ -1,4 +1,4 @@
-use Rattle.std.proofs.Common.{◌≡◌, take, map, ℕ}
+use Rattle.std.proofs.Common.{◌≡◌, take, map}
 use Rattle.lwb_world.specs.FloodWorlds.{heard_by_all, readings_at, node_of}
 use Rattle.lwb_world.proofs.flood_world.FloodWorld.hear_all.Given as goal
 

@@ -1,7 +1,7 @@
-use Rattle.std.proofs.Common.{◌≡◌, List, ℕ, ◌∙◌, sym, subst, ap, rules}
+use Rattle.std.proofs.Common.{◌≡◌, ◌∙◌, sym, subst, ap, rules}
 use Rattle.bus_model.specs.FloodOfText.{ids}
 use Rattle.link_trace.specs.Masks.{AreNodes}
-use Rattle.lwb_world.specs.FloodWorlds.{World, IsShape, first_world}
+use Rattle.lwb_world.specs.FloodWorlds.{IsShape, first_world}
 use Rattle.lwb_world.proofs.FloodOpening.{sound_nodes, first_shape}
 use Rattle.lwb_world.proofs.flood_world.FloodWorld.new.Goals as goal
 

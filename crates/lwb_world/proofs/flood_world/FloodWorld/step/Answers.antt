@@ -1,7 +1,6 @@
-use Rattle.std.proofs.Common.{◌≡◌, ℕ, List, get_or, sym, ◌∙◌, ap, subst}
+use Rattle.std.proofs.Common.{◌≡◌, ℕ, get_or, sym, ◌∙◌, ap, subst}
 use Rattle.std.specs.Prelude.{Contains}
 use Rattle.radio_model.specs.Stations.{nodes_of}
-use Rattle.lwb_world.specs.declared.member.Act.{Act}
 use Rattle.lwb_world.specs.declared.member.Member.{Member}
 use Rattle.lwb_world.proofs.FloodSteps.{node_at, at_old, can_sends}
 use Rattle.lwb_world.proofs.flood_world.FloodWorld.step.Goals as goal
