@@ -10,3 +10,5 @@ pub mod AlarmRows
 pub mod AlarmLoop
 pub mod AlarmRuns
 pub mod NextDue
+pub mod ComputedTrails
+pub mod FirstRound

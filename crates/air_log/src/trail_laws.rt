@@ -8,6 +8,9 @@ ghost use Rattle.air_log.specs.AlarmRuns.{IsAlarmRun};
 ghost use Rattle.air_log.specs.Trails.{Reception, setup_of, run_end, before_alarms, before_start, before_tick, trail};
 ghost use Rattle.air_log.specs.QuietTicks.{IsQuiet, ends_before};
 ghost use Rattle.air_log.specs.Ahead.{IsAhead, NextDue};
+ghost use Rattle.air_log.specs.FirstRound.{IsWorked, first_round, heard_by_host, heard_by_other, sent_by_host, sent_by_other, tuned_by_host, tuned_by_other};
+ghost use Rattle.air_log.specs.TwoNodeLog.{true_time};
+ghost use Rattle.bus_rules.specs.declared.tune.Tune.TheVariants.{Hold, Host};
 ghost use Rattle.air_log.specs.TrailEntries.{IsSentBefore, IsTunedBy, StartsBefore, FollowsOn};
 
 /// While nothing is due at a node, it stays as it is.
@@ -57,4 +60,10 @@ pub fn entries_of_a_trail_differ()
         → AllPairs FollowsOn (trail s v clock hs).made.tuned }
     ensures each_tuned { (s : ScenarioParts) (v : ℕ) (clock : ℕ → ℕ) (hs : List Reception)
         → All (IsTunedBy v (run_end s)) (trail s v clock hs).made.tuned }
+{}
+
+/// Worked by hand: the trails of a host and of another node through their first round.
+pub fn trails_of_a_first_round()
+    ensures host { IsWorked first_round (trail first_round 1 (true_time 1) heard_by_host) sent_by_host tuned_by_host 2494336 (Host 0 9) }
+    ensures other { IsWorked first_round (trail first_round 2 (true_time 2) heard_by_other) sent_by_other tuned_by_other 2344320 (Hold 0 9) }
 {}
