@@ -12,3 +12,4 @@ pub mod AlarmRuns
 pub mod NextDue
 pub mod ComputedTrails
 pub mod FirstRound
+pub mod InTurn

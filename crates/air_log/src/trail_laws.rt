@@ -1,6 +1,6 @@
 //! Laws of the trails of nodes, each a function that does nothing and has the law as its contract.
 
-ghost use Rattle.std.specs.Prelude.{◌≡◌, ℕ, suc, ◌<◌, ◌≤◌, List, filter, All, AllPairs};
+ghost use Rattle.std.specs.Prelude.{◌≡◌, ℕ, suc, ◌<◌, ◌≤◌, List, filter, map, All, AllPairs};
 ghost use Rattle.scenario_text.specs.ScenarioParts.{ScenarioParts};
 ghost use Rattle.scenario_text.specs.ScenarioFacts.{IsSoundScenario};
 ghost use Rattle.tick_clock.specs.Clocks.{IsClock};
@@ -11,6 +11,8 @@ ghost use Rattle.air_log.specs.Ahead.{IsAhead, NextDue};
 ghost use Rattle.air_log.specs.FirstRound.{IsWorked, first_round, heard_by_host, heard_by_other, sent_by_host, sent_by_other, tuned_by_host, tuned_by_other};
 ghost use Rattle.air_log.specs.TwoNodeLog.{true_time};
 ghost use Rattle.bus_rules.specs.declared.tune.Tune.TheVariants.{Hold, Host};
+ghost use Rattle.air_log.specs.declared.entry.Entry.{Entry};
+ghost use Rattle.air_log.specs.Lawful.{AreInTurn, reception_of, hearings_by, heard_by};
 ghost use Rattle.air_log.specs.TrailEntries.{IsSentBefore, IsTunedBy, StartsBefore, FollowsOn};
 
 /// While nothing is due at a node, it stays as it is.
@@ -21,7 +23,7 @@ pub fn quiet_ticks_change_nothing()
 {}
 
 /// What a node does before a tick hangs on the hearings alone that ended before it, and what it does at a tick before a
-/// sending starts on those that ended by then.
+/// sending starts on those that ended by then. So no hearing counts that ends with the run or after it.
 pub fn later_hearings_change_nothing_before()
     ensures before { (s : ScenarioParts) (v : ℕ) (clock : ℕ → ℕ) (gs hs : List Reception) (t : ℕ)
         → filter (ends_before t) gs ≡ filter (ends_before t) hs
@@ -29,6 +31,15 @@ pub fn later_hearings_change_nothing_before()
     ensures within { (s : ScenarioParts) (v : ℕ) (clock : ℕ → ℕ) (gs hs : List Reception) (t : ℕ)
         → filter (ends_before (suc t)) gs ≡ filter (ends_before (suc t)) hs
         → before_start s v clock gs t (before_tick s v clock gs t) ≡ before_start s v clock hs t (before_tick s v clock hs t) }
+    ensures run { (s : ScenarioParts) (v : ℕ) (clock : ℕ → ℕ) (gs hs : List Reception)
+        → filter (ends_before (run_end s)) gs ≡ filter (ends_before (run_end s)) hs
+        → trail s v clock gs ≡ trail s v clock hs }
+{}
+
+/// Hearings that stand in the air by end and sender are taken by the trail of their node as they stand.
+pub fn hearings_in_turn_are_taken_as_they_stand()
+    ensures { (air : List Entry) (v : ℕ) → AreInTurn (hearings_by air v)
+        → heard_by air v ≡ map reception_of (hearings_by air v) }
 {}
 
 /// Alarms of a tick come to an end, whatever a node hears: they are due one after another, until none is.
