@@ -1,5 +1,5 @@
 -- The alarms of a tick are those that are due one after another, until none is.
-use Rattle.std.proofs.Common.{◌≡◌, ℕ, zero, suc, ◌<◌, ◌≤◌, List, ◌+◌, Bool, true, false, refl, sym, ◌∙◌, ap, subst, arith}
+use Rattle.std.proofs.Common.{◌≡◌, ℕ, zero, suc, ◌<◌, ◌≤◌, List, ◌+◌, Bool, true, false, refl, ◌∙◌, ap, subst, arith}
 use Rattle.tick_clock.specs.Clocks.{IsClock}
 use Rattle.scenario_text.specs.ScenarioParts.{ScenarioParts}
 use Rattle.scenario_text.specs.ScenarioFacts.{IsSoundScenario}

@@ -1,7 +1,7 @@
 -- Trails are computed from one tick at which something is due to the next. The search for the first tick at which a clock
 -- reads a number cannot be computed, so a function that gives the same is put in its place.
-use Rattle.std.proofs.Common.{◌≡◌, ℕ, zero, suc, ◌+◌, ◌/◌, ◌<◌, ◌≤◌, IfSome, max, List, [], ◌∷◌, Bool, true, false, not, ◌==◌, ◌&&◌, ◌||◌, nat_lt, nat_le, if◌then◌else◌, fold, Option, Some, None, Contains, ◌⊎◌, inl, inr, refl, sym, ◌∙◌, ap, subst, arith, eqb-true, true≢false, ltb-true}
-use Rattle.std.proofs.lemmas.Bool.{and_parts, leb-true, eq-eqb, not_from_true}
+use Rattle.std.proofs.Common.{◌≡◌, ℕ, zero, suc, ◌+◌, ◌/◌, ◌<◌, ◌≤◌, IfSome, max, List, [], ◌∷◌, Bool, true, false, not, ◌==◌, ◌&&◌, ◌||◌, nat_lt, nat_le, if◌then◌else◌, fold, Option, Some, None, Contains, ◌⊎◌, inl, inr, refl, sym, ◌∙◌, ap, subst, arith, true≢false, ltb-true}
+use Rattle.std.proofs.lemmas.Bool.{and_parts, leb-true, eq-eqb}
 use Rattle.std.specs.List.{list_all}
 use Rattle.std.proofs.Math.Path.{fun_ext}
 use Rattle.tick_clock.proofs.DueTicks.{due_at_most, least_found}
@@ -23,7 +23,7 @@ use Rattle.node_core.specs.Runs.{orders_by}
 use Rattle.air_log.specs.Devices.{Device, Power, PowerOff, PowerOn, Ordered, at_rest, silenced, listens_to, retuned, moved}
 use Rattle.air_log.specs.ScriptedDevices.{dropped, switched_off, with_new_streams, put_or_dropped}
 use Rattle.air_log.specs.Trails.{Reception, setup_of, frame_start, lines_at, ending_at, is_due, alarms, begun, tick, before_tick}
-use Rattle.air_log.specs.Ahead.{IsAhead, NextDue}
+use Rattle.air_log.specs.Ahead.{NextDue}
 use Rattle.air_log.proofs.Elements.{contains_cases, not_in_none}
 use Rattle.air_log.proofs.NextDue.{until_next}
 
@@ -159,13 +159,13 @@ from_test D clock s v hs a b d is =
     let hearings = and_parts _ _ lines.0 in
     let ends = and_parts _ _ hearings.0 in
     let starts = and_parts _ _ ends.0 in
-    let set = and_parts _ _ starts.0 in
-    ( leb-true a b set.0,
+    let set = and_parts _ _ starts.0 in (
+      leb-true a b set.0,
       record {
         set = record { alarm = alarm_set d.alarm set.1; ordered = start_set d.ordered starts.1; sending = end_set d.sending ends.1 };
         hearings = λ h there. from_outside D clock a b h.end (all_passes _ hs hearings.1 h there);
         lines = λ l there node. from_outside D clock a b (frame_start s l.frame) (from_line (l.node == v) _ (all_passes _ s.script lines.1 l there) (eq-eqb l.node v node));
-      }
+      },
     )
   where
     alarm_set : (o : Option ℕ) → alarm_from D clock b o ≡ true → IfSome o (λ w. b ≤ w)

@@ -1,9 +1,8 @@
 -- Hearings that stand in their order stay in it.
-use Rattle.std.proofs.Common.{◌≡◌, ℕ, zero, suc, List, [], ◌∷◌, Bool, true, false, if◌then◌else◌, map, refl, sym, ◌∙◌, ap, arith, true≢false}
+use Rattle.std.proofs.Common.{◌≡◌, ℕ, zero, suc, List, [], ◌∷◌, map, refl, ◌∙◌, ap, arith}
 use Rattle.radio_model.specs.OnAir.{Hearing}
 use Rattle.air_log.specs.declared.entry.Entry.{Entry}
-use Rattle.air_log.specs.Trails.{Reception}
-use Rattle.air_log.specs.Lawful.{comes_before, put_in, by_end, AreInTurn, reception_of, hearings_by, heard_by}
+use Rattle.air_log.specs.Lawful.{put_in, by_end, AreInTurn, reception_of, hearings_by, heard_by}
 
 -- before those that do not come before it
 put_first : (h : Hearing) (hs : List Hearing) → AreInTurn (h ∷ hs) → put_in h hs ≡ h ∷ hs

@@ -1,20 +1,18 @@
 -- What is set at a node lies ahead, and nothing happens before the next of it.
-use Rattle.std.proofs.Common.{◌≡◌, ℕ, zero, suc, ◌+◌, ◌*◌, ◌^◌, ◌<◌, ◌≤◌, max, List, [], ◌∷◌, Bool, true, false, ◌==◌, ◌&&◌, filter, length, Option, Some, None, Contains, IfSome, ◌⊎◌, inl, inr, refl, sym, ◌∙◌, ap, subst, arith, eqb-true, true≢false, mul-le-mul_left, cond}
+use Rattle.std.proofs.Common.{◌≡◌, ℕ, zero, suc, ◌+◌, ◌*◌, ◌<◌, ◌≤◌, List, [], ◌∷◌, Bool, true, false, ◌==◌, ◌&&◌, filter, length, Option, Some, None, Contains, IfSome, ◌⊎◌, inl, inr, refl, arith, eqb-true, mul-le-mul_left, cond}
 use Rattle.std.proofs.lemmas.Bool.{cond_both, eqb-false, ne_eqb, and_parts}
 use Rattle.lwb_base.specs.Profile.{Numbers, IsProfile, airtime}
-use Rattle.lwb_base.specs.declared.event.Event.{Event}
-use Rattle.lwb_base.specs.declared.event.Event.TheVariants.{Boot, Alarm, Heard, Sent}
+use Rattle.lwb_base.specs.declared.event.Event.TheVariants.{Sent}
 use Rattle.lwb_base.specs.declared.order.Order.{Order}
 use Rattle.lwb_base.specs.declared.order.Order.TheVariants.{Listen, Off, SendAt, Alarm as AlarmAt}
-use Rattle.tick_clock.specs.Clocks.{IsClock, due}
+use Rattle.tick_clock.specs.Clocks.{IsClock}
 use Rattle.radio_model.specs.OnAir.{Tuning}
 use Rattle.radio_model.specs.declared.sending.Sending.{Sending}
 use Rattle.scenario_text.specs.ScenarioParts.{ScenarioParts}
 use Rattle.scenario_text.specs.ScenarioFacts.{IsSoundScenario}
-use Rattle.scenario_text.specs.declared.script.ScriptLine.{ScriptLine}
 use Rattle.bus_rules.specs.Cores.{Setup}
 use Rattle.air_log.specs.Devices.{Device, Listening, Ordered, event, obeyed, silenced, tunes, listens_to}
-use Rattle.air_log.specs.Trails.{Reception, setup_of, run_end, frame_start, lines_at, ending_at, scripted, heard, ended_by, ended, is_due, alarmed, before_alarms, before_start, begun_by, starts, before_tick}
+use Rattle.air_log.specs.Trails.{Reception, setup_of, run_end, frame_start, scripted, heard, ended_by, ended, is_due, alarmed, begun_by, starts, before_tick}
 use Rattle.air_log.specs.QuietTicks.{IsQuiet, ends_at, starts_at}
 use Rattle.air_log.specs.Ahead.{IsAhead, NextDue}
 use Rattle.air_log.proofs.Elements.{contains_head, contains_tail}
@@ -174,8 +172,8 @@ not_between a b t x (inr more) from below is = omega (arith, more, below, is)
 quiet_before : (s : ScenarioParts) (v : ℕ) (hs : List Reception) (a b t : ℕ) (d : Device) → NextDue s v hs a b d → a ≤ t → t < b → IsQuiet s v hs t d
 quiet_before s v hs a b t d next from below = record {
   lines = none_passes _ s.script (λ l there is.
-    let both = and_parts _ _ is in
-    not_between a b t (frame_start s l.frame) (next.lines l there (eqb-true l.node v both.0)) from below (eqb-true (frame_start s l.frame) t both.1));
+      let both = and_parts _ _ is in
+      not_between a b t (frame_start s l.frame) (next.lines l there (eqb-true l.node v both.0)) from below (eqb-true (frame_start s l.frame) t both.1));
   hearings = none_passes _ hs (λ h there is. not_between a b t h.end (next.hearings h there) from below (eqb-true h.end t is));
   sending = end_quiet t b d.sending below next.set.sending;
   alarm = alarm_quiet t b d.alarm below next.set.alarm;

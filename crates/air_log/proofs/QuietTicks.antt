@@ -4,7 +4,7 @@ use Rattle.radio_model.specs.declared.sending.Sending.{Sending}
 use Rattle.scenario_text.specs.ScenarioParts.{ScenarioParts}
 use Rattle.bus_rules.specs.Cores.{Setup}
 use Rattle.air_log.specs.Devices.{Device, Ordered, silenced}
-use Rattle.air_log.specs.Trails.{Reception, setup_of, lines_at, ending_at, ended_by, begun_by, alarms, is_due, before_start, begun, tick, before_tick, run_end, trail}
+use Rattle.air_log.specs.Trails.{Reception, setup_of, ending_at, ended_by, begun_by, alarms, is_due, before_start, begun, tick, before_tick, run_end, trail}
 use Rattle.air_log.specs.QuietTicks.{IsQuiet, ends_at, starts_at, ends_before}
 
 no_end : (clock : ℕ → ℕ) (s : Setup) (t : ℕ) (d : Device) (x : Option Sending) → ends_at t x ≡ false → ended_by clock s t d x ≡ d
