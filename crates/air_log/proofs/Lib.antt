@@ -13,3 +13,4 @@ pub mod NextDue
 pub mod ComputedTrails
 pub mod FirstRound
 pub mod InTurn
+pub mod HearingMore

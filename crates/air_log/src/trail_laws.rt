@@ -1,11 +1,11 @@
 //! Laws of the trails of nodes, each a function that does nothing and has the law as its contract.
 
-ghost use Rattle.std.specs.Prelude.{◌≡◌, ℕ, suc, ◌<◌, ◌≤◌, List, filter, map, All, AllPairs};
+ghost use Rattle.std.specs.Prelude.{◌≡◌, ℕ, suc, ◌<◌, ◌≤◌, List, [], ◌∷◌, ◌++◌, filter, map, All, AllPairs};
 ghost use Rattle.scenario_text.specs.ScenarioParts.{ScenarioParts};
 ghost use Rattle.scenario_text.specs.ScenarioFacts.{IsSoundScenario};
 ghost use Rattle.tick_clock.specs.Clocks.{IsClock};
 ghost use Rattle.air_log.specs.AlarmRuns.{IsAlarmRun};
-ghost use Rattle.air_log.specs.Trails.{Reception, setup_of, run_end, before_alarms, before_start, before_tick, trail};
+ghost use Rattle.air_log.specs.Trails.{Reception, hears, heard, setup_of, run_end, before_alarms, before_start, before_tick, trail};
 ghost use Rattle.air_log.specs.QuietTicks.{IsQuiet, ends_before};
 ghost use Rattle.air_log.specs.Ahead.{IsAhead, NextDue};
 ghost use Rattle.air_log.specs.FirstRound.{IsWorked, first_round, heard_by_host, heard_by_other, sent_by_host, sent_by_other, tuned_by_host, tuned_by_other};
@@ -13,6 +13,8 @@ ghost use Rattle.air_log.specs.TwoNodeLog.{true_time};
 ghost use Rattle.bus_rules.specs.declared.tune.Tune.TheVariants.{Hold, Host};
 ghost use Rattle.air_log.specs.declared.entry.Entry.{Entry};
 ghost use Rattle.air_log.specs.Lawful.{AreInTurn, reception_of, hearings_by, heard_by};
+ghost use Rattle.bus_rules.specs.Cores.{Setup};
+ghost use Rattle.air_log.specs.Devices.{Device};
 ghost use Rattle.air_log.specs.TrailEntries.{IsSentBefore, IsTunedBy, StartsBefore, FollowsOn};
 
 /// While nothing is due at a node, it stays as it is.
@@ -42,11 +44,22 @@ pub fn hearings_in_turn_are_taken_as_they_stand()
         → heard_by air v ≡ map reception_of (hearings_by air v) }
 {}
 
-/// Alarms of a tick come to an end, whatever a node hears: they are due one after another, until none is.
+/// Alarms of a tick come to an end, whatever a node hears: they are due one after another, until none is. So whoever takes
+/// them one after another until none is due comes to the same.
 pub fn alarms_of_a_tick_end()
-    ensures { (s : ScenarioParts) (v : ℕ) (clock : ℕ → ℕ) (hs : List Reception) (t : ℕ)
+    ensures end { (s : ScenarioParts) (v : ℕ) (clock : ℕ → ℕ) (hs : List Reception) (t : ℕ)
         → IsSoundScenario s → IsClock clock → t ≤ run_end s
         → IsAlarmRun clock (setup_of s v) t (before_alarms s v clock hs t (before_tick s v clock hs t)) (before_start s v clock hs t (before_tick s v clock hs t)) }
+    ensures agree { (clock : ℕ → ℕ) (s : Setup) (t : ℕ) (d e f : Device)
+        → IsAlarmRun clock s t d e → IsAlarmRun clock s t d f → e ≡ f }
+{}
+
+/// A hearing more, which stands behind the others, changes nothing before it ends, and at its end it is taken last.
+pub fn hearings_come_one_by_one()
+    ensures before { (s : ScenarioParts) (v : ℕ) (clock : ℕ → ℕ) (hs : List Reception) (h : Reception) (t : ℕ) → t ≤ h.end
+        → before_tick s v clock (hs ++ h ∷ []) t ≡ before_tick s v clock hs t }
+    ensures now { (clock : ℕ → ℕ) (s : Setup) (t : ℕ) (hs : List Reception) (h : Reception) (d : Device) → h.end ≡ t
+        → heard clock s t (hs ++ h ∷ []) d ≡ hears clock s t (heard clock s t hs d) h }
 {}
 
 /// What is set at a node lies ahead, and until the next of it, the next end of a hearing and the next script line the node
