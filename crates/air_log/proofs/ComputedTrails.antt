@@ -136,7 +136,7 @@ module _ (clock : ℕ → ℕ) where
   unfolding before_tick
   one_tick s v hs t d is = ap (tick s v clock hs t) is ∙ same_tick s v hs t d
 
-all_passes : {X : Type 0} (p : X → Bool) (xs : List X) → list_all p xs ≡ true → (x : X) → Contains xs x → p x ≡ true
+pub all_passes : {X : Type 0} (p : X → Bool) (xs : List X) → list_all p xs ≡ true → (x : X) → Contains xs x → p x ≡ true
 all_passes p [] all x there = absurd (not_in_none x there)
 all_passes p (y ∷ ys) all x there =
     let both = and_parts _ _ all in

@@ -14,3 +14,4 @@ pub mod ComputedTrails
 pub mod FirstRound
 pub mod InTurn
 pub mod HearingMore
+pub mod FirstRoundLog

@@ -145,7 +145,7 @@ module _ (s : ScenarioParts) (v : ℕ) (clock : ℕ → ℕ) (hs : List Receptio
   is_ahead t within = let a = ahead_at t within in record { alarm = a.0; ordered = a.1; sending = a.2 }
 
 -- nothing passes a test that fails everywhere
-none_passes : {X : Type 0} (p : X → Bool) (xs : List X) → ((x : X) → Contains xs x → p x ≡ true → ⊥) → filter p xs ≡ []
+pub none_passes : {X : Type 0} (p : X → Bool) (xs : List X) → ((x : X) → Contains xs x → p x ≡ true → ⊥) → filter p xs ≡ []
 none_passes p [] none = refl
 none_passes {X} p (x ∷ xs) none = by_test (p x) refl (none_passes p xs (λ y there. none y (contains_tail x xs y there)))
   where

@@ -1,11 +1,13 @@
 -- Worked trails: node 1 hosts a first round for node 2, in the last of six frames, and their clocks keep true time. It
 -- sends the opening in slot 0 and the closing in slot 2. Both are relayed by turns, twice by each node.
-use Rattle.std.specs.Prelude.{◌≡◌, ℕ, List, [], ◌∷◌, Some}
+use Rattle.std.specs.Prelude.{◌≡◌, ℕ, List, [], ◌∷◌, ◌++◌, Some, map}
 use Rattle.lwb_base.specs.Profile.{one}
 use Rattle.scenario_text.specs.ScenarioParts.{ScenarioParts}
 use Rattle.scenario_text.specs.declared.script.Act.TheVariants.{On}
 use Rattle.radio_model.specs.declared.sending.Sending.{Sending}
-use Rattle.radio_model.specs.OnAir.{Tuning}
+use Rattle.radio_model.specs.OnAir.{Hearing, Tuning}
+use Rattle.air_log.specs.declared.entry.Entry.{Entry}
+use Rattle.air_log.specs.declared.entry.Entry.TheVariants.{Sent, Heard, Tuned}
 use Rattle.air_log.specs.Devices.{Device}
 use Rattle.air_log.specs.Trails.{Reception, tune_of}
 use Rattle.air_log.specs.Charges.{windows_charge}
@@ -82,3 +84,38 @@ pub record IsWorked (s : ScenarioParts) (d : Device) (sent : List Sending) (tune
   pub tunings : d.made.tuned ≡ tuned
   pub charge : windows_charge s d ≡ windows
   pub last : tune_of d.power ≡ Some tune
+
+-- the log of both nodes: sendings as they begin
+abbrev pub sent_in_round : List Sending
+sent_in_round =
+    sent_at 1 1344064000 1344100864 (opening_with 0)
+    ∷ sent_at 2 1344113152 1344150016 (opening_with 1)
+    ∷ sent_at 1 1344162304 1344199168 (opening_with 2)
+    ∷ sent_at 2 1344211456 1344248320 (opening_with 3)
+    ∷ sent_at 1 1348288000 1348324864 (closing_with 0)
+    ∷ sent_at 2 1348337152 1348374016 (closing_with 1)
+    ∷ sent_at 1 1348386304 1348423168 (closing_with 2)
+    ∷ sent_at 2 1348435456 1348472320 (closing_with 3)
+    ∷ []
+
+abbrev pub heard_in_round : List Hearing
+heard_in_round =
+    record { node = 2; sending = sent_at 1 1344064000 1344100864 (opening_with 0) }
+    ∷ record { node = 1; sending = sent_at 2 1344113152 1344150016 (opening_with 1) }
+    ∷ record { node = 2; sending = sent_at 1 1344162304 1344199168 (opening_with 2) }
+    ∷ record { node = 2; sending = sent_at 1 1348288000 1348324864 (closing_with 0) }
+    ∷ record { node = 1; sending = sent_at 2 1348337152 1348374016 (closing_with 1) }
+    ∷ record { node = 2; sending = sent_at 1 1348386304 1348423168 (closing_with 2) }
+    ∷ []
+
+abbrev pub sent_entry : Sending → Entry
+sent_entry x = Sent (record { rank = x.rank; node = x.node; start = x.start; end = x.end; packet = x.packet })
+
+abbrev pub heard_entry : Hearing → Entry
+heard_entry h = Heard (record { rank = h.sending.rank; node = h.node; from = h.sending.node; start = h.sending.start; end = h.sending.end; packet = h.sending.packet })
+
+abbrev pub tuned_entry : Tuning → Entry
+tuned_entry t = Tuned (record { rank = t.rank; node = t.node; start = t.start; end = t.end })
+
+abbrev pub first_round_log : List Entry
+first_round_log = map sent_entry sent_in_round ++ map heard_entry heard_in_round ++ map tuned_entry (tuned_by_host ++ tuned_by_other)

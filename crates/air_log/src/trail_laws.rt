@@ -8,11 +8,11 @@ ghost use Rattle.air_log.specs.AlarmRuns.{IsAlarmRun};
 ghost use Rattle.air_log.specs.Trails.{Reception, hears, heard, setup_of, run_end, before_alarms, before_start, before_tick, trail};
 ghost use Rattle.air_log.specs.QuietTicks.{IsQuiet, ends_before};
 ghost use Rattle.air_log.specs.Ahead.{IsAhead, NextDue};
-ghost use Rattle.air_log.specs.FirstRound.{IsWorked, first_round, heard_by_host, heard_by_other, sent_by_host, sent_by_other, tuned_by_host, tuned_by_other};
+ghost use Rattle.air_log.specs.FirstRound.{IsWorked, first_round, first_round_log, heard_by_host, heard_by_other, sent_by_host, sent_by_other, tuned_by_host, tuned_by_other};
 ghost use Rattle.air_log.specs.TwoNodeLog.{true_time};
 ghost use Rattle.bus_rules.specs.declared.tune.Tune.TheVariants.{Hold, Host};
 ghost use Rattle.air_log.specs.declared.entry.Entry.{Entry};
-ghost use Rattle.air_log.specs.Lawful.{AreInTurn, reception_of, hearings_by, heard_by};
+ghost use Rattle.air_log.specs.Lawful.{Lawful, AreInTurn, reception_of, hearings_by, heard_by};
 ghost use Rattle.bus_rules.specs.Cores.{Setup};
 ghost use Rattle.air_log.specs.Devices.{Device};
 ghost use Rattle.air_log.specs.TrailEntries.{IsSentBefore, IsTunedBy, StartsBefore, FollowsOn};
@@ -90,4 +90,9 @@ pub fn entries_of_a_trail_differ()
 pub fn trails_of_a_first_round()
     ensures host { IsWorked first_round (trail first_round 1 (true_time 1) heard_by_host) sent_by_host tuned_by_host 2494336 (Host 0 9) }
     ensures other { IsWorked first_round (trail first_round 2 (true_time 2) heard_by_other) sent_by_other tuned_by_other 2344320 (Hold 0 9) }
+{}
+
+/// The log of these two trails, worked by hand, is lawful.
+pub fn the_log_of_a_first_round_is_lawful()
+    ensures { Lawful first_round true_time first_round_log }
 {}
