@@ -1,5 +1,5 @@
 -- The alarms of a tick come to an end.
-use Rattle.std.proofs.Common.{◌≡◌, ℕ, zero, suc, ◌+◌, ◌*◌, ◌/◌, ◌^◌, ◌<◌, ◌≤◌, max, List, [], ◌∷◌, Bool, true, false, ◌==◌, fold, Option, Some, None, refl, sym, ◌∙◌, ap, subst, arith, add-mul, mul-le-mul_left, mul-le-mul_right, suc-mul, div-mul-le_self, eqb-true, true≢false, inl, inr, ◌⊎◌}
+use Rattle.std.proofs.Common.{◌≡◌, ℕ, zero, suc, ◌+◌, ◌*◌, ◌/◌, ◌^◌, ◌≤◌, List, [], ◌∷◌, Bool, true, false, ◌==◌, fold, Option, Some, None, refl, sym, ◌∙◌, ap, arith, mul-le-mul_left, mul-le-mul_right, suc-mul, div-mul-le_self, eqb-true, true≢false, inl, inr, ◌⊎◌}
 use Rattle.std.proofs.lemmas.Bool.{cond_both}
 use Rattle.lwb_base.specs.declared.event.Event.{Event}
 use Rattle.lwb_base.specs.declared.event.Event.TheVariants.{Boot, Alarm, Heard, Sent}
@@ -17,14 +17,14 @@ use Rattle.scenario_text.specs.declared.script.ScriptLine.{ScriptLine}
 use Rattle.bus_rules.specs.Streams.{Streams, drops, put}
 use Rattle.bus_rules.specs.Cores.{Setup}
 use Rattle.node_core.specs.Nodes.{Node, rebooted}
-use Rattle.node_core.specs.Rows.{Stepped, row, at_alarm}
+use Rattle.node_core.specs.Rows.{row, at_alarm}
 use Rattle.node_core.specs.Runs.{node_after, orders_by, with_streams}
 use Rattle.node_core.specs.declared.stage.Stage.{Stage}
 use Rattle.node_core.specs.declared.stage.Stage.TheVariants.{Idle, Scanning, AwaitFrame, AwaitSlot, InWindow}
 use Rattle.air_log.specs.Devices.{Device, Power, PowerOff, PowerOn, Listening, Ordered, obeyed, moved, stepped, event, event_by, silenced, tunes, listens_to}
 use Rattle.air_log.specs.ScriptedDevices.{after_act, after_line, dropped, with_new_streams}
 use Rattle.air_log.specs.Trails.{Reception, run_end, setup_of, lines_at, scripted, ending_at, hears, heard, ended_by, ended, is_due, alarms, alarmed, before_start, begun_by, starts, before_tick}
-use Rattle.air_log.proofs.AlarmRows.{IsRoomy, roomy, IsGoing, InRange, Waits, Goes, GoesBy, alarm_by, alarm_after, progress, most, in_reach, boot_goes, heard_goes, sent_goes, alarm_goes, Rises}
+use Rattle.air_log.proofs.AlarmRows.{IsRoomy, roomy, Waits, Goes, GoesBy, alarm_by, alarm_after, progress, most, in_reach, boot_goes, heard_goes, sent_goes, alarm_goes, Rises}
 
 -- orders change the alarm alone, of what is looked at here
 abbrev Has : Power → Option ℕ → Device → Type 0

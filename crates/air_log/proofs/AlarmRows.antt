@@ -1,10 +1,9 @@
 -- What each row keeps of a node and its alarm, and that the rows of an alarm go on in frames and slots.
-use Rattle.std.proofs.Common.{◌≡◌, ℕ, zero, suc, ◌+◌, ◌*◌, ◌/◌, ◌^◌, ◌-◌, ◌<◌, ◌≤◌, min, max, List, [], ◌∷◌, ◌++◌, Bool, true, false, ◌==◌, ◌&&◌, nat_lt, cond, if◌then◌else◌, fold, Option, Some, None, refl, sym, ◌∙◌, ap, subst, arith, mul-le-mul_left, mul-le-mul_right, add-mul, le-div_iff_mul-le, div-mul-le_self, ltb-true, inl, inr, IfSome, ⊎_elim}
+use Rattle.std.proofs.Common.{◌≡◌, ℕ, ◌+◌, ◌*◌, ◌/◌, ◌^◌, ◌<◌, ◌≤◌, max, List, ◌==◌, nat_lt, if◌then◌else◌, fold, Option, Some, None, refl, subst, arith, mul-le-mul_left, mul-le-mul_right, add-mul, le-div_iff_mul-le, div-mul-le_self, ltb-true, inl, inr, IfSome}
 use Rattle.std.proofs.lemmas.Bool.{cond_both}
-use Rattle.lwb_base.specs.Profile.{Numbers, IsProfile, one, contended}
+use Rattle.lwb_base.specs.Profile.{Numbers, IsProfile}
 use Rattle.lwb_base.specs.Messages.{Schedule}
-use Rattle.lwb_base.specs.declared.event.Event.{Event}
-use Rattle.lwb_base.specs.declared.event.Event.TheVariants.{Boot, Alarm, Heard, Sent}
+use Rattle.lwb_base.specs.declared.event.Event.TheVariants.{Boot}
 use Rattle.lwb_base.specs.declared.order.Order.{Order}
 use Rattle.lwb_base.specs.declared.order.Order.TheVariants.{Listen, Off, SendAt, Alarm as AlarmAt}
 use Rattle.tick_clock.specs.Clocks.{IsClock, due}
@@ -21,8 +20,8 @@ use Rattle.node_core.specs.Said.{message_of}
 use Rattle.node_core.specs.declared.stage.Stage.{Stage}
 use Rattle.node_core.specs.declared.stage.Stage.TheVariants.{Idle, Scanning, AwaitFrame, AwaitSlot, InWindow}
 use Rattle.node_core.specs.Windows.{Window}
-use Rattle.node_core.specs.Nodes.{Node, frame_alarm, stopped_frame, opens_at}
-use Rattle.node_core.specs.Rows.{Stepped, row, stage_for, orders_for, zero_for, frame_alarms, window_opens, window_closes, joins, last_by, scanner_hears, accepted_in, at_alarm, at_heard, at_sent, sends}
+use Rattle.node_core.specs.Nodes.{Node, frame_alarm, stopped_frame}
+use Rattle.node_core.specs.Rows.{Stepped, row, stage_for, orders_for, zero_for, frame_alarms, window_opens, window_closes, joins, scanner_hears, accepted_in, at_alarm, at_heard, at_sent, sends}
 use Rattle.node_core.specs.Runs.{node_after, orders_by}
 use Rattle.air_log.proofs.SmallPlans.{read_few}
 use Rattle.air_log.proofs.SmallCores.{IsSmall, booted_small, frame_small, opened_small, closed_small, accepted_few}

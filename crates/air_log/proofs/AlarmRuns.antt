@@ -1,5 +1,6 @@
 -- The alarms of a tick are those that are due one after another, until none is.
-use Rattle.std.proofs.Common.{◌≡◌, ℕ, zero, suc, ◌<◌, ◌≤◌, List, ◌+◌, Bool, true, false, refl, sym, ◌∙◌, ap, subst, arith}
+use Rattle.std.proofs.Common.{◌≡◌, ℕ, zero, suc, ◌<◌, ◌≤◌, List, ◌+◌, Bool, true, false, refl, ◌∙◌, ap, subst, sym, arith, true≢false, inl, inr}
+use Rattle.std.proofs.lemmas.Bool.{cases_order}
 use Rattle.tick_clock.specs.Clocks.{IsClock}
 use Rattle.scenario_text.specs.ScenarioParts.{ScenarioParts}
 use Rattle.scenario_text.specs.ScenarioFacts.{IsSoundScenario}
@@ -33,3 +34,14 @@ pub alarms_are_run : (s : ScenarioParts) (v : ℕ) (clock : ℕ → ℕ) (hs : L
 alarms_are_run s v clock hs t sound drifts within =
     let d = before_alarms s v clock hs t (before_tick s v clock hs t) in
     is_run clock (setup_of s v) t (is_due t d.alarm) (clock t + 300) d refl (no_alarm_left s v clock hs t sound drifts within)
+
+-- a run that is over is as long as any other
+module _ (clock : ℕ → ℕ) (s : Setup) (t : ℕ) (d : Device) where
+  no_shorter : (e f : Device) (x : IsAlarmRun clock s t d e) (y : IsAlarmRun clock s t d f) → x.count < y.count → ⊥
+  no_shorter e f x y less = true≢false (sym (y.due x.count less) ∙ ap (λ (z : Device). is_due t z.alarm) (sym x.is) ∙ x.over)
+
+  pub runs_agree : (e f : Device) → IsAlarmRun clock s t d e → IsAlarmRun clock s t d f → e ≡ f
+  runs_agree e f x y = x.is ∙ ap (λ (k : ℕ). after_alarms clock s t k d) same ∙ sym y.is
+    where
+      same : x.count ≡ y.count
+      same = elim (cases_order x.count y.count) [ inl is ↦ is | inr (inl less) ↦ absurd (no_shorter e f x y less) | inr (inr more) ↦ absurd (no_shorter f e y x more) ]

@@ -12,3 +12,8 @@ pub mod AlarmRows
 pub mod AlarmLoop
 pub mod AlarmRuns
 pub mod NextDue
+pub mod ComputedTrails
+pub mod FirstRound
+pub mod InTurn
+pub mod HearingMore
+pub mod FirstRoundLog

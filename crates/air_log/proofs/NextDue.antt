@@ -1,20 +1,18 @@
 -- What is set at a node lies ahead, and nothing happens before the next of it.
-use Rattle.std.proofs.Common.{◌≡◌, ℕ, zero, suc, ◌+◌, ◌*◌, ◌^◌, ◌<◌, ◌≤◌, max, List, [], ◌∷◌, Bool, true, false, ◌==◌, ◌&&◌, filter, length, Option, Some, None, Contains, IfSome, ◌⊎◌, inl, inr, refl, sym, ◌∙◌, ap, subst, arith, eqb-true, true≢false, mul-le-mul_left, cond}
+use Rattle.std.proofs.Common.{◌≡◌, ℕ, zero, suc, ◌+◌, ◌*◌, ◌<◌, ◌≤◌, List, [], ◌∷◌, Bool, true, false, ◌==◌, ◌&&◌, filter, length, Option, Some, None, Contains, IfSome, ◌⊎◌, inl, inr, refl, arith, eqb-true, mul-le-mul_left, cond}
 use Rattle.std.proofs.lemmas.Bool.{cond_both, eqb-false, ne_eqb, and_parts}
 use Rattle.lwb_base.specs.Profile.{Numbers, IsProfile, airtime}
-use Rattle.lwb_base.specs.declared.event.Event.{Event}
-use Rattle.lwb_base.specs.declared.event.Event.TheVariants.{Boot, Alarm, Heard, Sent}
+use Rattle.lwb_base.specs.declared.event.Event.TheVariants.{Sent}
 use Rattle.lwb_base.specs.declared.order.Order.{Order}
 use Rattle.lwb_base.specs.declared.order.Order.TheVariants.{Listen, Off, SendAt, Alarm as AlarmAt}
-use Rattle.tick_clock.specs.Clocks.{IsClock, due}
+use Rattle.tick_clock.specs.Clocks.{IsClock}
 use Rattle.radio_model.specs.OnAir.{Tuning}
 use Rattle.radio_model.specs.declared.sending.Sending.{Sending}
 use Rattle.scenario_text.specs.ScenarioParts.{ScenarioParts}
 use Rattle.scenario_text.specs.ScenarioFacts.{IsSoundScenario}
-use Rattle.scenario_text.specs.declared.script.ScriptLine.{ScriptLine}
 use Rattle.bus_rules.specs.Cores.{Setup}
 use Rattle.air_log.specs.Devices.{Device, Listening, Ordered, event, obeyed, silenced, tunes, listens_to}
-use Rattle.air_log.specs.Trails.{Reception, setup_of, run_end, frame_start, lines_at, ending_at, scripted, heard, ended_by, ended, is_due, alarmed, before_alarms, before_start, begun_by, starts, before_tick}
+use Rattle.air_log.specs.Trails.{Reception, setup_of, run_end, frame_start, scripted, heard, ended_by, ended, is_due, alarmed, begun_by, starts, before_tick}
 use Rattle.air_log.specs.QuietTicks.{IsQuiet, ends_at, starts_at}
 use Rattle.air_log.specs.Ahead.{IsAhead, NextDue}
 use Rattle.air_log.proofs.Elements.{contains_head, contains_tail}
@@ -147,7 +145,7 @@ module _ (s : ScenarioParts) (v : ℕ) (clock : ℕ → ℕ) (hs : List Receptio
   is_ahead t within = let a = ahead_at t within in record { alarm = a.0; ordered = a.1; sending = a.2 }
 
 -- nothing passes a test that fails everywhere
-none_passes : {X : Type 0} (p : X → Bool) (xs : List X) → ((x : X) → Contains xs x → p x ≡ true → ⊥) → filter p xs ≡ []
+pub none_passes : {X : Type 0} (p : X → Bool) (xs : List X) → ((x : X) → Contains xs x → p x ≡ true → ⊥) → filter p xs ≡ []
 none_passes p [] none = refl
 none_passes {X} p (x ∷ xs) none = by_test (p x) refl (none_passes p xs (λ y there. none y (contains_tail x xs y there)))
   where

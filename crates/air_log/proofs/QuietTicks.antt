@@ -3,8 +3,8 @@ use Rattle.std.proofs.Common.{◌≡◌, ℕ, zero, suc, ◌+◌, ◌<◌, ◌�
 use Rattle.radio_model.specs.declared.sending.Sending.{Sending}
 use Rattle.scenario_text.specs.ScenarioParts.{ScenarioParts}
 use Rattle.bus_rules.specs.Cores.{Setup}
-use Rattle.air_log.specs.Devices.{Device, Ordered}
-use Rattle.air_log.specs.Trails.{Reception, setup_of, lines_at, ending_at, ended_by, begun_by, alarms, is_due, before_start, begun, tick, before_tick}
+use Rattle.air_log.specs.Devices.{Device, Ordered, silenced}
+use Rattle.air_log.specs.Trails.{Reception, setup_of, ending_at, ended_by, begun_by, alarms, is_due, before_start, begun, tick, before_tick, run_end, trail}
 use Rattle.air_log.specs.QuietTicks.{IsQuiet, ends_at, starts_at, ends_before}
 
 no_end : (clock : ℕ → ℕ) (s : Setup) (t : ℕ) (d : Device) (x : Option Sending) → ends_at t x ≡ false → ended_by clock s t d x ≡ d
@@ -90,3 +90,6 @@ module _ (s : ScenarioParts) (v : ℕ) (clock : ℕ → ℕ) where
   prefix_in gs hs t same =
       ap (before_start s v clock gs t) (prefix gs hs t (same_earlier gs hs t same))
       ∙ same_start gs hs t (before_tick s v clock hs t) (same_now gs hs t same)
+
+  pub prefix_run : (gs hs : List Reception) → filter (ends_before (run_end s)) gs ≡ filter (ends_before (run_end s)) hs → trail s v clock gs ≡ trail s v clock hs
+  prefix_run gs hs same = ap (silenced v (run_end s)) (prefix gs hs (run_end s) same)

@@ -1,5 +1,5 @@
 -- Cores whose plan has few slots and whose table ascends stay so.
-use Rattle.std.proofs.Common.{◌≡◌, ℕ, ◌+◌, ◌≤◌, Bool, true, false, ◌==◌, ◌&&◌, nat_lt, length, List, Option, Some, None, refl, sym, ◌∙◌, ap, arith, option_and_then}
+use Rattle.std.proofs.Common.{◌≡◌, ℕ, ◌≤◌, Bool, true, ◌==◌, List, Option, Some, None, refl, arith, option_and_then}
 use Rattle.std.proofs.lemmas.Bool.{cond_both}
 use Rattle.lwb_base.specs.Profile.{Numbers}
 use Rattle.lwb_base.specs.Messages.{Schedule}

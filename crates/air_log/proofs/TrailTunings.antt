@@ -1,5 +1,5 @@
 -- The tunings of a trail: none is empty, they do not overlap, and two of one rank do not meet.
-use Rattle.std.proofs.Common.{◌≡◌, ℕ, zero, suc, ◌+◌, ◌<◌, ◌≤◌, List, [], ◌∷◌, Bool, true, false, ◌==◌, ◌&&◌, nat_lt, Some, None, Option, refl, sym, ◌∙◌, ap, arith, All, AllPairs, ltb-true, eqb-true, subst}
+use Rattle.std.proofs.Common.{◌≡◌, ℕ, zero, suc, ◌<◌, ◌≤◌, List, [], ◌∷◌, Bool, true, false, ◌==◌, ◌&&◌, nat_lt, Some, None, Option, refl, sym, ◌∙◌, arith, All, AllPairs, ltb-true, eqb-true, subst}
 use Rattle.std.proofs.lemmas.Bool.{cond_both, and_parts, eq-eqb, eqb-false, true≢false}
 use Rattle.std.proofs.lemmas.List.Elements.{All-cons, All-nil}
 use Rattle.std.proofs.lemmas.List.Kept.{AllPairs-cons}

@@ -1,5 +1,5 @@
 -- Which logs are lawful: nodes do what they heard calls for, and they hear what was sent.
-use Rattle.std.specs.Prelude.{◌≢◌, ℕ, ◌<◌, ◌↔◌, List, [], ◌∷◌, Bool, ◌&&◌, ◌||◌, ◌==◌, nat_lt, if◌then◌else◌, filter, map, IsPermutation, AllPairs}
+use Rattle.std.specs.Prelude.{◌≡◌, ◌≢◌, ℕ, ◌<◌, ◌↔◌, List, [], ◌∷◌, Bool, false, ◌&&◌, ◌||◌, ◌==◌, nat_lt, if◌then◌else◌, filter, map, IsPermutation, AllPairs}
 use Rattle.scenario_text.specs.ScenarioParts.{ScenarioParts}
 use Rattle.scenario_text.specs.FloodParts.{knows}
 use Rattle.radio_model.specs.declared.sending.Sending.{Sending}
@@ -24,12 +24,19 @@ abbrev pub by_end : List Hearing → List Hearing
 by_end [] = []
 by_end (h ∷ hs) = put_in h (by_end hs)
 
+-- none comes before one that stands before it
+abbrev pub AreInTurn : List Hearing → Type 0
+AreInTurn hs = AllPairs (λ g h. comes_before h g ≡ false) hs
+
 abbrev pub reception_of : Hearing → Reception
 reception_of h = record { packet = h.sending.packet; end = h.sending.end }
 
--- what v heard, in the order in which its trail takes it
+-- what v heard, as it stands in the air, and in the order in which its trail takes it
+abbrev pub hearings_by : List Entry → ℕ → List Hearing
+hearings_by air v = filter (λ h. h.node == v) (hearings_of air)
+
 abbrev pub heard_by : List Entry → ℕ → List Reception
-heard_by air v = map reception_of (by_end (filter (λ h. h.node == v) (hearings_of air)))
+heard_by air v = map reception_of (by_end (hearings_by air v))
 
 abbrev pub sent_by : List Entry → ℕ → List Sending
 sent_by air v = filter (λ x. x.node == v) (sendings_of air)

@@ -11,6 +11,7 @@ pub mod Trails
 pub mod QuietTicks
 pub mod AlarmRuns
 pub mod Ahead
+pub mod FirstRound
 pub mod TrailEntries
 pub mod Charges
 pub mod Lawful

@@ -1,13 +1,20 @@
 //! Laws of the trails of nodes, each a function that does nothing and has the law as its contract.
 
-ghost use Rattle.std.specs.Prelude.{◌≡◌, ℕ, suc, ◌<◌, ◌≤◌, List, filter, All, AllPairs};
+ghost use Rattle.std.specs.Prelude.{◌≡◌, ℕ, suc, ◌<◌, ◌≤◌, List, [], ◌∷◌, ◌++◌, filter, map, All, AllPairs};
 ghost use Rattle.scenario_text.specs.ScenarioParts.{ScenarioParts};
 ghost use Rattle.scenario_text.specs.ScenarioFacts.{IsSoundScenario};
 ghost use Rattle.tick_clock.specs.Clocks.{IsClock};
 ghost use Rattle.air_log.specs.AlarmRuns.{IsAlarmRun};
-ghost use Rattle.air_log.specs.Trails.{Reception, setup_of, run_end, before_alarms, before_start, before_tick, trail};
+ghost use Rattle.air_log.specs.Trails.{Reception, hears, heard, setup_of, run_end, before_alarms, before_start, before_tick, trail};
 ghost use Rattle.air_log.specs.QuietTicks.{IsQuiet, ends_before};
 ghost use Rattle.air_log.specs.Ahead.{IsAhead, NextDue};
+ghost use Rattle.air_log.specs.FirstRound.{IsWorked, first_round, first_round_log, heard_by_host, heard_by_other, sent_by_host, sent_by_other, tuned_by_host, tuned_by_other};
+ghost use Rattle.air_log.specs.TwoNodeLog.{true_time};
+ghost use Rattle.bus_rules.specs.declared.tune.Tune.TheVariants.{Hold, Host};
+ghost use Rattle.air_log.specs.declared.entry.Entry.{Entry};
+ghost use Rattle.air_log.specs.Lawful.{Lawful, AreInTurn, reception_of, hearings_by, heard_by};
+ghost use Rattle.bus_rules.specs.Cores.{Setup};
+ghost use Rattle.air_log.specs.Devices.{Device};
 ghost use Rattle.air_log.specs.TrailEntries.{IsSentBefore, IsTunedBy, StartsBefore, FollowsOn};
 
 /// While nothing is due at a node, it stays as it is.
@@ -18,7 +25,7 @@ pub fn quiet_ticks_change_nothing()
 {}
 
 /// What a node does before a tick hangs on the hearings alone that ended before it, and what it does at a tick before a
-/// sending starts on those that ended by then.
+/// sending starts on those that ended by then. So no hearing counts that ends with the run or after it.
 pub fn later_hearings_change_nothing_before()
     ensures before { (s : ScenarioParts) (v : ℕ) (clock : ℕ → ℕ) (gs hs : List Reception) (t : ℕ)
         → filter (ends_before t) gs ≡ filter (ends_before t) hs
@@ -26,13 +33,33 @@ pub fn later_hearings_change_nothing_before()
     ensures within { (s : ScenarioParts) (v : ℕ) (clock : ℕ → ℕ) (gs hs : List Reception) (t : ℕ)
         → filter (ends_before (suc t)) gs ≡ filter (ends_before (suc t)) hs
         → before_start s v clock gs t (before_tick s v clock gs t) ≡ before_start s v clock hs t (before_tick s v clock hs t) }
+    ensures run { (s : ScenarioParts) (v : ℕ) (clock : ℕ → ℕ) (gs hs : List Reception)
+        → filter (ends_before (run_end s)) gs ≡ filter (ends_before (run_end s)) hs
+        → trail s v clock gs ≡ trail s v clock hs }
 {}
 
-/// Alarms of a tick come to an end, whatever a node hears: they are due one after another, until none is.
+/// Hearings that stand in the air by end and sender are taken by the trail of their node as they stand.
+pub fn hearings_in_turn_are_taken_as_they_stand()
+    ensures { (air : List Entry) (v : ℕ) → AreInTurn (hearings_by air v)
+        → heard_by air v ≡ map reception_of (hearings_by air v) }
+{}
+
+/// Alarms of a tick come to an end, whatever a node hears: they are due one after another, until none is. So whoever takes
+/// them one after another until none is due comes to the same.
 pub fn alarms_of_a_tick_end()
-    ensures { (s : ScenarioParts) (v : ℕ) (clock : ℕ → ℕ) (hs : List Reception) (t : ℕ)
+    ensures end { (s : ScenarioParts) (v : ℕ) (clock : ℕ → ℕ) (hs : List Reception) (t : ℕ)
         → IsSoundScenario s → IsClock clock → t ≤ run_end s
         → IsAlarmRun clock (setup_of s v) t (before_alarms s v clock hs t (before_tick s v clock hs t)) (before_start s v clock hs t (before_tick s v clock hs t)) }
+    ensures agree { (clock : ℕ → ℕ) (s : Setup) (t : ℕ) (d e f : Device)
+        → IsAlarmRun clock s t d e → IsAlarmRun clock s t d f → e ≡ f }
+{}
+
+/// A hearing more, which stands behind the others, changes nothing before it ends, and at its end it is taken last.
+pub fn hearings_come_one_by_one()
+    ensures before { (s : ScenarioParts) (v : ℕ) (clock : ℕ → ℕ) (hs : List Reception) (h : Reception) (t : ℕ) → t ≤ h.end
+        → before_tick s v clock (hs ++ h ∷ []) t ≡ before_tick s v clock hs t }
+    ensures now { (clock : ℕ → ℕ) (s : Setup) (t : ℕ) (hs : List Reception) (h : Reception) (d : Device) → h.end ≡ t
+        → heard clock s t (hs ++ h ∷ []) d ≡ hears clock s t (heard clock s t hs d) h }
 {}
 
 /// What is set at a node lies ahead, and until the next of it, the next end of a hearing and the next script line the node
@@ -57,4 +84,15 @@ pub fn entries_of_a_trail_differ()
         → AllPairs FollowsOn (trail s v clock hs).made.tuned }
     ensures each_tuned { (s : ScenarioParts) (v : ℕ) (clock : ℕ → ℕ) (hs : List Reception)
         → All (IsTunedBy v (run_end s)) (trail s v clock hs).made.tuned }
+{}
+
+/// Worked by hand: the trails of a host and of another node through their first round.
+pub fn trails_of_a_first_round()
+    ensures host { IsWorked first_round (trail first_round 1 (true_time 1) heard_by_host) sent_by_host tuned_by_host 2494336 (Host 0 9) }
+    ensures other { IsWorked first_round (trail first_round 2 (true_time 2) heard_by_other) sent_by_other tuned_by_other 2344320 (Hold 0 9) }
+{}
+
+/// The log of these two trails, worked by hand, is lawful.
+pub fn the_log_of_a_first_round_is_lawful()
+    ensures { Lawful first_round true_time first_round_log }
 {}
