@@ -1,5 +1,5 @@
 -- Who hears in small cases that can be worked out by hand: nodes 1 and 2 have links to node 3.
-use Rattle.std.proofs.Common.{◌≡◌, ℕ, ◌+◌, List, [], ◌∷◌, Option, Some, None, refl}
+use Rattle.std.proofs.Common.{◌≡◌, ℕ, List, [], ◌∷◌, Option, Some, None, refl}
 use Rattle.lwb_base.specs.Profile.{one}
 use Rattle.link_trace.specs.Passes.{Lines}
 use Rattle.link_trace.specs.declared.lines.CaptureLine.{CaptureLine}

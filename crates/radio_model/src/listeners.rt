@@ -3,15 +3,16 @@ ghost use Rattle.radio_model.specs.Stations.{node_of};
 ghost use Rattle.radio_model.specs.Meetings.{key_of, is_heard, hearers_to, IsPlaced, rivals_to};
 
 use crate::hearers::Hearers;
-use crate::rivals::{Crowd, Key, Rival, crowd_at, has_bit, is_chosen, mask_of, rivals_of};
+use crate::rivals::{Crowd, Key, Rival, crowd_at, has_bit, is_chosen, mask_of};
 use crate::sending::Sending;
 use crate::station::Station;
 use link_trace::Links;
 use lwb_base::Profile;
 
-/// Who hears x, the sending of the station `from`, now that it ends.
+/// Who hears x, the sending of the station `from`, now that it ends. The rivals are all that overlaps x on its channel.
 pub fn listeners<M: Links>(
     links: &M,
+    rivals: &[Rival],
     profile: &Profile,
     stations: &[Station],
     from: &Station,
@@ -23,15 +24,15 @@ pub fn listeners<M: Links>(
     requires kept { All (λ st. st.ended.capacity ≡ 13) stations.now }
     requires seal { (M.nodes links.now) ≡ map node_of stations.now }
     requires places { All (λ st. IsPlaced (M.nodes links.now) st.place st.node) stations.now }
-    requires rivals { All (λ r. IsPlaced (M.nodes links.now) r.place r.node) (rivals_to profile.now x.now stations.now) }
+    requires rivals { rivals.now ≡ rivals_to profile.now x.now stations.now }
+    requires placed { All (λ r. IsPlaced (M.nodes links.now) r.place r.node) rivals.now }
     requires from { IsPlaced (M.nodes links.now) from.now.place from.now.node }
     ensures { result ≡ hearers_to profile.now (M.lines links.now) from.now.node x.now stations.now }
 {
-    let rivals = rivals_of(profile, stations, x);
     let key = Key::of(profile, x);
     let mut hearers = Hearers::none();
     for at in stations {
-        if hears(links, rivals.as_slice(), at, from, x, key) {
+        if hears(links, rivals, at, from, x, key) {
             hearers.push(at.node, from.node);
         }
     }

@@ -1,4 +1,4 @@
-ghost use Rattle.std.specs.Prelude.{◌≡◌, ◌≤◌, ◌<◌, ◌^◌, ◌∷◌, [], ℕ, IfOk, IfSome, IsSomeAnd, All, AllPairs, Contains, ◌↔◌, length, map, slice_index, slice_index_or, Some};
+ghost use Rattle.std.specs.Prelude.{◌≡◌, ◌≤◌, ◌<◌, ◌^◌, ◌∷◌, [], ℕ, IfOk, IfSome, IsSomeAnd, All, AllPairs, Contains, ◌↔◌, length, map, slice_index, slice_index_or, Some, vec_capacity};
 ghost use Rattle.std.specs.List.{HoldsAt};
 ghost use Rattle.lwb_base.specs.Profile.{Numbers};
 ghost use Rattle.link_trace.specs.Masks.{AreNodes};
@@ -12,6 +12,7 @@ ghost use Rattle.radio_model.specs.declared.station.Station.{Station};
 
 use crate::hearers::Hearers;
 use crate::listeners::listeners;
+use crate::rivals::{MOST_RIVALS, Rival, find_rivals};
 use crate::station::Station;
 use link_trace::Links;
 use lwb_base::{Memory, NodeId, Packet, Profile, Rank};
@@ -27,16 +28,19 @@ pub struct Medium {
     profile: Profile,
     time: u64,
     stations: Vec<Station>,
+    // What overlapped the sending that ended last. Nothing is read of it; only its room is kept, and filled anew.
+    rivals: Vec<Rival>,
 }
 
 impl Model for Medium {
+    ghost use Rattle.std.specs.Prelude.{◌≤◌, vec_capacity};
     ghost use Rattle.radio_model.specs.Stations.{MediumState, IsMedium};
 
     ghost Value = { MediumState };
 
     ghost view = { λ m. record { numbers = m.profile; now = m.time; stations = m.stations.items } };
 
-    ghost invariant = { λ m. IsMedium (record { numbers = m.profile; now = m.time; stations = m.stations.items }) };
+    ghost invariant = { λ m. IsMedium (record { numbers = m.profile; now = m.time; stations = m.stations.items }) × (896 ≤ vec_capacity m.rivals) };
 }
 
 impl Medium {
@@ -49,10 +53,14 @@ impl Medium {
     {
         let _made = profile.contend();
         let stations = new_stations(alloc, nodes)?;
+        let Ok(rivals) = Vec::with_capacity(alloc, MOST_RIVALS) else {
+            return Err(Memory);
+        };
         Ok(Medium {
             profile: *profile,
             time: 0,
             stations,
+            rivals,
         })
     }
 
@@ -111,22 +119,30 @@ impl Medium {
     }
 
     // Who hears the node's sending, which ends at t, as it is worked out from what is kept.
-    fn hearers<M: Links>(&self, links: &M, node: NodeId, t: u64) -> Hearers
-        requires node { Contains (nodes_of self.now) node }
+    fn hearers<M: Links>(&mut self, links: &M, node: NodeId, t: u64) -> Hearers
+        requires node { Contains (nodes_of self.old) node }
         requires small { t ≤ 2 ^ 46 }
-        requires sends { Ends self.now node t }
-        requires seal { M.nodes links.now ≡ nodes_of self.now }
-        ensures list { IfSome (sending_of (station_of self.now node)) (λ x. result
-            ≡ hearers_to self.now.numbers (M.lines links.now) node x self.now.stations) }
-        ensures kept { IsMedium self.now }
+        requires sends { Ends self.old node t }
+        requires seal { M.nodes links.now ≡ nodes_of self.old }
+        ensures list { IfSome (sending_of (station_of self.old node)) (λ x. result
+            ≡ hearers_to self.old.numbers (M.lines links.now) node x self.old.stations) }
+        ensures kept { IsMedium self.old }
+        ensures same { self.new ≡ self.old }
     {
         let place = place_of(&self.stations, node);
-        listeners_at(links, &self.profile, &self.stations, place)
+        listeners_at(
+            &mut self.rivals,
+            links,
+            &self.profile,
+            &self.stations,
+            place,
+        )
     }
 }
 
 // Who hears the sending of the station at that place, now that it ends.
 fn listeners_at<M: Links>(
+    rivals: &mut Vec<Rival>,
     links: &M,
     profile: &Profile,
     stations: &[Station],
@@ -138,11 +154,16 @@ fn listeners_at<M: Links>(
     requires kept { All (λ st. st.ended.capacity ≡ 13) stations.now }
     requires seal { M.nodes links.now ≡ map node_of stations.now }
     requires places { All (λ st. IsPlaced (M.nodes links.now) st.place st.node) stations.now }
-    ensures { (d : Station) → IfSome (slice_index_or stations.now place d).sending (λ x. result ≡ hearers_to profile.now (M.lines links.now) (slice_index_or stations.now place d).node x stations.now) }
+    requires room { 896 ≤ vec_capacity rivals.old }
+    ensures list { (d : Station) → IfSome (slice_index_or stations.now place d).sending (λ x. result ≡ hearers_to profile.now (M.lines links.now) (slice_index_or stations.now place d).node x stations.now) }
+    ensures room { 896 ≤ vec_capacity rivals.new }
 {
     let from = &stations[place];
     match &from.sending {
-        Some(x) => listeners(links, profile, stations, from, x),
+        Some(x) => {
+            find_rivals(rivals, profile, stations, x);
+            listeners(links, rivals, profile, stations, from, x)
+        }
         None => unreachable!(),
     }
 }

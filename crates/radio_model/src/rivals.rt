@@ -1,16 +1,17 @@
-ghost use Rattle.std.specs.Prelude.{◌≡◌, ◌≤◌, ◌+◌, ◌/◌, ◌<◌, ◌^◌, ◌++◌, [], List, length, option_to_list, All, slice_index_or, ◌==◌};
+ghost use Rattle.std.specs.Prelude.{◌≡◌, ◌≤◌, ◌+◌, ◌/◌, ◌<◌, ◌^◌, ◌++◌, [], List, length, option_to_list, All, slice_index_or, vec_len, vec_capacity, ◌==◌};
 ghost use Rattle.std.specs.List.{list_any};
 ghost use Rattle.std.specs.Int.{bit_at};
 ghost use Rattle.link_trace.specs.Passes.{captured};
-ghost use Rattle.arrayvec.specs.ArrayVec.{array_vec_len};
 ghost use Rattle.radio_model.specs.Stations.{on_air, overlaps};
 ghost use Rattle.radio_model.specs.Meetings.{key_of, rival_to as rival_by, rivals_in, rivals_to, reaches, spoils, differs, comes_from, crowd_of, is_chosen as chosen_by, passes_at, IsPlaced, IsMaskOf};
 
 use crate::sending::Sending;
 use crate::station::{Station, overlap};
-use arrayvec::ArrayVec;
 use link_trace::Links;
 use lwb_base::{NodeId, Profile};
+
+/// So many overlap one sending at most: of each of 64 nodes the 13 ended sendings that are kept, and the one it sends.
+pub const MOST_RIVALS: usize = 896;
 
 /// Where a sending stands in a trace: the frame of its start, and the slot and the counter of its packet.
 #[derive(Clone, Copy, PartialEq, Eq)]
@@ -29,22 +30,6 @@ pub struct Rival {
     pub key: Key,
     pub same: bool,
     pub in_time: bool,
-}
-
-impl Default for Rival {
-    fn default() -> Rival {
-        Rival {
-            place: 0,
-            node: NodeId::new(1).unwrap(),
-            key: Key {
-                frame: 0,
-                slot: 0,
-                counter: 0,
-            },
-            same: false,
-            in_time: false,
-        }
-    }
 }
 
 /// What comes to a node while a sending does: the same packet alone, other packets too, or the same packet out of
@@ -90,13 +75,14 @@ fn rival_to(profile: &Profile, station: &Station, x: &Sending, y: &Sending) -> O
     })
 }
 
-fn push_some(rivals: &mut ArrayVec<Rival, 896>, rival: Option<Rival>)
-    requires { array_vec_len rivals.old < 896 }
+fn push_some(rivals: &mut Vec<Rival>, rival: Option<Rival>)
+    requires { vec_len rivals.old < vec_capacity rivals.old }
     ensures items { rivals.new.items ≡ rivals.old.items ++ option_to_list rival }
-    ensures length { array_vec_len rivals.new ≤ array_vec_len rivals.old + 1 }
+    ensures length { vec_len rivals.new ≤ vec_len rivals.old + 1 }
+    ensures capacity { vec_capacity rivals.old ≤ vec_capacity rivals.new }
 {
     if let Some(rival) = rival {
-        rivals.push(rival);
+        rivals.push_reserved(rival);
     }
 }
 
@@ -107,13 +93,14 @@ fn ended_at(station: &Station, i: usize) -> &Sending
     station.ended.get(i).unwrap()
 }
 
-fn add_rivals(rivals: &mut ArrayVec<Rival, 896>, profile: &Profile, station: &Station, x: &Sending)
+fn add_rivals(rivals: &mut Vec<Rival>, profile: &Profile, station: &Station, x: &Sending)
     requires start { x.now.start ≤ 2 ^ 46 }
     requires end { x.now.end ≤ 2 ^ 46 }
     requires kept { station.now.ended.capacity ≡ 13 }
-    requires room { array_vec_len rivals.old + 14 ≤ 896 }
+    requires room { vec_len rivals.old + 14 ≤ vec_capacity rivals.old }
     ensures items { rivals.new.items ≡ rivals.old.items ++ rivals_in profile.now x.now station.now }
-    ensures length { array_vec_len rivals.new ≤ array_vec_len rivals.old + 14 }
+    ensures length { vec_len rivals.new ≤ vec_len rivals.old + 14 }
+    ensures capacity { vec_capacity rivals.old ≤ vec_capacity rivals.new }
 {
     for i in 0..station.ended.len() {
         let y = ended_at(station, i);
@@ -124,19 +111,21 @@ fn add_rivals(rivals: &mut ArrayVec<Rival, 896>, profile: &Profile, station: &St
     }
 }
 
-/// All that overlaps x on its channel, x among it.
-pub fn rivals_of(profile: &Profile, stations: &[Station], x: &Sending) -> ArrayVec<Rival, 896>
+/// Puts all that overlaps x on its channel, x among it, in the place of what `rivals` had. It has room for all, so
+/// no memory is taken.
+pub fn find_rivals(rivals: &mut Vec<Rival>, profile: &Profile, stations: &[Station], x: &Sending)
     requires start { x.now.start ≤ 2 ^ 46 }
     requires end { x.now.end ≤ 2 ^ 46 }
     requires few { length stations.now ≤ 64 }
     requires kept { All (λ st. st.ended.capacity ≡ 13) stations.now }
-    ensures { result.items ≡ rivals_to profile.now x.now stations.now }
+    requires room { 896 ≤ vec_capacity rivals.old }
+    ensures items { rivals.new.items ≡ rivals_to profile.now x.now stations.now }
+    ensures room { 896 ≤ vec_capacity rivals.new }
 {
-    let mut rivals = ArrayVec::new();
+    rivals.clear();
     for station in stations {
-        add_rivals(&mut rivals, profile, station, x);
+        add_rivals(rivals, profile, station, x);
     }
-    rivals
 }
 
 /// Whether the bit of that place is set.

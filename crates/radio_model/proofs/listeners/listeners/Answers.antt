@@ -16,7 +16,7 @@ loop-at-preserved g c =
     let rs = rivals_to c.args.profile.now x sts in
     let at = c.at-item.result in
     let test : c.hears.result ≡ is_heard lines u x key rs at =
-    c.hears.ensures ∙ ap (λ (k : _). is_heard lines u x k c.as_slice.result.now at) c.of-key.ensures ∙ ap (λ (l : _). is_heard lines u x key l at) (c.as_slice.ensures.value ∙ c.rivals_of-rivals.ensures) in
+    c.hears.ensures ∙ ap (λ (k : _). is_heard lines u x k c.args.rivals.now at) c.of-key.ensures ∙ ap (λ (l : _). is_heard lines u x key l at) c.requires.rivals in
     let added : c.if-hears.hearers ≡ (if c.hears.result then c.loop-at.hearers ++ (at.node, u) ∷ [] else c.loop-at.hearers) =
     elim c.if-hears.branch [
       | then-hears w ↦ w.hearers-is ∙ w.push.ensures ∙ sym (cond-true _ _ _ w.if-hears.true)

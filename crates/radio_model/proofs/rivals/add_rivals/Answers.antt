@@ -11,6 +11,7 @@ loop-i-preserved c =
           (omega arith) c.ended_at-y.ensures c.loop-i.invariant.items
           (c.push_some.ensures.items ∙ ap (λ (o : _). c.loop-i.rivals.items ++ option_to_list o) c.rival_to.ensures);
       few = omega arith;
+      capacity = omega arith;
       within = c.loop-i.invariant.within;
       room = c.loop-i.invariant.room;
     }

@@ -12,15 +12,15 @@ invariant_of-self g c =
     let m : MediumState = record { numbers = c.self.inside.profile; now = c.self.inside.time; stations = c.self.inside.stations.items } in
     let old = c.index_mut-station.result.now in
     let at = placed m.stations c.deref.result.now c.place_of-place.result c.args.node old c.deref.ensures.value c.place_of-place.ensures.below c.place_of-place.ensures.there c.index_mut-station.ensures.value in
-    after_medium m c.self.invariant finished finished_keeps c.args.node c.args.t c.place_of-place.result old c.finish.new.self at.0 c.index_mut-station.ensures.value at.1 c.finish.ensures
+    (after_medium m c.self.invariant.0 finished finished_keeps c.args.node c.args.t c.place_of-place.result old c.finish.new.self at.0 c.index_mut-station.ensures.value at.1 c.finish.ensures, c.self.invariant.1)
 
 pub returns-clause-state : goal.returns-clause-state
 returns-clause-state g c =
     let m : MediumState = record { numbers = c.self.inside.profile; now = c.self.inside.time; stations = c.self.inside.stations.items } in
     let old = c.index_mut-station.result.now in
     let at = placed m.stations c.deref.result.now c.place_of-place.result c.args.node old c.deref.ensures.value c.place_of-place.ensures.below c.place_of-place.ensures.there c.index_mut-station.ensures.value in
-    after_is m c.self.invariant finished finished_keeps c.args.node c.args.t c.place_of-place.result old c.finish.new.self at.0 c.index_mut-station.ensures.value at.1 c.finish.ensures
-    ∙ ap (after c.args.t c.args.node finished) c.self.view_is
+    after_is m c.self.invariant.0 finished finished_keeps c.args.node c.args.t c.place_of-place.result old c.finish.new.self at.0 c.index_mut-station.ensures.value at.1 c.finish.ensures
+    ∙ ap (after c.args.t c.args.node finished) (c.self.view_is ∙ c.hearers-hearers.ensures.same)
 
 pub returns-clause-hearers : goal.returns-clause-hearers
 returns-clause-hearers g c =
@@ -39,6 +39,6 @@ pub returns-clause-holds : goal.returns-clause-holds
 returns-clause-holds g c =
     λ a h.
     let m = c.args.self.now in
-    let is : IsMedium m = subst IsMedium c.self.view_is c.self.invariant in
+    let is : IsMedium m = c.hearers-hearers.ensures.kept in
     subst (λ (s : MediumState). Holds s a) (sym (returns-clause-state g c))
     (holds_after_ending m is a h c.args.node c.args.t c.requires.time.later c.requires.sends)

@@ -15,7 +15,7 @@ listeners_at-requires-clause-sends g c =
     (same_at m.stations i d (get_or m.stations i d) (omega (arith, ap length c.deref.ensures.value, c.place_of-place.ensures.below))) in
     let ends : Ends m c.args.node c.args.t = subst (λ (s : MediumState). Ends s c.args.node c.args.t) (sym c.self.view_is) c.requires.sends in
     subst (λ (l : List Station). IsSomeAnd (get_or l i d).sending (λ x. (x.start ≤ 2 ^ 46) × (x.end ≤ 2 ^ 46))) (sym c.deref-2.ensures.value)
-    (runs_there m c.self.invariant.nodes.ascending c.args.node i d at.0 at.1 c.args.t c.requires.small ends)
+    (runs_there m c.self.invariant.0.nodes.ascending c.args.node i d at.0 at.1 c.args.t c.requires.small ends)
 
 pub returns-clause-list : goal.returns-clause-list
 returns-clause-list g c =
@@ -29,5 +29,5 @@ returns-clause-list g c =
     let at = placed m.stations c.deref.result.now i c.args.node old c.deref.ensures.value c.place_of-place.ensures.below c.place_of-place.ensures.there (same_at m.stations i d old below) in
     let node : old.node ≡ c.args.node = at.1 in
     subst (λ (s : MediumState). IfSome (sending_of (station_of s c.args.node)) (λ x. heard ≡ hearers_to s.numbers lines c.args.node x s.stations)) c.self.view_is
-    (hearers_there m c.self.invariant.nodes.ascending c.args.node i d at.0 node lines heard
-    (subst (λ (l : List Station). IfSome (get_or l i d).sending (λ x. heard ≡ hearers_to m.numbers lines (get_or l i d).node x l)) c.deref-2.ensures.value (c.listeners_at.ensures d)))
+    (hearers_there m c.self.invariant.0.nodes.ascending c.args.node i d at.0 node lines heard
+    (subst (λ (l : List Station). IfSome (get_or l i d).sending (λ x. heard ≡ hearers_to m.numbers lines (get_or l i d).node x l)) c.deref-2.ensures.value (c.listeners_at.ensures.list d)))
