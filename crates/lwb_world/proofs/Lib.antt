@@ -37,3 +37,5 @@ pub mod FloodMeasure
 pub mod FloodSteps
 pub mod FloodLoop
 pub mod ClosingLoop
+pub mod KeptBoots
+pub mod DeviceEvents
