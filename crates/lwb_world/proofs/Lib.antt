@@ -39,3 +39,4 @@ pub mod FloodLoop
 pub mod ClosingLoop
 pub mod KeptBoots
 pub mod DeviceEvents
+pub mod TimelyOrders

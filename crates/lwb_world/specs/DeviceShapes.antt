@@ -1,5 +1,5 @@
 -- What holds of a device at all times, and what it is seen as.
-use Rattle.std.specs.Prelude.{◌≡◌, ℕ, Bool, true, false}
+use Rattle.std.specs.Prelude.{◌≡◌, ℕ, ◌^◌, ◌<◌, Bool, true, false}
 use Rattle.std.specs.declared.option.Option.{Option}
 use Rattle.lwb_base.specs.Profile.{Numbers}
 use Rattle.node_core.specs.Nodes.{NodeState, Node}
@@ -15,4 +15,5 @@ pub record IsDevice (node : ℕ) (profile : Numbers) (core : NodeState) (on : Bo
   pub id : node ≡ core.setup.id
   pub numbers : profile ≡ core.setup.profile
   pub boot : on ≡ true → core.node.core.boot ≡ boots
+  pub early : core.node.zero < 2 ^ 47
   pub kept : IsKeptBack closed listening

@@ -1,12 +1,12 @@
 //! The parts of a tick at a device.
 
-ghost use Rattle.std.specs.Prelude.{◌≡◌, ◌≤◌, ◌^◌, ℕ, Some, None, is_some, Option, if◌then◌else◌, fold};
+ghost use Rattle.std.specs.Prelude.{◌≡◌, ◌≤◌, ◌^◌, ℕ, Some, None, is_some, Option, All, if◌then◌else◌, fold};
 ghost use Rattle.radio_model.specs.declared.sending.Sending.{Sending};
 ghost use Rattle.node_core.specs.Runs.{orders_by};
 ghost use Rattle.node_core.specs.Standing.{Gives};
 ghost use Rattle.air_log.specs.Devices.{Made, obeyed, event as event_at};
 ghost use Rattle.air_log.specs.Trails.{is_due, begun, ended};
-ghost use Rattle.lwb_world.specs.WorldDevices.{whole, IsSameNode, row_of, after_row, made_by, with_sent, packet_due, ending_at, told_of, HappenedBy};
+ghost use Rattle.lwb_world.specs.WorldDevices.{whole, IsSameNode, row_of, after_row, made_by, with_sent, packet_due, ending_at, told_of, HappenedBy, IsTimely};
 
 use crate::device::Device;
 use crate::member::copy_of_packet;
@@ -28,6 +28,7 @@ impl Device {
         requires room { 4 ≤ R.room radio.old }
         ensures after { self.new ≡ after_row self.old (row_of (C.readings clock.now) t event self.old) }
         ensures orders { Gives (R.given radio.old) (R.given radio.new) (R.room radio.old) (R.room radio.new) (orders_by (row_of (C.readings clock.now) t event self.old)) }
+        ensures timely { All IsTimely (orders_by (row_of (C.readings clock.now) t event self.old)) }
         ensures whole { (made : Made) (ended : Option Sending) → event_at (C.readings clock.now) self.old.setup t event ended (whole self.old made) ≡ fold (obeyed (C.readings clock.now) self.old.setup.id t) (whole self.new (made_by t event ended self.old.power (row_of (C.readings clock.now) t event self.old) made)) (orders_by (row_of (C.readings clock.now) t event self.old)) }
         ensures time { (now : ℕ) → HappenedBy now self.old → HappenedBy now self.new }
     {
