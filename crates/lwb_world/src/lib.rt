@@ -18,3 +18,6 @@ mod true_time;
 pub use flood_outcome::outcome_of;
 pub use timed_flood::flood;
 pub use true_time::flood_air;
+
+#[cfg(test)]
+mod tests;
