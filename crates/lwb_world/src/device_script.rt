@@ -19,6 +19,7 @@ impl Device {
         ensures whole { (clock : ℕ → ℕ) (t frame : ℕ) (made : Made) → after_act clock self.old.setup t frame (whole self.old made) On self.old.power ≡ (if result then event clock self.old.setup t Boot None (whole self.new made) else whole self.new made) }
         ensures setup { self.new.setup ≡ self.old.setup }
         ensures delivery { self.new.delivery ≡ (if result then None else self.old.delivery) }
+        ensures time { (now : ℕ) → HappenedBy now self.old → HappenedBy now self.new }
     {
         if self.on {
             return false;
@@ -50,6 +51,7 @@ impl Device {
         requires stream { stream ≤ 3 }
         requires interval { (1 ≤ interval) × (interval ≤ 120) }
         ensures whole { (clock : ℕ → ℕ) (t frame : ℕ) (made : Made) → after_act clock self.old.setup t frame (whole self.old made) (Declare stream interval) self.old.power ≡ whole self.new made }
+        ensures time { (now : ℕ) → HappenedBy now self.old → HappenedBy now self.new }
         ensures node { IsSameNode self.old self.new }
     {
         if self.on {
@@ -61,6 +63,7 @@ impl Device {
     pub(crate) fn leave(&mut self, stream: u8)
         requires { stream ≤ 3 }
         ensures whole { (clock : ℕ → ℕ) (t frame : ℕ) (made : Made) → after_act clock self.old.setup t frame (whole self.old made) (Leave stream) self.old.power ≡ whole self.new made }
+        ensures time { (now : ℕ) → HappenedBy now self.old → HappenedBy now self.new }
         ensures node { IsSameNode self.old self.new }
     {
         if self.on {
@@ -73,6 +76,7 @@ impl Device {
         requires stream { stream ≤ 3 }
         requires payload { length payload.now ≤ self.old.setup.profile.payload_max }
         ensures whole { (clock : ℕ → ℕ) (t frame : ℕ) (made : Made) → after_act clock self.old.setup t frame (whole self.old made) (PutAct stream payload.now) self.old.power ≡ whole self.new (with_drop result (record { frame = frame; node = self.old.setup.id; stream = stream }) made) }
+        ensures time { (now : ℕ) → HappenedBy now self.old → HappenedBy now self.new }
         ensures node { IsSameNode self.old self.new }
     {
         if !self.on {

@@ -64,6 +64,7 @@ impl Device {
     pub(crate) fn begin(&mut self, t: u64) -> Option<Sending>
         requires early { t ≤ 2 ^ 45 }
         ensures whole { (made : Made) → begun self.old.setup t (whole self.old made) ≡ whole self.new (with_sent result made) }
+        ensures time { (now : ℕ) → HappenedBy now self.old → HappenedBy now self.new }
         ensures node { IsSameNode self.old self.new }
     {
         let packet = self.take_ordered(t)?;
