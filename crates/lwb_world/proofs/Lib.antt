@@ -37,3 +37,6 @@ pub mod FloodMeasure
 pub mod FloodSteps
 pub mod FloodLoop
 pub mod ClosingLoop
+pub mod KeptBoots
+pub mod DeviceEvents
+pub mod TimelyOrders

@@ -8,3 +8,5 @@ pub mod ClockLists
 pub mod StatedClocks
 pub mod RunOnAir
 pub mod FloodWorlds
+pub mod WorldDevices
+pub mod DeviceShapes

@@ -3,6 +3,9 @@
 //! Each law is the contract of a function that does nothing.
 #![tactic(auto)]
 
+mod device;
+mod device_script;
+mod device_steps;
 mod flood_beginning;
 pub mod flood_laws;
 pub mod flood_log_laws;
@@ -15,3 +18,6 @@ mod true_time;
 pub use flood_outcome::outcome_of;
 pub use timed_flood::flood;
 pub use true_time::flood_air;
+
+#[cfg(test)]
+mod tests;

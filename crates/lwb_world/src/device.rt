@@ -1,0 +1,216 @@
+//! One node with its radio and its alarm, as the world runs it.
+
+ghost use Rattle.std.specs.Prelude.{◌≡◌, ◌<◌, ◌≤◌, ◌^◌, ℕ, IfOk, IfSome, Some, None, length};
+ghost use Rattle.lwb_base.specs.declared.order.Order.TheVariants.{Listen};
+ghost use Rattle.bus_rules.specs.Cores.{own_rank};
+ghost use Rattle.air_log.specs.Devices.{Made, nothing_made, at_rest, silenced, retuned, obeyed, listens_to};
+ghost use Rattle.lwb_world.specs.WorldDevices.{whole, with_tuned, EndedBefore, HappenedBy, IsSameNode, IsTimely};
+
+use air_log::TunedEntry;
+use lwb_base::{Memory, NodeId, Order, Packet, Profile, Rank};
+use node_core::Node;
+use radio_model::sending::Sending;
+use std::alloc::Global;
+use std::marker::Model;
+use tick_clock::DriftClock;
+
+// The radio is on at the channel of a rank since a tick.
+#[derive(Clone, Copy)]
+pub(crate) struct Listening {
+    pub(crate) rank: Rank,
+    pub(crate) since: u64,
+}
+
+impl Model for Listening {
+    ghost use Rattle.air_log.specs.Devices.{Listening as ListeningOf};
+
+    ghost Value = { ListeningOf };
+
+    ghost view = { λ l. record { rank = l.rank; since = l.since } };
+
+    ghost inverse = { λ l. record { rank = l.rank; since = l.since } };
+}
+
+// A packet that is to be sent at a tick.
+#[derive(Drop)]
+pub(crate) struct Ordered {
+    pub(crate) tick: u64,
+    pub(crate) packet: Packet,
+}
+
+impl Model for Ordered {
+    ghost use Rattle.air_log.specs.Devices.{Ordered as OrderedOf};
+
+    ghost Value = { OrderedOf };
+
+    ghost view = { λ o. record { tick = o.tick; packet = o.packet } };
+
+    ghost inverse = { λ o. record { tick = o.tick; packet = o.packet } };
+}
+
+// A node with its power, its radio, its one alarm, its one ordered sending and its sending that runs. The tuning that ended
+// last is kept back as long as it may go on.
+#[derive(Drop)]
+pub(crate) struct Device {
+    pub(crate) node: NodeId,
+    pub(crate) profile: Profile,
+    pub(crate) core: Node,
+    pub(crate) on: bool,
+    pub(crate) boots: u8,
+    pub(crate) listening: Option<Listening>,
+    pub(crate) closed: Option<TunedEntry>,
+    pub(crate) alarm: Option<u64>,
+    pub(crate) ordered: Option<Ordered>,
+    pub(crate) sending: Option<Sending>,
+}
+
+impl Model for Device {
+    ghost use Rattle.lwb_world.specs.WorldDevices.{DeviceState};
+    ghost use Rattle.lwb_world.specs.DeviceShapes.{IsDevice, power_of};
+
+    ghost Value = { DeviceState };
+
+    ghost view = { λ d. record { setup = d.core.setup; power = power_of d.on d.boots d.core.node; listening = d.listening; closed = d.closed; alarm = d.alarm; ordered = d.ordered; sending = d.sending; delivery = d.core.delivery } };
+
+    ghost invariant = { λ d. IsDevice d.node d.profile d.core d.on d.boots d.closed d.listening };
+}
+
+impl Device {
+    // A device at rest. The hosts are those of the network by rank, and in one flood a node sends at most n times, 1 to 4.
+    pub(crate) fn new(
+        alloc: Global,
+        profile: &Profile,
+        node: NodeId,
+        hosts: &[NodeId],
+        n: u8,
+    ) -> Result<Device, Memory>
+        requires hosts { (1 ≤ length hosts.now) × (length hosts.now ≤ 4) }
+        requires sends { (1 ≤ n) × (n ≤ 4) }
+        ensures setup { IfOk result (λ d. d.setup ≡ record { profile = profile.now; id = node; own = own_rank node hosts.now; ranks = length hosts.now; sends = n }) }
+        ensures rest { IfOk result (λ d. whole d nothing_made ≡ at_rest) }
+        ensures delivery { IfOk result (λ d. d.delivery ≡ None) }
+    {
+        Ok(Device {
+            node,
+            profile: *profile,
+            core: Node::new(alloc, profile, node, hosts, n)?,
+            on: false,
+            boots: 0,
+            listening: None,
+            closed: None,
+            alarm: None,
+            ordered: None,
+            sending: None,
+        })
+    }
+
+    // The tuning that was kept back.
+    pub(crate) fn hand_out(&mut self) -> Option<TunedEntry>
+        ensures whole { (made : Made) → whole self.old made ≡ whole self.new (with_tuned result made) }
+        ensures none { self.new.closed ≡ None }
+        ensures time { (t : ℕ) → HappenedBy t self.old → HappenedBy t self.new }
+        ensures node { IsSameNode self.old self.new }
+    {
+        let closed = self.closed;
+        self.closed = None;
+        closed
+    }
+
+    // An order at tick t. What is handed out is a tuning that cannot go on any more.
+    pub(crate) fn obey<C: DriftClock>(
+        &mut self,
+        clock: &C,
+        t: u64,
+        order: Order,
+    ) -> Option<TunedEntry>
+        requires time { HappenedBy t self.old }
+        requires timely { IsTimely order }
+        ensures whole { (made : Made) → EndedBefore t made.tuned → obeyed (C.readings clock.now) self.old.setup.id t (whole self.old made) order ≡ whole self.new (with_tuned result made) }
+        ensures before { IfSome result (λ e. e.end < t) }
+        ensures time { HappenedBy t self.new }
+        ensures node { IsSameNode self.old self.new }
+    {
+        match order {
+            Order::Listen(rank) => self.listen(rank, t),
+            Order::Off => self.silence(t),
+            Order::SendAt(local, packet) => {
+                let tick = clock.due(local).max(t);
+                self.ordered = Some(Ordered { tick, packet });
+                None
+            }
+            Order::Alarm(local) => {
+                self.alarm = Some(clock.due(local).max(t));
+                None
+            }
+        }
+    }
+
+    // The radio goes on at the channel of a rank, unless it is.
+    pub(crate) fn listen(&mut self, rank: Rank, t: u64) -> Option<TunedEntry>
+        requires time { HappenedBy t self.old }
+        ensures whole { (clock : ℕ → ℕ) (made : Made) → EndedBefore t made.tuned → obeyed clock self.old.setup.id t (whole self.old made) (Listen rank) ≡ whole self.new (with_tuned result made) }
+        ensures before { IfSome result (λ e. e.end < t) }
+        ensures time { HappenedBy t self.new }
+        ensures node { IsSameNode self.old self.new }
+    {
+        if self.listens_to(rank) {
+            return None;
+        }
+        let before = self.silence(t);
+        self.tune(rank, t);
+        before
+    }
+
+    // The radio goes off.
+    pub(crate) fn silence(&mut self, t: u64) -> Option<TunedEntry>
+        ensures whole { (made : Made) → silenced self.old.setup.id t (whole self.old made) ≡ whole self.new (with_tuned result made) }
+        ensures before { IfSome result (λ e. e.end < t) }
+        ensures off { self.new.listening ≡ None }
+        ensures time { HappenedBy t self.old → HappenedBy t self.new }
+        ensures node { IsSameNode self.old self.new }
+    {
+        let Some(listening) = self.listening else {
+            return None;
+        };
+        self.listening = None;
+        if listening.since >= t {
+            return None;
+        }
+        let before = self.closed;
+        self.closed = Some(TunedEntry {
+            rank: listening.rank,
+            node: self.node,
+            start: listening.since,
+            end: t,
+        });
+        before
+    }
+
+    fn listens_to(&self, rank: Rank) -> bool
+        ensures { result ≡ listens_to rank self.now.listening }
+    {
+        match self.listening {
+            Some(listening) => listening.rank == rank,
+            None => false,
+        }
+    }
+
+    // From off. A tuning of the same rank that ended just now goes on.
+    fn tune(&mut self, rank: Rank, t: u64)
+        requires off { self.old.listening ≡ None }
+        requires time { HappenedBy t self.old }
+        ensures whole { (made : Made) → EndedBefore t made.tuned → retuned rank t (whole self.old made) ≡ whole self.new made }
+        ensures time { HappenedBy t self.new }
+        ensures node { IsSameNode self.old self.new }
+    {
+        let closed = self.closed;
+        match closed {
+            Some(last) if last.rank == rank && last.end == t => {
+                self.closed = None;
+                let since = last.start;
+                self.listening = Some(Listening { rank, since });
+            }
+            Some(_) | None => self.listening = Some(Listening { rank, since: t }),
+        }
+    }
+}

@@ -1,0 +1,90 @@
+//! What script lines do to a device.
+
+ghost use Rattle.std.specs.Prelude.{◌≡◌, ◌≤◌, ◌<◌, ℕ, Some, None, IfSome, length, if◌then◌else◌};
+ghost use Rattle.lwb_base.specs.declared.event.Event.TheVariants.{Boot};
+ghost use Rattle.scenario_text.specs.declared.script.Act.TheVariants.{On, Off, Declare, Leave, Put as PutAct};
+ghost use Rattle.air_log.specs.Devices.{Made, event};
+ghost use Rattle.air_log.specs.ScriptedDevices.{after_act};
+ghost use Rattle.lwb_world.specs.WorldDevices.{whole, with_tuned, with_drop, HappenedBy, IsSameNode, CanBoot};
+
+use crate::device::Device;
+use air_log::TunedEntry;
+use lwb_base::Payload;
+use stream_source::Put;
+
+impl Device {
+    // Power comes on. True where it was off; then the node is to be told of its boot.
+    pub(crate) fn switch_on(&mut self) -> bool
+        requires { CanBoot self.old.power }
+        ensures whole { (clock : ℕ → ℕ) (t frame : ℕ) (made : Made) → after_act clock self.old.setup t frame (whole self.old made) On self.old.power ≡ (if result then event clock self.old.setup t Boot None (whole self.new made) else whole self.new made) }
+        ensures setup { self.new.setup ≡ self.old.setup }
+        ensures delivery { self.new.delivery ≡ (if result then None else self.old.delivery) }
+        ensures time { (now : ℕ) → HappenedBy now self.old → HappenedBy now self.new }
+    {
+        if self.on {
+            return false;
+        }
+        self.boots += 1;
+        self.core.reboot(self.boots);
+        self.on = true;
+        true
+    }
+
+    // Power goes off.
+    pub(crate) fn switch_off(&mut self, t: u64) -> Option<TunedEntry>
+        ensures whole { (clock : ℕ → ℕ) (frame : ℕ) (made : Made) → after_act clock self.old.setup t frame (whole self.old made) Off self.old.power ≡ whole self.new (with_tuned result made) }
+        ensures before { IfSome result (λ e. e.end < t) }
+        ensures time { HappenedBy t self.old → HappenedBy t self.new }
+        ensures node { IsSameNode self.old self.new }
+    {
+        if !self.on {
+            return None;
+        }
+        self.on = false;
+        self.alarm = None;
+        self.ordered = None;
+        self.silence(t)
+    }
+
+    // A stream wishes this interval.
+    pub(crate) fn declare(&mut self, stream: u8, interval: u8)
+        requires stream { stream ≤ 3 }
+        requires interval { (1 ≤ interval) × (interval ≤ 120) }
+        ensures whole { (clock : ℕ → ℕ) (t frame : ℕ) (made : Made) → after_act clock self.old.setup t frame (whole self.old made) (Declare stream interval) self.old.power ≡ whole self.new made }
+        ensures time { (now : ℕ) → HappenedBy now self.old → HappenedBy now self.new }
+        ensures node { IsSameNode self.old self.new }
+    {
+        if self.on {
+            self.core.declare(stream, interval);
+        }
+    }
+
+    // A stream wishes nothing more.
+    pub(crate) fn leave(&mut self, stream: u8)
+        requires { stream ≤ 3 }
+        ensures whole { (clock : ℕ → ℕ) (t frame : ℕ) (made : Made) → after_act clock self.old.setup t frame (whole self.old made) (Leave stream) self.old.power ≡ whole self.new made }
+        ensures time { (now : ℕ) → HappenedBy now self.old → HappenedBy now self.new }
+        ensures node { IsSameNode self.old self.new }
+    {
+        if self.on {
+            self.core.leave(stream);
+        }
+    }
+
+    // A packet is put to a stream. True where it is dropped.
+    pub(crate) fn put(&mut self, stream: u8, payload: &Payload) -> bool
+        requires stream { stream ≤ 3 }
+        requires payload { length payload.now ≤ self.old.setup.profile.payload_max }
+        ensures whole { (clock : ℕ → ℕ) (t frame : ℕ) (made : Made) → after_act clock self.old.setup t frame (whole self.old made) (PutAct stream payload.now) self.old.power ≡ whole self.new (with_drop result (record { frame = frame; node = self.old.setup.id; stream = stream }) made) }
+        ensures time { (now : ℕ) → HappenedBy now self.old → HappenedBy now self.new }
+        ensures node { IsSameNode self.old self.new }
+    {
+        if !self.on {
+            return true;
+        }
+        match self.core.put(stream, payload) {
+            Put::Queued(_) => false,
+            Put::Dropped => true,
+        }
+    }
+}
