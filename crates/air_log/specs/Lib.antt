@@ -15,3 +15,5 @@ pub mod FirstRound
 pub mod TrailEntries
 pub mod Charges
 pub mod Lawful
+pub mod Deliveries
+pub mod Drops

@@ -1,12 +1,7 @@
-pub mod FloodRun
-pub mod FloodBySteps
-pub mod Windows
-pub mod TwoNodes
-pub mod FloodLog
-pub mod LogReading
-pub mod ClockLists
-pub mod StatedClocks
-pub mod RunOnAir
-pub mod FloodWorlds
 pub mod WorldDevices
 pub mod DeviceShapes
+pub mod Fields
+pub mod FieldSteps
+pub mod Moments
+pub mod Running
+pub mod Runs

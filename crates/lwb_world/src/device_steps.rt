@@ -9,7 +9,6 @@ ghost use Rattle.air_log.specs.Trails.{is_due, begun, ended};
 ghost use Rattle.lwb_world.specs.WorldDevices.{whole, IsSameNode, row_of, after_row, made_by, with_sent, packet_due, ending_at, told_of, HappenedBy, IsTimely};
 
 use crate::device::Device;
-use crate::member::copy_of_packet;
 use bus_rules::Delivery;
 use lwb_base::{Event, Packet, Radio};
 use radio_model::sending::Sending;
@@ -123,4 +122,10 @@ fn copy_of(x: &Sending) -> Sending
         end: x.end,
         packet: copy_of_packet(&x.packet),
     }
+}
+
+pub(crate) fn copy_of_packet(packet: &Packet) -> Packet
+    ensures { result ≡ packet.now }
+{
+    Packet::new(packet.bytes()).unwrap()
 }

@@ -1,23 +1,8 @@
-//! The laws that tie what nodes do on the air to the bus, one flood in true time, and what is read off its log.
-//!
-//! Each law is the contract of a function that does nothing.
+//! A node core with its radio and its alarm, as the world runs it.
 #![tactic(auto)]
 
 mod device;
 mod device_script;
 mod device_steps;
-mod flood_beginning;
-pub mod flood_laws;
-pub mod flood_log_laws;
-mod flood_outcome;
-mod flood_world;
-mod member;
-mod timed_flood;
-mod true_time;
-
-pub use flood_outcome::outcome_of;
-pub use timed_flood::flood;
-pub use true_time::flood_air;
-
 #[cfg(test)]
 mod tests;

@@ -13,8 +13,8 @@ use Rattle.tick_clock.specs.declared.segment_clock.SegmentClock.{SegmentClock}
 use Rattle.scenario_text.specs.declared.lines.NodeLine.{NodeLine}
 use Rattle.scenario_text.specs.declared.lines.RateLine.{RateLine}
 use Rattle.air_log.proofs.Elements.{pairs_tail}
-use Rattle.lwb_world.specs.ClockLists.{clocks_by}
-use Rattle.lwb_world.specs.StatedClocks.{entry_of, rates_of, stated_by}
+use Rattle.lwb_flood.specs.ClockLists.{clocks_by}
+use Rattle.lwb_flood.specs.StatedClocks.{entry_of, rates_of, stated_by}
 use Rattle.replay_tool.specs.NodeRates.{AreRatesOf, AreClocks}
 
 -- a rate more

@@ -10,7 +10,7 @@ use Rattle.scenario_text.specs.declared.fault.FaultKind.{FaultKind}
 use Rattle.bus_model.specs.FloodOfText.{outcome}
 use Rattle.air_log.specs.declared.entry.Entry.{Entry}
 use Rattle.air_log.specs.FloodLaw.{FloodLaw}
-use Rattle.lwb_world.specs.StatedClocks.{stated_clock}
+use Rattle.lwb_flood.specs.StatedClocks.{stated_clock}
 use Rattle.replay_tool.specs.FloodReport.{flood_report}
 
 abbrev pub IsFlood : List (List ℕ) → Type 0

@@ -5,7 +5,7 @@ use Rattle.tick_clock.specs.ClockReadings.{segment_clock_reads}
 use Rattle.tick_clock.specs.declared.segment_clock.SegmentClock.{SegmentClock}
 use Rattle.scenario_text.specs.declared.lines.NodeLine.{NodeLine}
 use Rattle.scenario_text.specs.declared.lines.RateLine.{RateLine}
-use Rattle.lwb_world.specs.StatedClocks.{rates_of}
+use Rattle.lwb_flood.specs.StatedClocks.{rates_of}
 
 -- at the place of each id
 pub record AreRatesOf (rates : List RateLine) (lists : List (List (ℕ × ℤ))) : Type 0 where

@@ -1,7 +1,7 @@
 ghost use Rattle.std.specs.Prelude.{◌≡◌, ◌<◌, ◌^◌, IfOk, length, string_bytes};
 ghost use Rattle.air_log.specs.FloodLaw.{FloodLaw};
-ghost use Rattle.lwb_world.specs.FloodLog.{HasClocks};
-ghost use Rattle.lwb_world.specs.StatedClocks.{stated_clock};
+ghost use Rattle.lwb_flood.specs.FloodLog.{HasClocks};
+ghost use Rattle.lwb_flood.specs.StatedClocks.{stated_clock};
 ghost use Rattle.replay_tool.specs.CommandLine.{fault_line as fault_line_of};
 ghost use Rattle.replay_tool.specs.FloodAnswers.{Answers};
 
@@ -9,7 +9,7 @@ use crate::report::flood_report;
 use crate::stated_clocks::stated_clocks;
 use air_log::Air;
 use lwb_base::Memory;
-use lwb_world::{flood_air, outcome_of};
+use lwb_flood::{flood_air, outcome_of};
 use scenario_text::{FaultKind, FloodText, ParseFault, parse_flood};
 use std::alloc::{AllocError, Global};
 use std::fmt::Write;

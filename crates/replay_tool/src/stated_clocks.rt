@@ -1,8 +1,8 @@
 ghost use Rattle.std.specs.Prelude.{◌≡◌, ℕ, ◌^◌, ◌≤◌, ◌<◌, ◌++◌, ◌∷◌, [], IfOk, OnOk, All, get_or, length, set};
 ghost use Rattle.tick_clock.specs.ClockReadings.{segment_clock_reads};
 ghost use Rattle.tick_clock.specs.Rates.{segment_reading, unordered_at, wild_at};
-ghost use Rattle.lwb_world.specs.ClockLists.{clocks_by};
-ghost use Rattle.lwb_world.specs.StatedClocks.{entry_of, stated_clock};
+ghost use Rattle.lwb_flood.specs.ClockLists.{clocks_by};
+ghost use Rattle.lwb_flood.specs.StatedClocks.{entry_of, stated_clock};
 ghost use Rattle.replay_tool.specs.NodeRates.{AreRatesOf};
 
 use crate::node_rates::NodeRates;

@@ -5,7 +5,7 @@ use crate::report::flood_report;
 use crate::whole_steps::flood_by_whole_steps;
 use air_log::{Air, Entry};
 use lwb_base::{INPUT_LIMIT, MemorySink, MemorySource};
-use lwb_world::flood;
+use lwb_flood::flood;
 use scenario_text::{FloodText, parse_flood};
 use std::alloc::{AllocError, Global};
 use std::test::Fail;

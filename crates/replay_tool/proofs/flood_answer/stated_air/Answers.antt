@@ -3,9 +3,9 @@ use Rattle.std.proofs.lemmas.Result.{IfOk-weaker}
 use Rattle.tick_clock.specs.ClockReadings.{segment_clock_reads}
 use Rattle.air_log.specs.declared.entry.Entry.{Entry}
 use Rattle.air_log.specs.FloodLaw.{FloodLaw}
-use Rattle.lwb_world.specs.ClockLists.{clocks_by}
-use Rattle.lwb_world.specs.StatedClocks.{stated_clock}
-use Rattle.lwb_world.proofs.NodeClocks.{stated_clocks, same_clocks}
+use Rattle.lwb_flood.specs.ClockLists.{clocks_by}
+use Rattle.lwb_flood.specs.StatedClocks.{stated_clock}
+use Rattle.lwb_flood.proofs.NodeClocks.{stated_clocks, same_clocks}
 use Rattle.replay_tool.proofs.flood_answer.stated_air.Goals as goal
 
 pub returns-in_err-clocks-clause-clocks : goal.returns-in_err-clocks-clause-clocks

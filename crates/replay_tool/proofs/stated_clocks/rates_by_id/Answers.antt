@@ -1,7 +1,7 @@
 use Rattle.std.proofs.Common.{◌≡◌, ◌+◌, ◌<◌, ◌++◌, ◌∷◌, [], length, get_or, take, set, sym, ◌∙◌, ap, arith}
 use Rattle.std.proofs.lemmas.List.{take_more}
 use Rattle.scenario_text.specs.declared.lines.RateLine.{RateLine}
-use Rattle.lwb_world.specs.StatedClocks.{entry_of}
+use Rattle.lwb_flood.specs.StatedClocks.{entry_of}
 use Rattle.replay_tool.specs.NodeRates.{AreRatesOf}
 use Rattle.replay_tool.proofs.NodeRates.{added_rate}
 use Rattle.replay_tool.proofs.stated_clocks.rates_by_id.Goals as goal

@@ -4,7 +4,7 @@ use Rattle.tick_clock.specs.ClockReadings.{segment_clock_reads}
 use Rattle.tick_clock.specs.Rates.{segment_reading, wild_at, unordered_at}
 use Rattle.scenario_text.specs.declared.lines.NodeLine.{NodeLine}
 use Rattle.scenario_text.specs.declared.lines.RateLine.{RateLine}
-use Rattle.lwb_world.specs.StatedClocks.{rates_of}
+use Rattle.lwb_flood.specs.StatedClocks.{rates_of}
 use Rattle.replay_tool.specs.NodeRates.{AreRatesOf, AreClocks}
 use Rattle.replay_tool.proofs.NodeRates.{early_rates, none_wild, none_late, clock_more, as_many, read_as_stated}
 use Rattle.replay_tool.proofs.stated_clocks.stated_clocks.Goals as goal

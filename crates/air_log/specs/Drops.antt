@@ -1,0 +1,42 @@
+-- The packets of a run that were lost before they were queued, by its log.
+use Rattle.std.specs.Prelude.{ℕ, List, [], ◌∷◌, ◌++◌, ◌&&◌, ◌==◌, if◌then◌else◌, Some, None, option_to_list, filter, fold}
+use Rattle.std.specs.declared.option.Option.{Option}
+use Rattle.scenario_text.specs.ScenarioParts.{ScenarioParts}
+use Rattle.scenario_text.specs.declared.script.Act.{Act}
+use Rattle.scenario_text.specs.declared.script.Act.TheVariants.{On, Off, Declare, Leave, Put}
+use Rattle.scenario_text.specs.declared.script.ScriptLine.{ScriptLine}
+use Rattle.bus_rules.specs.declared.delivery.DropLine.{DropLine}
+use Rattle.bus_rules.specs.Streams.{drops}
+use Rattle.air_log.specs.declared.entry.Entry.{Entry}
+use Rattle.air_log.specs.Devices.{Device, Power, PowerOff, PowerOn}
+use Rattle.air_log.specs.ScriptedDevices.{after_line}
+use Rattle.air_log.specs.Trails.{setup_of, frame_start, before_tick}
+use Rattle.air_log.specs.Lawful.{heard_by}
+
+-- the lines above that the node of this line is told at the same tick
+abbrev pub told_before : ScenarioParts → List ScriptLine → ScriptLine → List ScriptLine
+told_before s above l = filter (λ m. (m.node == l.node) && (frame_start s m.frame == frame_start s l.frame)) above
+
+-- the node of a line by its trail, just before the line: as it comes to the start of the frame, and then told the lines above
+abbrev pub before_line : ScenarioParts → (ℕ → ℕ → ℕ) → List Entry → List ScriptLine → ScriptLine → Device
+before_line s clocks air above l =
+    let t = frame_start s l.frame in
+    fold (after_line (clocks l.node) (setup_of s l.node) t) (before_tick s l.node (clocks l.node) (heard_by air l.node) t) (told_before s above l)
+
+-- a put is lost where the node is off or its stream refuses it
+abbrev pub drop_by : ScriptLine → Act → Power → Option DropLine
+drop_by l On power = None
+drop_by l Off power = None
+drop_by l (Declare i interval) power = None
+drop_by l (Leave i) power = None
+drop_by l (Put i payload) (PowerOff boots) = Some (record { frame = l.frame; node = l.node; stream = i })
+drop_by l (Put i payload) (PowerOn n) = if drops n.core.streams i then Some (record { frame = l.frame; node = l.node; stream = i }) else None
+
+-- what these lines lose, where the others stand above them
+abbrev pub drops_below : ScenarioParts → (ℕ → ℕ → ℕ) → List Entry → List ScriptLine → List ScriptLine → List DropLine
+drops_below s clocks air above [] = []
+drops_below s clocks air above (l ∷ ls) = option_to_list (drop_by l l.act (before_line s clocks air above l).power) ++ drops_below s clocks air (above ++ l ∷ []) ls
+
+-- in the order of the text
+abbrev pub drops_of : ScenarioParts → (ℕ → ℕ → ℕ) → List Entry → List DropLine
+drops_of s clocks air = drops_below s clocks air [] s.script

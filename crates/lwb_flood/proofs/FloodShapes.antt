@@ -1,0 +1,48 @@
+-- The medium and the nodes of a flood's world are of the same ids, and stay so.
+use Rattle.std.proofs.Common.{◌≡◌, ℕ, map, Option, None, List, refl, sym, ◌∙◌, ap, subst}
+use Rattle.air_log.specs.declared.entry.Entry.{Entry}
+use Rattle.radio_model.specs.declared.sending.Sending.{Sending}
+use Rattle.radio_model.specs.Stations.{IsMedium, nodes_of, after, retuned, started, finished}
+use Rattle.radio_model.proofs.Places.{still_medium, Keeps}
+use Rattle.radio_model.proofs.Changes.{retuned_keeps, started_keeps, finished_keeps}
+use Rattle.radio_model.proofs.OneStation.{same_nodes}
+use Rattle.lwb_flood.specs.declared.member.Member.{Member}
+use Rattle.lwb_flood.specs.declared.member.Act.TheVariants.{Sends, Off}
+use Rattle.lwb_flood.specs.FloodWorlds.{World, IsShape, node_of, with_change, with_act, begun, gone, own_ended, heard, hearing_by, after_own}
+use Rattle.lwb_flood.proofs.WorldLists.{nodes_kept}
+use Rattle.radio_model.specs.declared.station.Station.{Station}
+
+module _ (w : World) (is : IsShape w) where
+  changed : (v t : ℕ) (f : Station → Station) → Keeps f → (change : Member → Member) → ((m : Member) → (change m).node ≡ m.node)
+      → (map node_of (with_change v change w.members) ≡ nodes_of (after t v f w.medium)) × IsMedium (after t v f w.medium)
+  changed v t f keeps change same = (nodes_kept v change same w.members ∙ is.nodes ∙ sym (same_nodes w.medium t v f keeps.node), still_medium f keeps v t w.medium is.medium)
+
+  pub begun_shape : (x : Sending) → IsShape (begun x w)
+  begun_shape x = let both = changed x.node x.start (started w.medium.numbers x.start x.packet) (started_keeps w.medium.numbers x.start x.packet) (with_act (Sends x)) (λ m. refl) in record { nodes = both.0; medium = both.1 }
+
+  pub gone_shape : (v t : ℕ) → IsShape (gone v t w)
+  gone_shape v t = let none : Option ℕ = None in let both = changed v t (retuned none t) (retuned_keeps none t) (with_act Off) (λ m. refl) in record { nodes = both.0; medium = both.1 }
+
+  pub own_ended_shape : (x : Sending) → IsShape (own_ended x w)
+  own_ended_shape x = let both = changed x.node x.end finished finished_keeps after_own (λ m. refl) in record { nodes = both.0; medium = both.1 }
+
+  pub heard_shape : (clock : ℕ → ℕ) (x : Sending) (v : ℕ) → IsShape (heard clock x v w)
+  heard_shape clock x v = record { nodes = nodes_kept v (hearing_by clock x) (λ m. refl) w.members ∙ is.nodes; medium = is.medium }
+
+-- by what the code made of it
+module _ (inside old new : World) (is : IsShape inside) (view : inside ≡ old) where
+  pub begun_stays : (x : Sending) → new ≡ begun x old → IsShape new
+  begun_stays x same = subst IsShape (sym same) (begun_shape old (subst IsShape view is) x)
+
+  pub gone_stays : (v t : ℕ) → new ≡ gone v t old → IsShape new
+  gone_stays v t same = subst IsShape (sym same) (gone_shape old (subst IsShape view is) v t)
+
+  pub own_ended_stays : (x : Sending) → new ≡ own_ended x old → IsShape new
+  own_ended_stays x same = subst IsShape (sym same) (own_ended_shape old (subst IsShape view is) x)
+
+  pub heard_stays : (clock : ℕ → ℕ) (x : Sending) (v : ℕ) → new ≡ heard clock x v old → IsShape new
+  heard_stays clock x v same = subst IsShape (sym same) (heard_shape old (subst IsShape view is) clock x v)
+
+pub hearing_shape : (inside : World) → IsShape inside → (clock : ℕ → ℕ) (x : Sending) (v : ℕ) (members : List Member) (air : List Entry) → members ≡ with_change v (hearing_by clock x) inside.members
+    → IsShape (record { medium = inside.medium; members = members; air = air })
+hearing_shape inside is clock x v members air same = record { nodes = ap (map node_of) same ∙ (heard_shape inside is clock x v).nodes; medium = is.medium }

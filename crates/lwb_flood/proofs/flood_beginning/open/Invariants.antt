@@ -1,0 +1,6 @@
+use Rattle.std.proofs.Common.{◌≡◌, take}
+use Rattle.lwb_flood.specs.FloodWorlds.{opened}
+use Rattle.lwb_flood.proofs.flood_beginning.open.Given as goal
+
+abbrev pub invariant-loop-node : goal.invariant-loop-node
+invariant-loop-node l = l.medium ≡ opened (take l.node-index l.nodes) l.fn.medium

@@ -1,0 +1,10 @@
+pub mod FloodRun
+pub mod FloodBySteps
+pub mod Windows
+pub mod TwoNodes
+pub mod FloodLog
+pub mod LogReading
+pub mod ClockLists
+pub mod StatedClocks
+pub mod RunOnAir
+pub mod FloodWorlds

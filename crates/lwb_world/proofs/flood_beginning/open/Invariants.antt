@@ -1,6 +1,0 @@
-use Rattle.std.proofs.Common.{◌≡◌, take}
-use Rattle.lwb_world.specs.FloodWorlds.{opened}
-use Rattle.lwb_world.proofs.flood_beginning.open.Given as goal
-
-abbrev pub invariant-loop-node : goal.invariant-loop-node
-invariant-loop-node l = l.medium ≡ opened (take l.node-index l.nodes) l.fn.medium

@@ -1,7 +1,0 @@
-use Rattle.std.proofs.Common.{◌≡◌, true}
-use Rattle.radio_model.specs.Hearing.{TunedThrough}
-use Rattle.lwb_world.proofs.WholeFlood.{flood_by_steps}
-use Rattle.lwb_world.proofs.flood_laws.air_floods_by_steps.Goals as goal
-
-pub returns : goal.returns
-returns c = record { scene = λ a r f. flood_by_steps r (TunedThrough a) f; test = λ r tuned f. flood_by_steps r (λ v x. tuned v x ≡ true) f }

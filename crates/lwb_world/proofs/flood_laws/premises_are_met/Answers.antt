@@ -1,5 +1,0 @@
-use Rattle.lwb_world.proofs.Spellings.{numbers_fit, spelled_again}
-use Rattle.lwb_world.proofs.flood_laws.premises_are_met.Goals as goal
-
-pub returns : goal.returns
-returns c = record { numbers = numbers_fit; spelled = spelled_again }

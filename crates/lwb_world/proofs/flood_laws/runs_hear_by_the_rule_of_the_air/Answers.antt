@@ -1,5 +1,0 @@
-use Rattle.lwb_world.proofs.RuleInRun.{rule_in_run}
-use Rattle.lwb_world.proofs.flood_laws.runs_hear_by_the_rule_of_the_air.Goals as goal
-
-pub returns : goal.returns
-returns c = rule_in_run

@@ -1,5 +1,0 @@
-use Rattle.lwb_world.proofs.TwoNodeRun.{two_is_run}
-use Rattle.lwb_world.proofs.flood_laws.two_nodes_are_a_run.Goals as goal
-
-pub returns : goal.returns
-returns c = two_is_run

@@ -1,5 +1,0 @@
-use Rattle.lwb_world.proofs.LogOutcome.{by_least_path}
-use Rattle.lwb_world.proofs.flood_log_laws.flood_logs_accept_by_the_least_relay_path.Goals as goal
-
-pub returns : goal.returns
-returns c = by_least_path

@@ -1,5 +1,0 @@
-use Rattle.lwb_world.proofs.LogOutcome.{accepts_read_off, count_read_off}
-use Rattle.lwb_world.proofs.flood_log_laws.flood_logs_have_the_outcome.Goals as goal
-
-pub returns : goal.returns
-returns c = record { accepts = accepts_read_off; sent = count_read_off }

@@ -1,8 +1,0 @@
-use Rattle.std.proofs.Common.{◌≡◌, take}
-use Rattle.bus_model.specs.FloodOfText.{ids}
-use Rattle.lwb_world.specs.FloodLog.{accepting}
-use Rattle.lwb_world.specs.LogReading.{step_of}
-use Rattle.lwb_world.proofs.flood_outcome.acceptances.Given as goal
-
-abbrev pub invariant-loop-line : goal.invariant-loop-line
-invariant-loop-line l = l.accepts.items ≡ accepting (step_of l.f.start l.firsts) (ids (take l.line-index l.f.nodes))

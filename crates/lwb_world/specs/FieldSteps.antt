@@ -1,0 +1,99 @@
+-- What a step of a run does: at one device, on the air, and in the lists.
+use Rattle.std.specs.Prelude.{◌≡◌, ◌≢◌, ◌⊎◌, ◌↔◌, ℕ, ◌<◌, List, [], ◌∷◌, ◌++◌, map, length, slice_get, slice_index_or, All, AllPairs, Contains, ◌==◌, if◌then◌else◌, Some, None}
+use Rattle.std.specs.declared.option.Option.{Option}
+use Rattle.lwb_base.specs.declared.event.Event.TheVariants.{Heard, Sent}
+use Rattle.link_trace.specs.Passes.{Lines}
+use Rattle.radio_model.specs.declared.sending.Sending.{Sending}
+use Rattle.radio_model.specs.OnAir.{Hearing}
+use Rattle.radio_model.specs.Hearing.{Scene, Hears}
+use Rattle.radio_model.specs.Holding.{Holds, Agree, as_it_stands}
+use Rattle.radio_model.specs.Stations.{MediumState, IsTime, nodes_of}
+use Rattle.event_calendar.specs.Orders.{Due}
+use Rattle.bus_rules.specs.declared.delivery.DropLine.{DropLine}
+use Rattle.bus_rules.specs.Cores.{Setup}
+use Rattle.air_log.specs.declared.entry.Entry.{Entry}
+use Rattle.air_log.specs.Entries.{sendings_of, hearings_of, node_of}
+use Rattle.air_log.specs.Devices.{Device, Listening, Ordered, event}
+use Rattle.air_log.specs.Trails.{sending_from}
+use Rattle.lwb_world.specs.Fields.{FieldState, Shows, ids_of, setups_of}
+
+-- a scene that the medium holds after a step at t: these sendings have begun, and nothing has changed before t
+pub record IsSceneAfter (t : ℕ) (old new : MediumState) (begun : List Sending) (a b : Scene) : Type 0 where
+  pub held : Holds new b
+  pub lines : b.lines ≡ a.lines
+  pub sendings : b.sendings ≡ a.sendings ++ begun
+  pub before : Agree t (as_it_stands old t a) (as_it_stands new t b)
+
+-- what the medium is told at t
+pub record GoesOn (t : ℕ) (old new : MediumState) (begun : List Sending) : Type 0 where
+  pub scene : (a : Scene) → Holds old a → (b : Scene) × IsSceneAfter t old new begun a b
+  pub time : IsTime new t
+  pub nodes : nodes_of new ≡ nodes_of old
+
+-- the devices stay at their places
+pub record AreSame (old : FieldState) (old_due : List Due) (new : FieldState) (new_due : List Due) : Type 0 where
+  pub setups : setups_of new ≡ setups_of old
+  pub places : length new_due ≡ length old_due
+  -- what the log has more is of these devices
+  pub entries : (e : Entry) → Contains new.air e → Contains old.air e ⊎ Contains (ids_of old) (node_of e)
+
+-- at tick t the device at place p goes through this change, and nothing else happens but that these sendings begin and
+-- these puts are lost
+pub record Acts (t p : ℕ) (change : Setup → Device → Device) (begun : List Sending) (lost : List DropLine) (old : FieldState) (old_due : List Due) (new : FieldState) (new_due : List Due) : Type 0 where
+  pub own : (s : Setup) (d : Device) → Shows s t old old_due p d → Shows s t new new_due p (change s d)
+  pub others : (q : ℕ) → q ≢ p → (s : Setup) (d : Device) → Shows s t old old_due q d → Shows s t new new_due q d
+  pub hearings : hearings_of new.air ≡ hearings_of old.air
+  pub sendings : sendings_of new.air ≡ sendings_of old.air ++ begun
+  pub drops : new.drops ≡ old.drops ++ lost
+  pub air : GoesOn t old.medium new.medium begun
+  pub same : AreSame old old_due new new_due
+
+-- the sending that starts at t at a device, if one does
+abbrev pub starting_by : Setup → ℕ → Option Ordered → Option Listening → Option Sending → List Sending
+starting_by s t None l sending = []
+starting_by s t (Some o) None sending = []
+starting_by s t (Some o) (Some l) (Some x) = []
+starting_by s t (Some o) (Some l) None = if o.tick == t then sending_from s t o.packet l ∷ [] else []
+
+abbrev pub starting : Setup → ℕ → Device → List Sending
+starting s t d = starting_by s t d.ordered d.listening d.sending
+
+-- what the clock at a place reads; past them it is the true tick
+abbrev pub reading_of : {C : Type 0} → (C → ℕ → ℕ) → Option C → ℕ → ℕ
+reading_of R None t = t
+reading_of R (Some c) t = R c t
+
+abbrev pub readings_at : {C : Type 0} → (C → ℕ → ℕ) → List C → ℕ → ℕ → ℕ
+readings_at R cs p = reading_of R (slice_get cs p)
+
+-- the device at that place hears x
+abbrev pub hearing_at : FieldState → Sending → ℕ → Hearing
+hearing_at w x p = record { node = slice_index_or (ids_of w) p 0; sending = x }
+
+-- the sender of x is told of its end
+abbrev pub told_of_end : (ℕ → ℕ) → ℕ → Sending → Setup → Device → Device
+told_of_end clock t x s d = event clock s t Sent (Some x) (record d { sending = None })
+
+-- a device is told of what it has heard
+abbrev pub told_of_hearing : (ℕ → ℕ) → ℕ → Sending → Setup → Device → Device
+told_of_hearing clock t x s d = event clock s t (Heard x.packet) None d
+
+-- at tick t the sending x of the device at place p ends: these devices, by ascending places, hear it by the rule of hearing,
+-- each is told of it, and then the sender of the end
+pub record EndsSending (lines : Lines) (clocks : ℕ → ℕ → ℕ) (t p : ℕ) (x : Sending) (hearers : List ℕ) (old : FieldState) (old_due : List Due) (new : FieldState) (new_due : List Due) : Type 0 where
+  pub ascending : AllPairs (λ a b. a < b) hearers
+  pub heard : (a : Scene) → Holds old.medium a → a.lines ≡ lines → (q : ℕ) (s : Setup) (d : Device) → Shows s t old old_due q d
+      → Contains hearers q ↔ Hears (as_it_stands old.medium t a) s.id x
+  pub within : All (λ q. q < length old.devices) hearers
+  pub sender : (Contains hearers p → ⊥) → (s : Setup) (d : Device) → Shows s t old old_due p d → Shows s t new new_due p (told_of_end (clocks p) t x s d)
+  pub hearer : (q : ℕ) → Contains hearers q → q ≢ p → (s : Setup) (d : Device) → Shows s t old old_due q d → Shows s t new new_due q (told_of_hearing (clocks q) t x s d)
+  pub others : (q : ℕ) → (Contains hearers q → ⊥) → q ≢ p → (s : Setup) (d : Device) → Shows s t old old_due q d → Shows s t new new_due q d
+  pub hearings : hearings_of new.air ≡ hearings_of old.air ++ map (hearing_at old x) hearers
+  pub sendings : sendings_of new.air ≡ sendings_of old.air
+  pub drops : new.drops ≡ old.drops
+  pub air : GoesOn t old.medium new.medium []
+  pub same : AreSame old old_due new new_due
+
+-- whatever trail a device is of, if it sends x
+abbrev pub Sends : ℕ → FieldState → List Due → ℕ → Sending → Type 0
+Sends t w due p x = (s : Setup) (d : Device) → Shows s t w due p d → d.sending ≡ Some x

@@ -1,0 +1,92 @@
+-- The devices of a run by place, the air that they share, and what is in the lists so far.
+use Rattle.std.specs.Prelude.{◌≡◌, ℕ, ◌<◌, List, [], ◌∷◌, ◌++◌, map, filter, reverse, length, slice_get, slice_index_or, All, Contains, ◌==◌, Some, None}
+use Rattle.std.specs.declared.option.Option.{Option}
+use Rattle.std.specs.Option.{option_map}
+use Rattle.lwb_base.specs.Profile.{Numbers}
+use Rattle.radio_model.specs.declared.sending.Sending.{Sending}
+use Rattle.radio_model.specs.declared.station.Station.{Station}
+use Rattle.radio_model.specs.declared.station.Tuned.{Tuned}
+use Rattle.radio_model.specs.Stations.{MediumState, IsMedium, nodes_of, station_of}
+use Rattle.event_calendar.specs.Orders.{Due}
+use Rattle.bus_rules.specs.declared.delivery.Delivery.{Delivery}
+use Rattle.bus_rules.specs.declared.delivery.DropLine.{DropLine}
+use Rattle.bus_rules.specs.Cores.{Setup}
+use Rattle.air_log.specs.declared.entry.Entry.{Entry}
+use Rattle.air_log.specs.Devices.{Device, Made, Listening, Ordered}
+use Rattle.air_log.specs.Lawful.{sent_by, tuned_by}
+use Rattle.lwb_world.specs.WorldDevices.{DeviceState, whole, EndedBefore, HappenedBy}
+
+-- deliveries and drops stand in the order in which they were made
+pub record FieldState : Type 0 where
+  pub medium : MediumState
+  pub devices : List DeviceState
+  pub air : List Entry
+  pub deliveries : List Delivery
+  pub drops : List DropLine
+
+abbrev pub setup_of : DeviceState → Setup
+setup_of d = d.setup
+
+abbrev pub id_of : DeviceState → ℕ
+id_of d = d.setup.id
+
+abbrev pub setups_of : FieldState → List Setup
+setups_of w = map setup_of w.devices
+
+abbrev pub ids_of : FieldState → List ℕ
+ids_of w = map id_of w.devices
+
+-- the medium is one of the same nodes, and all go by the numbers of one profile
+pub record IsField (w : FieldState) : Type 0 where
+  pub medium : IsMedium w.medium
+  pub nodes : ids_of w ≡ nodes_of w.medium
+  pub numbers : All (λ d. d.setup.profile ≡ w.medium.numbers) w.devices
+
+-- what stands in the queue for a device
+abbrev pub end_of : Sending → ℕ
+end_of x = x.end
+
+abbrev pub tick_of : Ordered → ℕ
+tick_of o = o.tick
+
+abbrev pub due_of : DeviceState → Due
+due_of d = record { sending_end = option_map end_of d.sending; alarm = d.alarm; sending_start = option_map tick_of d.ordered }
+
+-- what v has made, but for drops and windows, is what the lists have of it
+pub record IsLogged (w : FieldState) (v : ℕ) (made : Made) : Type 0 where
+  pub sent : made.sent ≡ sent_by w.air v
+  pub tuned : made.tuned ≡ reverse (tuned_by w.air v)
+  pub deliveries : made.deliveries ≡ filter (λ d. d.node == v) w.deliveries
+
+abbrev pub rank_of : Tuned → ℕ
+rank_of o = o.rank
+
+abbrev pub channel_of : Listening → ℕ
+channel_of l = l.rank
+
+-- the medium and the queue know of the device at the place what they have to
+pub record IsKnown (w : FieldState) (due : List Due) (p : ℕ) (d : DeviceState) : Type 0 where
+  pub station : Station
+  pub there : station_of w.medium d.setup.id ≡ Some station
+  pub tuned : option_map rank_of station.tuned ≡ option_map channel_of d.listening
+  pub sending : station.sending ≡ d.sending
+  pub set : slice_get due p ≡ Some (due_of d)
+
+-- at tick t the device at the place, with all that it has made, is this one of a trail
+pub record Shows (s : Setup) (t : ℕ) (w : FieldState) (due : List Due) (p : ℕ) (d : Device) : Type 0 where
+  pub state : DeviceState
+  pub there : slice_get w.devices p ≡ Some state
+  pub setup : state.setup ≡ s
+  pub made : Made
+  pub is : whole state made ≡ d
+  pub logged : IsLogged w s.id made
+  pub known : IsKnown w due p state
+  pub ended : EndedBefore t made.tuned
+  pub happened : HappenedBy t state
+  pub taken : state.delivery ≡ None
+
+-- the device at the place is that of some trail
+pub record IsShown (t : ℕ) (w : FieldState) (due : List Due) (p : ℕ) : Type 0 where
+  pub setup : Setup
+  pub device : Device
+  pub shows : Shows setup t w due p device

@@ -1,0 +1,44 @@
+-- At which moment of a tick the devices of a run are on their trails.
+use Rattle.std.specs.Prelude.{◌≡◌, ◌⊎◌, ℕ, suc, List, ◌&&◌, ◌==◌, filter, fold}
+use Rattle.event_calendar.specs.declared.class.Class.{Class}
+use Rattle.event_calendar.specs.declared.class.Class.TheVariants.{SendingEnd, Alarm, SendingStart}
+use Rattle.scenario_text.specs.ScenarioParts.{ScenarioParts}
+use Rattle.scenario_text.specs.declared.script.ScriptLine.{ScriptLine}
+use Rattle.air_log.specs.Devices.{Device}
+use Rattle.air_log.specs.ScriptedDevices.{after_line}
+use Rattle.air_log.specs.Trails.{Reception, setup_of, frame_start, scripted, heard, before_alarms, before_start, before_tick}
+
+-- before the tick; in its script lines, where these lines of the script have been told; or at the ends of sendings, the
+-- alarms, or the starts of sendings
+pub data Moment : Type 0 where
+  Before : Moment
+  InLines : (told : List ScriptLine) → Moment
+  At : (class : Class) → Moment
+
+-- the device by its trail after these lines of the script, which are told at tick t
+abbrev pub after_lines : ScenarioParts → ℕ → (ℕ → ℕ) → List Reception → ℕ → List ScriptLine → Device
+after_lines s v clock hs t told =
+    fold (after_line clock (setup_of s v) t) (before_tick s v clock hs t) (filter (λ l. (l.node == v) && (frame_start s l.frame == t)) told)
+
+-- the device by its trail before what happens of a class at tick t, and after it
+abbrev pub point : ScenarioParts → ℕ → (ℕ → ℕ) → List Reception → ℕ → Class → Device
+point s v clock hs t SendingEnd = heard clock (setup_of s v) t hs (scripted s v clock t (before_tick s v clock hs t))
+point s v clock hs t Alarm = before_alarms s v clock hs t (before_tick s v clock hs t)
+point s v clock hs t SendingStart = before_start s v clock hs t (before_tick s v clock hs t)
+
+abbrev pub after_point : ScenarioParts → ℕ → (ℕ → ℕ) → List Reception → ℕ → Class → Device
+after_point s v clock hs t SendingEnd = before_alarms s v clock hs t (before_tick s v clock hs t)
+after_point s v clock hs t Alarm = before_start s v clock hs t (before_tick s v clock hs t)
+after_point s v clock hs t SendingStart = before_tick s v clock hs (suc t)
+
+-- the device has come to this moment of tick t
+abbrev pub IsAt : ScenarioParts → (ℕ → ℕ) → List Reception → ℕ → ℕ → Moment → Device → Type 0
+IsAt s clock hs v t Before d = d ≡ before_tick s v clock hs t
+IsAt s clock hs v t (InLines told) d = d ≡ after_lines s v clock hs t told
+IsAt s clock hs v t (At class) d = (d ≡ point s v clock hs t class) ⊎ (d ≡ after_point s v clock hs t class)
+
+-- all hearings end before this tick
+abbrev pub over_by : ℕ → Moment → ℕ
+over_by t Before = t
+over_by t (InLines told) = t
+over_by t (At class) = suc t
