@@ -20,16 +20,16 @@ use Rattle.air_log.proofs.QuietTicks.{quiet_ticks}
 use Rattle.air_log.proofs.KeptByEvents.{IsKept, in_hearings, in_end, in_event, in_alarms}
 use Rattle.air_log.proofs.AlarmLoop.{no_alarm_left}
 
-abbrev AlarmAhead : ℕ → Option ℕ → Type 0
+abbrev pub AlarmAhead : ℕ → Option ℕ → Type 0
 AlarmAhead t a = IfSome a (λ tick. t ≤ tick)
 
-abbrev StartAhead : ℕ → Option Ordered → Type 0
+abbrev pub StartAhead : ℕ → Option Ordered → Type 0
 StartAhead t o = IfSome o (λ x. t ≤ x.tick)
 
-abbrev EndAhead : ℕ → Option Sending → Type 0
+abbrev pub EndAhead : ℕ → Option Sending → Type 0
 EndAhead t x = IfSome x (λ y. t ≤ y.end)
 
-abbrev Ahead : ℕ → Device → Type 0
+abbrev pub Ahead : ℕ → Device → Type 0
 Ahead t d = AlarmAhead t d.alarm × StartAhead t d.ordered × EndAhead t d.sending
 
 on_ahead : (t rank u : ℕ) (d : Device) (es : List Tuning) → Ahead t d → Ahead t (tunes rank u d es)
@@ -47,7 +47,7 @@ order_ahead clock v t d Off ahead = ahead
 order_ahead clock v t d (SendAt local packet) ahead = (ahead.0, omega arith, ahead.2)
 order_ahead clock v t d (AlarmAt local) ahead = (omega arith, ahead.1, ahead.2)
 
-kept_ahead : (clock : ℕ → ℕ) (s : Setup) (t : ℕ) → IsKept (Ahead t) clock s t
+pub kept_ahead : (clock : ℕ → ℕ) (s : Setup) (t : ℕ) → IsKept (Ahead t) clock s t
 kept_ahead clock s t = record {
   obeying = order_ahead clock s.id t;
   moving = λ e x d n r ahead. ahead;
@@ -59,7 +59,7 @@ kept_ahead clock s t = record {
 }
 
 -- the sending that runs
-abbrev Sends : ℕ → Device → Type 0
+abbrev pub Sends : ℕ → Device → Type 0
 Sends t d = EndAhead t d.sending
 
 on_sends : (t rank u : ℕ) (d : Device) (es : List Tuning) → Sends t d → Sends t (tunes rank u d es)
@@ -77,7 +77,7 @@ order_sends clock v t u d Off ahead = ahead
 order_sends clock v t u d (SendAt local packet) ahead = ahead
 order_sends clock v t u d (AlarmAt local) ahead = ahead
 
-kept_sends : (clock : ℕ → ℕ) (s : Setup) (t u : ℕ) → IsKept (Sends u) clock s t
+pub kept_sends : (clock : ℕ → ℕ) (s : Setup) (t u : ℕ) → IsKept (Sends u) clock s t
 kept_sends clock s t u = record {
   obeying = order_sends clock s.id t u;
   moving = λ e x d n r ahead. ahead;
@@ -89,7 +89,7 @@ kept_sends clock s t u = record {
 }
 
 -- after its phase no sending ends at the tick any more
-end_over : (clock : ℕ → ℕ) (s : Setup) (t : ℕ) (d : Device) (x : Option Sending) → d.sending ≡ x → EndAhead t x → Sends (suc t) (ended_by clock s t d x)
+pub end_over : (clock : ℕ → ℕ) (s : Setup) (t : ℕ) (d : Device) (x : Option Sending) → d.sending ≡ x → EndAhead t x → Sends (suc t) (ended_by clock s t d x)
 end_over clock s t d None at ahead = rw at tt
 end_over clock s t d (Some x) at ahead =
     let y : Device = record d { sending = None } in
@@ -97,7 +97,7 @@ end_over clock s t d (Some x) at ahead =
     (λ is. in_event (Sends (suc t)) clock s t Sent (Some x) y (kept_sends clock s t (suc t)) tt)
     (λ is. rw at (omega (arith, ahead, eqb-false x.end t is)))
 
-alarm_over : (t : ℕ) (a : Option ℕ) → is_due t a ≡ false → AlarmAhead t a → AlarmAhead (suc t) a
+pub alarm_over : (t : ℕ) (a : Option ℕ) → is_due t a ≡ false → AlarmAhead t a → AlarmAhead (suc t) a
 alarm_over t None none ahead = tt
 alarm_over t (Some tick) none ahead = omega (arith, ahead, eqb-false tick t none)
 
@@ -105,7 +105,7 @@ alarm_over t (Some tick) none ahead = omega (arith, ahead, eqb-false tick t none
 takes_time : (p : Numbers) (n : ℕ) → 1 ≤ p.byte → 1 ≤ airtime p n
 takes_time p n some = let times : (n + 8) * 1 ≤ (n + 8) * p.byte = mul-le-mul_left (n + 8) some in omega (arith, times)
 
-begin_over : (s : Setup) (t : ℕ) (d : Device) (o : Option Ordered) → 1 ≤ s.profile.byte → d.ordered ≡ o → AlarmAhead (suc t) d.alarm → StartAhead t o → Sends (suc t) d → Ahead (suc t) (begun_by s t d o)
+pub begin_over : (s : Setup) (t : ℕ) (d : Device) (o : Option Ordered) → 1 ≤ s.profile.byte → d.ordered ≡ o → AlarmAhead (suc t) d.alarm → StartAhead t o → Sends (suc t) d → Ahead (suc t) (begun_by s t d o)
 begin_over s t d None some at alarm start runs = (alarm, rw at tt, runs)
 begin_over s t d (Some o) some at alarm start runs =
     cond_both (o.tick == t) (starts s t o.packet d d.listening d.sending) d (Ahead (suc t))
@@ -118,14 +118,14 @@ begin_over s t d (Some o) some at alarm start runs =
     started (Some l) None at = (alarm, tt, omega (arith, takes_time s.profile (length o.packet) some))
 
 module _ (s : ScenarioParts) (v : ℕ) (clock : ℕ → ℕ) (hs : List Reception) (sound : IsSoundScenario s) (drifts : IsClock clock) where
-  some_byte : 1 ≤ s.profile.byte
+  pub some_byte : 1 ≤ s.profile.byte
   some_byte = by_profile sound.profile
     where
       by_profile : IsProfile s.profile → 1 ≤ s.profile.byte
       by_profile (inl is) = rw is (omega arith)
       by_profile (inr is) = rw is.0 (omega arith)
 
-  ahead_at : (t : ℕ) → t ≤ run_end s → Ahead t (before_tick s v clock hs t)
+  pub ahead_at : (t : ℕ) → t ≤ run_end s → Ahead t (before_tick s v clock hs t)
   unfolding before_tick
   ahead_at zero within = (tt, tt, tt)
   ahead_at (suc t) within =

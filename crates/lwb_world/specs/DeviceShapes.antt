@@ -1,6 +1,7 @@
 -- What holds of a device at all times, and what it is seen as.
 use Rattle.std.specs.Prelude.{◌≡◌, ℕ, ◌^◌, ◌<◌, Bool, true, false}
 use Rattle.std.specs.declared.option.Option.{Option}
+use Rattle.std.specs.Option.{IfSome}
 use Rattle.lwb_base.specs.Profile.{Numbers}
 use Rattle.node_core.specs.Nodes.{NodeState, Node}
 use Rattle.air_log.specs.declared.entry.TunedEntry.{TunedEntry}
@@ -17,3 +18,4 @@ pub record IsDevice (node : ℕ) (profile : Numbers) (core : NodeState) (on : Bo
   pub boot : on ≡ true → core.node.core.boot ≡ boots
   pub early : core.node.zero < 2 ^ 47
   pub kept : IsKeptBack closed listening
+  pub own : IfSome closed (λ e. e.node ≡ node)

@@ -1,18 +1,19 @@
 -- The devices of a run by place, the air that they share, and what is in the lists so far.
-use Rattle.std.specs.Prelude.{◌≡◌, ℕ, ◌<◌, List, [], ◌∷◌, ◌++◌, map, filter, reverse, length, slice_get, slice_index_or, All, Contains, ◌==◌, Some, None}
+use Rattle.std.specs.Prelude.{◌≡◌, ℕ, List, [], ◌∷◌, map, filter, reverse, slice_get, All, ◌==◌, Some, None}
 use Rattle.std.specs.declared.option.Option.{Option}
 use Rattle.std.specs.Option.{option_map}
-use Rattle.lwb_base.specs.Profile.{Numbers}
 use Rattle.radio_model.specs.declared.sending.Sending.{Sending}
 use Rattle.radio_model.specs.declared.station.Station.{Station}
-use Rattle.radio_model.specs.declared.station.Tuned.{Tuned}
+use Rattle.radio_model.specs.declared.station.Tuned.{Tuned as TunedTo}
 use Rattle.radio_model.specs.Stations.{MediumState, IsMedium, nodes_of, station_of}
 use Rattle.event_calendar.specs.Orders.{Due}
 use Rattle.bus_rules.specs.declared.delivery.Delivery.{Delivery}
 use Rattle.bus_rules.specs.declared.delivery.DropLine.{DropLine}
 use Rattle.bus_rules.specs.Cores.{Setup}
 use Rattle.air_log.specs.declared.entry.Entry.{Entry}
-use Rattle.air_log.specs.Devices.{Device, Made, Listening, Ordered}
+use Rattle.air_log.specs.declared.entry.Entry.TheVariants.{Tuned}
+use Rattle.air_log.specs.declared.entry.TunedEntry.{TunedEntry}
+use Rattle.air_log.specs.Devices.{Device, Power, Made, Listening, Ordered}
 use Rattle.air_log.specs.Lawful.{sent_by, tuned_by}
 use Rattle.lwb_world.specs.WorldDevices.{DeviceState, whole, EndedBefore, HappenedBy}
 
@@ -30,6 +31,9 @@ setup_of d = d.setup
 abbrev pub id_of : DeviceState → ℕ
 id_of d = d.setup.id
 
+abbrev pub power_of : DeviceState → Power
+power_of d = d.power
+
 abbrev pub setups_of : FieldState → List Setup
 setups_of w = map setup_of w.devices
 
@@ -41,6 +45,11 @@ pub record IsField (w : FieldState) : Type 0 where
   pub medium : IsMedium w.medium
   pub nodes : ids_of w ≡ nodes_of w.medium
   pub numbers : All (λ d. d.setup.profile ≡ w.medium.numbers) w.devices
+
+-- what is logged of a tuning that ended, if there is one
+abbrev pub entries_of : Option TunedEntry → List Entry
+entries_of None = []
+entries_of (Some e) = Tuned e ∷ []
 
 -- what stands in the queue for a device
 abbrev pub end_of : Sending → ℕ
@@ -58,7 +67,7 @@ pub record IsLogged (w : FieldState) (v : ℕ) (made : Made) : Type 0 where
   pub tuned : made.tuned ≡ reverse (tuned_by w.air v)
   pub deliveries : made.deliveries ≡ filter (λ d. d.node == v) w.deliveries
 
-abbrev pub rank_of : Tuned → ℕ
+abbrev pub rank_of : TunedTo → ℕ
 rank_of o = o.rank
 
 abbrev pub channel_of : Listening → ℕ

@@ -2,6 +2,10 @@ pub mod WorldDevices
 pub mod DeviceShapes
 pub mod Fields
 pub mod FieldSteps
+pub mod FieldHearings
 pub mod Moments
 pub mod Running
 pub mod Runs
+pub mod Worlds
+pub mod WorldShapes
+pub mod Frames

@@ -1,5 +1,5 @@
 -- What holds of a run at each moment.
-use Rattle.std.specs.Prelude.{◌≡◌, ◌≢◌, ◌⊎◌, ◌↔◌, ℕ, ◌<◌, ◌≤◌, List, [], ◌∷◌, Bool, true, false, map, length, slice_get, AllPairs, Contains, Some, None}
+use Rattle.std.specs.Prelude.{◌≡◌, ◌≢◌, ◌⊎◌, ◌↔◌, ℕ, ◌<◌, ◌≤◌, List, [], Bool, true, false, map, length, slice_get, AllPairs, Contains, Some, None}
 use Rattle.std.specs.declared.option.Option.{Option}
 use Rattle.scenario_text.specs.ScenarioParts.{ScenarioParts}
 use Rattle.scenario_text.specs.ScenarioFacts.{turned}
@@ -11,6 +11,7 @@ use Rattle.radio_model.specs.Hearing.{Scene, IsTuned, Hears}
 use Rattle.radio_model.specs.Holding.{Holds, as_it_stands}
 use Rattle.radio_model.specs.Stations.{MediumState, IsTime, sending_of, station_of}
 use Rattle.event_calendar.specs.Orders.{Due}
+use Rattle.bus_rules.specs.declared.delivery.Delivery.{Delivery}
 use Rattle.bus_rules.specs.Cores.{Setup}
 use Rattle.air_log.specs.declared.entry.Entry.{Entry}
 use Rattle.air_log.specs.Entries.{sendings_of, hearings_of, node_of, IsHeard}
@@ -18,7 +19,7 @@ use Rattle.air_log.specs.Devices.{Device, Power, PowerOff, PowerOn, Listening}
 use Rattle.air_log.specs.Trails.{setup_of, frame_start}
 use Rattle.air_log.specs.Lawful.{comes_before, AreInTurn, heard_by}
 use Rattle.air_log.specs.Drops.{drops_below}
-use Rattle.lwb_world.specs.Fields.{FieldState, Shows, setups_of, ids_of}
+use Rattle.lwb_world.specs.Fields.{FieldState, IsField, Shows, setups_of, ids_of}
 use Rattle.lwb_world.specs.Moments.{Moment, IsAt, over_by}
 
 -- the devices are those of the scenario's nodes, in their order
@@ -27,6 +28,7 @@ setup_by s n = setup_of s n.node
 
 pub record HasPlaces (s : ScenarioParts) (w : FieldState) (due : List Due) : Type 0 where
   pub setups : setups_of w ≡ map (setup_by s) s.nodes
+  pub field : IsField w
   pub places : length due ≡ length s.nodes
 
 -- the device at the place of v has come to this moment of its trail over what is in the log
@@ -61,7 +63,9 @@ pub record HoldsScene (s : ScenarioParts) (t : ℕ) (w : FieldState) (due : List
   pub sendings : (x : Sending) → Contains a.sendings x ↔ Contains (sendings_of w.air) x
   pub begun : (x : Sending) → Contains (sendings_of w.air) x → (x.start < x.end) × (x.start ≤ t)
   pub tuned : (q : Setup) (p : ℕ) (d : Device) → Shows q t w due p d → (r k : ℕ) → k < t → IsTuned (as_it_stands w.medium t a) q.id r k ↔ WasTuned d r k
+  -- what the lists have is of these devices
   pub known : (e : Entry) → Contains w.air e → Contains (ids_of w) (node_of e)
+  pub deliverers : (d : Delivery) → Contains w.deliveries d → Contains (ids_of w) d.node
 
 -- of the sendings that are over the log has who heard them, by the rule of hearing
 pub record HasHearings (over t : ℕ) (w : FieldState) (a : Scene) : Type 0 where

@@ -9,7 +9,7 @@ use Rattle.radio_model.specs.declared.sending.Sending.{Sending}
 use Rattle.event_calendar.specs.Orders.{Due}
 use Rattle.bus_rules.specs.declared.delivery.Delivery.{Delivery}
 use Rattle.bus_rules.specs.declared.delivery.DropLine.{DropLine}
-use Rattle.node_core.specs.Nodes.{Node, NodeState}
+use Rattle.node_core.specs.Nodes.{NodeState}
 use Rattle.air_log.specs.declared.entry.Entry.{Entry}
 use Rattle.air_log.specs.Devices.{Device, Power, PowerOff, PowerOn, Ordered}
 use Rattle.air_log.specs.Lawful.{Lawful, trail_in}

@@ -11,15 +11,18 @@ use Rattle.radio_model.specs.OnAir.{Tuning}
 use Rattle.bus_rules.specs.declared.delivery.Delivery.{Delivery}
 use Rattle.bus_rules.specs.declared.delivery.DropLine.{DropLine}
 use Rattle.bus_rules.specs.Cores.{Setup}
+use Rattle.node_core.specs.Nodes.{Node, NodeState}
 use Rattle.node_core.specs.Rows.{Stepped, row}
 use Rattle.node_core.specs.Runs.{node_after}
 use Rattle.air_log.specs.declared.entry.TunedEntry.{TunedEntry}
 use Rattle.air_log.specs.WindowLogs.{windows_after}
 use Rattle.air_log.specs.Devices.{Device, Power, PowerOff, PowerOn, Listening, Ordered, Made, delivery_by, event}
 
--- closed: the tuning that ended last, as long as its entry is not in the log; delivery: that of the last step
+-- core: the node, also where its power is off; closed: the tuning that ended last, as long as its entry is not in the log;
+-- delivery: that of the last step
 pub record DeviceState : Type 0 where
   pub setup : Setup
+  pub core : Node
   pub power : Power
   pub listening : Option Listening
   pub closed : Option TunedEntry
@@ -89,7 +92,7 @@ row_of clock t e s = row_at clock t e s.setup s.power
 -- the device after a row, but for its orders
 abbrev pub after_row : DeviceState → Option Stepped → DeviceState
 after_row s None = s
-after_row s (Some r) = record s { power = PowerOn r.node; delivery = r.delivery }
+after_row s (Some r) = record s { core = r.node; power = PowerOn r.node; delivery = r.delivery }
 
 -- what a row makes: its delivery, and what it is to the windows
 abbrev pub made_by : ℕ → Event → Option Sending → Power → Option Stepped → Made → Made
@@ -126,3 +129,12 @@ CanBoot (PowerOn n) = ⊤
 -- a put that is lost, or is not
 abbrev pub with_drop : Bool → DropLine → Made → Made
 with_drop lost drop made = record made { drops = if lost then made.drops ++ drop ∷ [] else made.drops }
+
+-- the node core of a device
+abbrev pub core_in : DeviceState → NodeState
+core_in d = record { setup = d.setup; node = d.core; delivery = d.delivery }
+
+-- of a device that is on
+abbrev pub IsCoreAt : Node → Power → Type 0
+IsCoreAt n (PowerOff boots) = ⊤
+IsCoreAt n (PowerOn m) = n ≡ m

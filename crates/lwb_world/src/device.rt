@@ -1,13 +1,15 @@
 //! One node with its radio and its alarm, as the world runs it.
 
-ghost use Rattle.std.specs.Prelude.{◌≡◌, ◌<◌, ◌≤◌, ◌^◌, ℕ, IfOk, IfSome, Some, None, length};
+ghost use Rattle.std.specs.Prelude.{◌≡◌, ◌<◌, ◌≤◌, ◌^◌, ℕ, IfOk, IfSome, Some, None, length, max};
+ghost use Rattle.tick_clock.specs.Clocks.{due};
 ghost use Rattle.lwb_base.specs.declared.order.Order.TheVariants.{Listen};
 ghost use Rattle.bus_rules.specs.Cores.{own_rank};
+ghost use Rattle.node_core.specs.Nodes.{rebooted};
 ghost use Rattle.air_log.specs.Devices.{Made, nothing_made, at_rest, silenced, retuned, obeyed, listens_to};
-ghost use Rattle.lwb_world.specs.WorldDevices.{whole, with_tuned, EndedBefore, HappenedBy, IsSameNode, IsTimely};
+ghost use Rattle.lwb_world.specs.WorldDevices.{whole, with_tuned, EndedBefore, HappenedBy, IsSameNode, IsCoreAt};
 
 use air_log::TunedEntry;
-use lwb_base::{Memory, NodeId, Order, Packet, Profile, Rank};
+use lwb_base::{Memory, NodeId, Packet, Profile, Rank};
 use node_core::Node;
 use radio_model::sending::Sending;
 use std::alloc::Global;
@@ -70,7 +72,7 @@ impl Model for Device {
 
     ghost Value = { DeviceState };
 
-    ghost view = { λ d. record { setup = d.core.setup; power = power_of d.on d.boots d.core.node; listening = d.listening; closed = d.closed; alarm = d.alarm; ordered = d.ordered; sending = d.sending; delivery = d.core.delivery } };
+    ghost view = { λ d. record { setup = d.core.setup; core = d.core.node; power = power_of d.on d.boots d.core.node; listening = d.listening; closed = d.closed; alarm = d.alarm; ordered = d.ordered; sending = d.sending; delivery = d.core.delivery } };
 
     ghost invariant = { λ d. IsDevice d.node d.profile d.core d.on d.boots d.closed d.listening };
 }
@@ -89,6 +91,7 @@ impl Device {
         ensures setup { IfOk result (λ d. d.setup ≡ record { profile = profile.now; id = node; own = own_rank node hosts.now; ranks = length hosts.now; sends = n }) }
         ensures rest { IfOk result (λ d. whole d nothing_made ≡ at_rest) }
         ensures delivery { IfOk result (λ d. d.delivery ≡ None) }
+        ensures core { IfOk result (λ d. d.core ≡ rebooted 1) }
     {
         Ok(Device {
             node,
@@ -107,7 +110,9 @@ impl Device {
     // The tuning that was kept back.
     pub(crate) fn hand_out(&mut self) -> Option<TunedEntry>
         ensures whole { (made : Made) → whole self.old made ≡ whole self.new (with_tuned result made) }
+        ensures own { IfSome result (λ e. e.node ≡ self.old.setup.id) }
         ensures none { self.new.closed ≡ None }
+        ensures core { IsCoreAt self.new.core self.new.power }
         ensures time { (t : ℕ) → HappenedBy t self.old → HappenedBy t self.new }
         ensures node { IsSameNode self.old self.new }
     {
@@ -116,33 +121,32 @@ impl Device {
         closed
     }
 
-    // An order at tick t. What is handed out is a tuning that cannot go on any more.
-    pub(crate) fn obey<C: DriftClock>(
+    // A packet is to be sent at a local time, or at once if that has passed: at this true tick.
+    pub(crate) fn order_sending<C: DriftClock>(
         &mut self,
         clock: &C,
         t: u64,
-        order: Order,
-    ) -> Option<TunedEntry>
-        requires time { HappenedBy t self.old }
-        requires timely { IsTimely order }
-        ensures whole { (made : Made) → EndedBefore t made.tuned → obeyed (C.readings clock.now) self.old.setup.id t (whole self.old made) order ≡ whole self.new (with_tuned result made) }
-        ensures before { IfSome result (λ e. e.end < t) }
-        ensures time { HappenedBy t self.new }
-        ensures node { IsSameNode self.old self.new }
+        local: u64,
+        packet: Packet,
+    ) -> u64
+        requires timely { local < 2 ^ 47 }
+        ensures tick { result ≡ max (due (C.readings clock.now) local) t }
+        ensures after { self.new ≡ record self.old { ordered = Some (record { tick = result; packet = packet }) } }
     {
-        match order {
-            Order::Listen(rank) => self.listen(rank, t),
-            Order::Off => self.silence(t),
-            Order::SendAt(local, packet) => {
-                let tick = clock.due(local).max(t);
-                self.ordered = Some(Ordered { tick, packet });
-                None
-            }
-            Order::Alarm(local) => {
-                self.alarm = Some(clock.due(local).max(t));
-                None
-            }
-        }
+        let tick = clock.due(local).max(t);
+        self.ordered = Some(Ordered { tick, packet });
+        tick
+    }
+
+    // The alarm is set to a local time, or to this very tick if that has passed: to this true tick.
+    pub(crate) fn set_alarm<C: DriftClock>(&mut self, clock: &C, t: u64, local: u64) -> u64
+        requires timely { local < 2 ^ 47 }
+        ensures tick { result ≡ max (due (C.readings clock.now) local) t }
+        ensures after { self.new ≡ record self.old { alarm = Some result } }
+    {
+        let tick = clock.due(local).max(t);
+        self.alarm = Some(tick);
+        tick
     }
 
     // The radio goes on at the channel of a rank, unless it is.
@@ -150,6 +154,7 @@ impl Device {
         requires time { HappenedBy t self.old }
         ensures whole { (clock : ℕ → ℕ) (made : Made) → EndedBefore t made.tuned → obeyed clock self.old.setup.id t (whole self.old made) (Listen rank) ≡ whole self.new (with_tuned result made) }
         ensures before { IfSome result (λ e. e.end < t) }
+        ensures own { IfSome result (λ e. e.node ≡ self.old.setup.id) }
         ensures time { HappenedBy t self.new }
         ensures node { IsSameNode self.old self.new }
     {
@@ -165,6 +170,7 @@ impl Device {
     pub(crate) fn silence(&mut self, t: u64) -> Option<TunedEntry>
         ensures whole { (made : Made) → silenced self.old.setup.id t (whole self.old made) ≡ whole self.new (with_tuned result made) }
         ensures before { IfSome result (λ e. e.end < t) }
+        ensures own { IfSome result (λ e. e.node ≡ self.old.setup.id) }
         ensures off { self.new.listening ≡ None }
         ensures time { HappenedBy t self.old → HappenedBy t self.new }
         ensures node { IsSameNode self.old self.new }

@@ -17,8 +17,7 @@ impl Device {
     pub(crate) fn switch_on(&mut self) -> bool
         requires { CanBoot self.old.power }
         ensures whole { (clock : ℕ → ℕ) (t frame : ℕ) (made : Made) → after_act clock self.old.setup t frame (whole self.old made) On self.old.power ≡ (if result then event clock self.old.setup t Boot None (whole self.new made) else whole self.new made) }
-        ensures setup { self.new.setup ≡ self.old.setup }
-        ensures delivery { self.new.delivery ≡ (if result then None else self.old.delivery) }
+        ensures after { self.new ≡ (if result then record self.old { core = self.new.core; power = self.new.power; delivery = None } else self.old) }
         ensures time { (now : ℕ) → HappenedBy now self.old → HappenedBy now self.new }
     {
         if self.on {
@@ -34,6 +33,7 @@ impl Device {
     pub(crate) fn switch_off(&mut self, t: u64) -> Option<TunedEntry>
         ensures whole { (clock : ℕ → ℕ) (frame : ℕ) (made : Made) → after_act clock self.old.setup t frame (whole self.old made) Off self.old.power ≡ whole self.new (with_tuned result made) }
         ensures before { IfSome result (λ e. e.end < t) }
+        ensures own { IfSome result (λ e. e.node ≡ self.old.setup.id) }
         ensures time { HappenedBy t self.old → HappenedBy t self.new }
         ensures node { IsSameNode self.old self.new }
     {

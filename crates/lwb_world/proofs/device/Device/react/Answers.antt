@@ -20,6 +20,7 @@ invariant_of-self g c =
       boot = λ on. followed_boot _ _ _ _ _ _ _ kept row ∙ c.self.invariant.boot on;
       early = followed_zero _ _ _ _ _ _ _ c.self.invariant.early (timely old.setup old.node c.self.invariant.early c.new.result c.args.event now) row;
       kept = c.self.invariant.kept;
+      own = c.self.invariant.own;
     }
 
 pub returns-then-self-clause-timely : goal.returns-then-self-clause-timely

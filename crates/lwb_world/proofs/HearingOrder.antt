@@ -1,0 +1,91 @@
+-- The order of hearings, by the ends and the senders of what is heard, and the order of ids.
+use Rattle.std.proofs.Common.{◌≡◌, ◌≢◌, ℕ, ◌<◌, ◌⊎◌, inl, inr, List, [], ◌∷◌, ◌++◌, true, false, nat_lt, ◌==◌, slice_get, bytes_eq, Some, sym, ◌∙◌, ap, arith, Contains, AllPairs, lt-ltb, ltb-true, eqb-true, eq-eqb}
+use Rattle.std.proofs.lemmas.Bool.{cases_eq, cases_Bool, cases_order, or_left, or_right, or_cases, and_parts, and_from, false_from_ne_true, true≢false}
+use Rattle.std.proofs.lemmas.Slice.Eq.{bytes_eq-Decides}
+use Rattle.std.proofs.lemmas.List.Elements.{Contains-append_cases}
+use Rattle.std.proofs.lemmas.Option.{slice_get_within, get_or_from_slice_get}
+use Rattle.radio_model.specs.declared.sending.Sending.{Sending}
+use Rattle.radio_model.specs.OnAir.{Hearing}
+use Rattle.radio_model.proofs.Members.{in_head, in_tail, pairs_cons, pairs_tail, pairs_head}
+use Rattle.air_log.specs.Lawful.{comes_before}
+
+-- by end, and then by sender
+abbrev pub IsEarlier : Sending → Sending → Type 0
+IsEarlier x y = (x.end < y.end) ⊎ ((x.end ≡ y.end) × (x.node < y.node))
+
+pub earlier : (g h : Hearing) → comes_before g h ≡ true → IsEarlier g.sending h.sending
+earlier g h is =
+    elim (or_cases (nat_lt g.sending.end h.sending.end) _ is) [
+      | inl less ↦ inl (ltb-true g.sending.end h.sending.end less)
+      | inr same ↦
+          let both = and_parts (g.sending.end == h.sending.end) (nat_lt g.sending.node h.sending.node) same in
+          inr (eqb-true g.sending.end h.sending.end both.0, ltb-true g.sending.node h.sending.node both.1)
+    ]
+
+pub comes_if : (g h : Hearing) → IsEarlier g.sending h.sending → comes_before g h ≡ true
+comes_if g h is =
+    elim is [
+      | inl less ↦ or_left (nat_lt g.sending.end h.sending.end) _ (lt-ltb g.sending.end h.sending.end less)
+      | inr both ↦ or_right (nat_lt g.sending.end h.sending.end) _ (and_from (g.sending.end == h.sending.end) (nat_lt g.sending.node h.sending.node) (eq-eqb g.sending.end h.sending.end both.0) (lt-ltb g.sending.node h.sending.node both.1))
+    ]
+
+pub not_both : (x y : Sending) → IsEarlier x y → IsEarlier y x → ⊥
+not_both x y a b = elim a [
+  | inl less ↦ elim b [ inl more ↦ omega (arith, less, more) | inr same ↦ omega (arith, less, same.0) ]
+  | inr at ↦ elim b [ inl more ↦ omega (arith, at.0, more) | inr same ↦ omega (arith, at.1, same.1) ]
+]
+
+pub not_before : (g h : Hearing) → (IsEarlier g.sending h.sending → ⊥) → comes_before g h ≡ false
+not_before g h never = false_from_ne_true (comes_before g h) (λ is. never (earlier g h is))
+
+-- pairs of two lists, one behind the other
+pub pairs_append : {X : Type 0} (R : X → X → Type 0) (xs ys : List X) → AllPairs R xs → AllPairs R ys → ((x y : X) → Contains xs x → Contains ys y → R x y) → AllPairs R (xs ++ ys)
+pairs_append R [] ys first second across = second
+pairs_append R (x ∷ xs) ys first second across =
+    pairs_cons R x (xs ++ ys)
+    (λ y there. elim (Contains-append_cases xs ys y there) [ inl in_first ↦ pairs_head R x xs first y in_first | inr in_second ↦ across x y (in_head xs x) in_second ])
+    (pairs_append R xs ys (pairs_tail R x xs first) second (λ z y in_first in_second. across z y (in_tail xs x z in_first) in_second))
+
+-- two sendings are the same or not
+pub same_sending : (x y : Sending) → x.rank ≡ y.rank → x.node ≡ y.node → x.start ≡ y.start → x.end ≡ y.end → x.packet ≡ y.packet → x ≡ y
+same_sending x y rank node start end packet =
+    ap (λ (n : ℕ). record x { rank = n }) rank
+    ∙ ap (λ (n : ℕ). record x { rank = y.rank; node = n }) node
+    ∙ ap (λ (n : ℕ). record x { rank = y.rank; node = y.node; start = n }) start
+    ∙ ap (λ (n : ℕ). record x { rank = y.rank; node = y.node; start = y.start; end = n }) end
+    ∙ ap (λ (p : List ℕ). record x { rank = y.rank; node = y.node; start = y.start; end = y.end; packet = p }) packet
+
+pub which_sending : (x y : Sending) → (x ≡ y) ⊎ (x ≢ y)
+which_sending x y =
+    elim (cases_eq x.rank y.rank) [
+      | inr other ↦ inr (λ is. other (ap (λ (z : Sending). z.rank) is))
+      | inl rank ↦ elim (cases_eq x.node y.node) [
+        | inr other ↦ inr (λ is. other (ap (λ (z : Sending). z.node) is))
+        | inl node ↦ elim (cases_eq x.start y.start) [
+          | inr other ↦ inr (λ is. other (ap (λ (z : Sending). z.start) is))
+          | inl start ↦ elim (cases_eq x.end y.end) [
+            | inr other ↦ inr (λ is. other (ap (λ (z : Sending). z.end) is))
+            | inl end ↦ elim (cases_Bool (bytes_eq x.packet y.packet)) [
+              | inl same ↦ inl (same_sending x y rank node start end ((bytes_eq-Decides x.packet y.packet).0 same))
+              | inr other ↦ inr (λ is. true≢false (sym ((bytes_eq-Decides x.packet y.packet).1 (ap (λ (z : Sending). z.packet) is)) ∙ other))
+            ]
+          ]
+        ]
+      ]
+    ]
+
+-- of ascending ids
+module _ (ids : List ℕ) (ascending : AllPairs (λ a b. a < b) ids) where
+  pub ids_ascend : (p r u v : ℕ) → slice_get ids p ≡ Some u → slice_get ids r ≡ Some v → p < r → u < v
+  ids_ascend p r u v at_p at_r less =
+      omega (arith, ascending p r 0 less (slice_get_within ids r v at_r), get_or_from_slice_get ids p u 0 at_p, get_or_from_slice_get ids r v 0 at_r)
+
+  pub one_place : (p r v : ℕ) → slice_get ids p ≡ Some v → slice_get ids r ≡ Some v → p ≡ r
+  one_place p r v at_p at_r =
+      elim (cases_order p r) [
+        | inl same ↦ same
+        | inr other ↦ elim other [
+          | inl less ↦ absurd (omega (arith, ids_ascend p r v v at_p at_r less))
+          | inr more ↦ absurd (omega (arith, ids_ascend r p v v at_r at_p more))
+        ]
+      ]

@@ -1,0 +1,6 @@
+use Rattle.std.proofs.Common.{◌≡◌, ◌<◌, ℕ, get_or}
+use Rattle.lwb_world.specs.WorldDevices.{DeviceState}
+use Rattle.lwb_world.proofs.field.Field.place_of.Given as goal
+
+abbrev pub invariant-loop-place : goal.invariant-loop-place
+invariant-loop-place l = (k : ℕ) (d : DeviceState) → k < l.place → (get_or l.device-items k d).setup.id ≡ l.node → ⊥

@@ -1,0 +1,222 @@
+//! The devices of a run on the air that they share: what is told to one of them, and what it orders.
+
+ghost use Rattle.std.specs.Prelude.{◌≡◌, ◌≤◌, ◌<◌, ◌^◌, ℕ, List, [], ◌++◌, true, false, Option, Some, None, OnOk, IfOk, length, option_to_list, All, fold};
+ghost use Rattle.event_calendar.specs.Orders.{at};
+ghost use Rattle.event_calendar.specs.declared.class.Class.TheVariants.{SendingEnd as EndOf, Alarm as AlarmOf, SendingStart as StartOf};
+ghost use Rattle.bus_rules.specs.Cores.{Setup};
+ghost use Rattle.radio_model.specs.Stations.{IsTime};
+ghost use Rattle.radio_model.specs.declared.sending.Sending.{Sending as SendingOf};
+ghost use Rattle.air_log.specs.AlarmRuns.{IsAlarmRun};
+ghost use Rattle.air_log.specs.Devices.{Device as DeviceOf, obeyed, event as event_at};
+ghost use Rattle.air_log.specs.Trails.{is_due, alarmed, begun as begun_at};
+ghost use Rattle.lwb_world.specs.WorldDevices.{IsTimely};
+ghost use Rattle.lwb_world.specs.Fields.{Shows, IsShown, entries_of};
+ghost use Rattle.lwb_world.specs.FieldSteps.{Acts, IsFirst, IsClosed, starting};
+
+use crate::device::Device;
+use air_log::{Air, Entry, SentEntry, TunedEntry};
+use bus_rules::{Delivery, DropLine};
+use event_calendar::{Class, Orders};
+use lwb_base::{Event, Memory, NodeId, Order, RecordingRadio};
+use radio_model::Medium;
+use scenario_text::Scenario;
+use std::alloc::Global;
+use std::marker::Model;
+use tick_clock::DriftClock;
+
+// The medium, the devices by ascending ids, and what is in the lists so far, in the order in which it was made.
+#[derive(Drop)]
+pub(crate) struct Field {
+    pub(crate) medium: Medium,
+    pub(crate) devices: Vec<Device>,
+    pub(crate) air: Air,
+    pub(crate) deliveries: Vec<Delivery>,
+    pub(crate) drops: Vec<DropLine>,
+}
+
+impl Model for Field {
+    ghost use Rattle.lwb_world.specs.Fields.{FieldState, IsField};
+
+    ghost Value = { FieldState };
+
+    ghost view = { λ w. record { medium = w.medium; devices = w.devices.items; air = w.air; deliveries = w.deliveries.items; drops = w.drops.items } };
+
+    ghost invariant = { λ w. IsField (record { medium = w.medium; devices = w.devices.items; air = w.air; deliveries = w.deliveries.items; drops = w.drops.items }) };
+}
+
+impl Field {
+    // The device at the place is told of an event at tick t, and what it orders is done.
+    pub(crate) fn tell<C: DriftClock, Q: Orders>(
+        &mut self,
+        orders: &mut Q,
+        clock: &C,
+        place: u8,
+        t: u64,
+        event: Event,
+    ) -> Result<(), Memory>
+        requires shown { IsShown t self.old (Q.map orders.old) place }
+        requires time { IsTime self.old.medium t }
+        requires early { t ≤ 2 ^ 45 }
+        ensures { (ended : Option SendingOf) → OnOk result (Acts t place (λ s d. event_at (C.readings clock.now) s t event ended d) [] [] self.old (Q.map orders.old) self.new (Q.map orders.new)) }
+    {
+        let mut radio = RecordingRadio::new();
+        let device = &mut self.devices[usize::from(place)];
+        device.react(clock, t, event, &mut radio);
+        let delivery = device.delivered();
+        self.log_delivery(delivery)?;
+        self.obey_all(orders, clock, place, t, radio)
+    }
+
+    // The orders that the device at the place gave to its radio, at tick t.
+    fn obey_all<C: DriftClock, Q: Orders>(
+        &mut self,
+        orders: &mut Q,
+        clock: &C,
+        place: u8,
+        t: u64,
+        mut radio: RecordingRadio,
+    ) -> Result<(), Memory>
+        requires shown { IsShown t self.old (Q.map orders.old) place }
+        requires time { IsTime self.old.medium t }
+        requires timely { All IsTimely radio }
+        ensures { OnOk result (Acts t place (λ s d. fold (obeyed (C.readings clock.now) s.id t) d radio) [] [] self.old (Q.map orders.old) self.new (Q.map orders.new)) }
+    {
+        while let Some(order) = radio.take() {
+            self.obey(orders, clock, place, t, order)?;
+        }
+        Ok(())
+    }
+
+    // An order of the device at the place, at tick t.
+    pub(crate) fn obey<C: DriftClock, Q: Orders>(
+        &mut self,
+        orders: &mut Q,
+        clock: &C,
+        place: u8,
+        t: u64,
+        order: Order,
+    ) -> Result<(), Memory>
+        requires shown { IsShown t self.old (Q.map orders.old) place }
+        requires time { IsTime self.old.medium t }
+        requires timely { IsTimely order }
+        ensures { OnOk result (Acts t place (λ s d. obeyed (C.readings clock.now) s.id t d order) [] [] self.old (Q.map orders.old) self.new (Q.map orders.new)) }
+    {
+        let device = &mut self.devices[usize::from(place)];
+        let node = device.node;
+        match order {
+            Order::Listen(rank) => {
+                let closed = device.listen(rank, t);
+                self.medium.tune(node, Some(rank), t);
+                self.log_tuning(closed)
+            }
+            Order::Off => {
+                let closed = device.silence(t);
+                self.medium.tune(node, None, t);
+                self.log_tuning(closed)
+            }
+            Order::SendAt(local, packet) => {
+                let tick = device.order_sending(clock, t, local, packet);
+                orders.set(place, Class::SendingStart, tick);
+                Ok(())
+            }
+            Order::Alarm(local) => {
+                let tick = device.set_alarm(clock, t, local);
+                orders.set(place, Class::Alarm, tick);
+                Ok(())
+            }
+        }
+    }
+
+    // The alarms of the device at the place that are due at tick t, one after another.
+    pub(crate) fn alarm<C: DriftClock, Q: Orders>(
+        &mut self,
+        orders: &mut Q,
+        clock: &C,
+        place: u8,
+        t: u64,
+    ) -> Result<(), Memory>
+        requires shown { IsShown t self.old (Q.map orders.old) place }
+        requires time { IsTime self.old.medium t }
+        requires early { t ≤ 2 ^ 45 }
+        requires ends { (s : Setup) (d : DeviceOf) → Shows s t self.old (Q.map orders.old) place d → IsAlarmRun (C.readings clock.now) s t d (alarmed (C.readings clock.now) s t d) }
+        ensures { OnOk result (Acts t place (λ s d. alarmed (C.readings clock.now) s t d) [] [] self.old (Q.map orders.old) self.new (Q.map orders.new)) }
+    {
+        // There are fewer of them than this.
+        for _ in 0..u64::MAX {
+            if !self.take_alarm(orders, place, t) {
+                return Ok(());
+            }
+            self.tell(orders, clock, place, t, Event::Alarm)?;
+        }
+        unreachable!()
+    }
+
+    // The ordered sending of the device at the place, which stands at tick t, starts if it can.
+    pub(crate) fn begin<Q: Orders>(
+        &mut self,
+        orders: &mut Q,
+        place: u8,
+        t: u64,
+    ) -> Result<(), Memory>
+        requires shown { IsShown t self.old (Q.map orders.old) place }
+        requires time { IsTime self.old.medium t }
+        requires early { t ≤ 2 ^ 45 }
+        requires stands { at (Q.map orders.old) place StartOf ≡ Some t }
+        ensures { OnOk result ((begun : List SendingOf) × Acts t place (λ s d. begun_at s t d) begun [] self.old (Q.map orders.old) self.new (Q.map orders.new) × ((s : Setup) (d : DeviceOf) → Shows s t self.old (Q.map orders.old) place d → begun ≡ starting s t d)) }
+    {
+        orders.clear(place, Class::SendingStart);
+        let device = &mut self.devices[usize::from(place)];
+        let Some(x) = device.begin(t) else {
+            return Ok(());
+        };
+        orders.set(place, Class::SendingEnd, x.end);
+        self.medium.start(x.node, t, &x.packet);
+        let entry = SentEntry {
+            rank: x.rank,
+            node: x.node,
+            start: x.start,
+            end: x.end,
+            packet: x.packet,
+        };
+        self.air.push(Entry::Sent(entry))
+    }
+
+    // Whether the alarm of the device at the place is due at tick t; it is not set any more then.
+    fn take_alarm<Q: Orders>(&mut self, orders: &mut Q, place: u8, t: u64) -> bool
+        requires shown { IsShown t self.old (Q.map orders.old) place }
+        requires time { IsTime self.old.medium t }
+        ensures due { (s : Setup) (d : DeviceOf) → Shows s t self.old (Q.map orders.old) place d → result ≡ is_due t d.alarm }
+        ensures taken { result ≡ true → Acts t place (λ s d. record d { alarm = None }) [] [] self.old (Q.map orders.old) self.new (Q.map orders.new) }
+        ensures stays { result ≡ false → (self.new ≡ self.old) × (Q.map orders.new ≡ Q.map orders.old) }
+    {
+        let device = &mut self.devices[usize::from(place)];
+        let due = device.take_alarm(t);
+        if due {
+            orders.clear(place, Class::Alarm);
+        }
+        due
+    }
+
+    // A delivery, if there is one.
+    fn log_delivery(&mut self, delivery: Option<Delivery>) -> Result<(), Memory>
+        ensures { OnOk result (self.new ≡ record self.old { deliveries = self.old.deliveries ++ option_to_list delivery }) }
+    {
+        match delivery {
+            Some(delivery) => match self.deliveries.push(delivery) {
+                Ok(()) => Ok(()),
+                Err(_) => Err(Memory),
+            },
+            None => Ok(()),
+        }
+    }
+
+    // A tuning that has ended, if there is one.
+    pub(crate) fn log_tuning(&mut self, closed: Option<TunedEntry>) -> Result<(), Memory>
+        ensures { OnOk result (self.new ≡ record self.old { air = self.old.air ++ entries_of closed }) }
+    {
+        match closed {
+            Some(entry) => self.air.push(Entry::Tuned(entry)),
+            None => Ok(()),
+        }
+    }
+}
