@@ -1,5 +1,4 @@
-pub mod Steps
-pub mod WholeFlood
 pub mod Words
 pub mod Due
 pub mod NodeRates
+pub mod StatedRuns

@@ -1,5 +1,5 @@
-pub mod WholeSteps
 pub mod FloodReport
+pub mod RunReport
 pub mod CommandLine
-pub mod FloodAnswers
+pub mod Answers
 pub mod NodeRates

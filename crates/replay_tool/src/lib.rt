@@ -1,16 +1,23 @@
 //! The command line, from the bytes read to the bytes written.
 #![tactic(auto)]
 
+mod answer;
 mod command;
 mod flood_answer;
 mod node_rates;
 mod report;
+mod run_answer;
+mod run_report;
 mod stated_clocks;
 mod top_call;
 
 pub use top_call::{Outcome, top};
 
 #[cfg(test)]
-mod tests;
+mod core_tests;
 #[cfg(test)]
-mod whole_steps;
+mod queue_tests;
+#[cfg(test)]
+mod run_tests;
+#[cfg(test)]
+mod tests;

@@ -2,28 +2,31 @@ ghost use Rattle.std.specs.Prelude.{◌≡◌, ℕ, ◌^◌, ◌≤◌, ◌<◌,
 ghost use Rattle.tick_clock.specs.ClockReadings.{segment_clock_reads};
 ghost use Rattle.tick_clock.specs.Rates.{segment_reading, unordered_at, wild_at};
 ghost use Rattle.lwb_flood.specs.ClockLists.{clocks_by};
-ghost use Rattle.lwb_flood.specs.StatedClocks.{entry_of, stated_clock};
-ghost use Rattle.replay_tool.specs.NodeRates.{AreRatesOf};
+ghost use Rattle.lwb_flood.specs.StatedClocks.{entry_of, stated_by};
+ghost use Rattle.replay_tool.specs.NodeRates.{AreRatesOf, CanState};
 
 use crate::node_rates::NodeRates;
 use lwb_base::{Memory, NodeId};
-use scenario_text::{FloodText, RateLine};
+use scenario_text::{NodeLine, RateLine};
 use std::alloc::Global;
 use tick_clock::{ClockFault, SegmentClock};
 
 /// Ids of nodes are below this number.
 const IDS: usize = 201;
 
-/// The clocks that a text states, one for each node by ascending ids. Err is want of memory.
-pub fn stated_clocks(alloc: Global, f: &FloodText) -> Result<Vec<SegmentClock>, Memory>
-    ensures count { IfOk result (λ clocks. length clocks.items ≡ length f.now.nodes) }
-    ensures stated { IfOk result (λ clocks. (v : ℕ) → clocks_by segment_clock_reads f.now.nodes clocks.items v ≡ stated_clock f.now v) }
+/// The clocks that these lines of a text state, one for each node by ascending ids. Err is want of memory.
+pub fn stated_clocks(
+    alloc: Global,
+    nodes: &[NodeLine],
+    rates: &[RateLine],
+) -> Result<Vec<SegmentClock>, Memory>
+    requires { CanState nodes.now rates.now }
+    ensures count { IfOk result (λ clocks. length clocks.items ≡ length nodes.now) }
+    ensures stated { IfOk result (λ clocks. (v : ℕ) → clocks_by segment_clock_reads nodes.now clocks.items v ≡ stated_by nodes.now rates.now v) }
 {
-    // What a text keeps to is known from this call.
-    let _start = f.start();
-    let rates = rates_by_id(alloc, f.rates())?;
+    let rates = rates_by_id(alloc, rates)?;
     let mut clocks = Vec::new(alloc);
-    for line in f.nodes() {
+    for line in nodes {
         let clock = clock_of(alloc, line.offset, rates_of(&rates, line.node))?;
         if clocks.push(clock).is_err() {
             return Err(Memory);

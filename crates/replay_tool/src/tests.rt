@@ -2,7 +2,6 @@ ghost use Rattle.std.specs.Prelude.{◌≡◌, IfOk, length};
 
 use super::*;
 use crate::report::flood_report;
-use crate::whole_steps::flood_by_whole_steps;
 use air_log::{Air, Entry};
 use lwb_base::{INPUT_LIMIT, MemorySink, MemorySource};
 use lwb_flood::flood;
@@ -15,13 +14,18 @@ const THREE_IN_A_LINE: &str =
     "sends 2\nnode 1 0\nnode 2 0\nnode 3 0\npair 1 2\npair 2 3\nstart 1\n";
 
 // The status and what was written, over a source that gives all bytes in pieces of `most` and a sink that takes all.
-fn answer(alloc: Global, words: &[&str], text: &[u8], most: usize) -> Result<(u8, Vec<u8>), Fail> {
+pub fn answer(
+    alloc: Global,
+    words: &[&str],
+    text: &[u8],
+    most: usize,
+) -> Result<(u8, Vec<u8>), Fail> {
     let mut owned = Vec::new(alloc);
     for word in words {
         owned.push(String::from_str(alloc, word)?)?;
     }
     let mut source = MemorySource::new(alloc, text, most.max(1), &[])?;
-    let mut sink = MemorySink::new(alloc, 4096, 4096, &[])?;
+    let mut sink = MemorySink::new(alloc, 4096, 1 << 20, &[])?;
     let outcome = top(alloc, &owned, &mut source, &mut sink);
     Ok((outcome.status, Vec::from_slice(alloc, sink.bytes())?))
 }
@@ -149,61 +153,22 @@ fn sendings(alloc: Global, air: &Air) -> Result<Vec<(u8, u64, u64)>, Fail> {
     Ok(sendings)
 }
 
-// Sixteen nodes with some of their links, of which some are lost in a step.
-fn many_links(alloc: Global) -> Result<String, Fail> {
-    let mut text = String::from_str(alloc, "sends 3\n")?;
-    for id in 1..17 {
-        text.push_str(format!(in alloc; "node {id} 0\n")?.as_str())?;
-    }
-    let mut number = 1u32;
-    for from in 1..17 {
-        for to in 1..17 {
-            number = number.wrapping_mul(75).wrapping_add(74) % 65_537;
-            if from != to && number % 6 == 0 {
-                let step = number % 5;
-                text.push_str(format!(in alloc;
-                    "link {from} {to}\nlose {step} {from} {to}\n"
-                )?.as_str())?;
-            }
-        }
-    }
-    text.push_str("start 5\n")?;
-    Ok(text)
-}
-
-#[test]
-fn whole_steps_give_the_same(rt: HostRuntime) -> Result<(), Fail> {
-    let alloc = rt.alloc();
-    let line = long_line(alloc)?;
-    let links = many_links(alloc)?;
-    for text in [
-        THREE_IN_A_LINE,
-        FIRST_HOP_LOST,
-        EQUAL_RELAYS,
-        line.as_str(),
-        links.as_str(),
-    ] {
-        let bytes = text.as_bytes();
-        assert!(rt; bytes.len() <= INPUT_LIMIT);
-        let (status, written) = answer(alloc, &["flood"], bytes, 4096)?;
-        assert_eq!(rt; status, 0, "of {text}");
-        let f = parse_flood(alloc, bytes)?;
-        let report = flood_report(alloc, &flood_by_whole_steps(alloc, &f)?)?;
-        assert_eq!(rt; written.as_slice(), report.as_bytes(), "of {text}");
-    }
-    Ok(())
-}
+const RATE_OUT_OF_RANGE: &str =
+    "frames 6\nsends 2\nnode 1 0\nnode 2 0\nhost 0 1\npair 1 2\nrate 1 0 21\n";
 
 #[test]
 fn words_and_texts_that_are_refused(rt: HostRuntime) -> Result<(), Fail> {
     let alloc = rt.alloc();
-    let usage = (2, "usage: flood\n");
-    let words: [(&[&str], &str, (u8, &str)); 6] = [
-        (&["run"], THREE_IN_A_LINE, usage),
+    let usage = (2, "usage: flood | run | log\n");
+    let words: [(&[&str], &str, (u8, &str)); 9] = [
         (&["run", "extra"], THREE_IN_A_LINE, usage),
+        (&["floods"], THREE_IN_A_LINE, usage),
         (&[], THREE_IN_A_LINE, usage),
         (&["flood", "flood"], THREE_IN_A_LINE, usage),
         (&["flood"], "", (1, "fault line 1: Missing\n")),
+        (&["run"], "", (1, "fault line 1: Missing\n")),
+        (&["run"], RATE_OUT_OF_RANGE, (1, "fault line 7: Range\n")),
+        (&["log"], "contend 2\n", (1, "fault line 1: Order\n")),
         (
             &["flood"],
             "sends 2\nnode 1 0\nnode 2 0\nnode 3 0\npair 1 2\npair 2 3\n",

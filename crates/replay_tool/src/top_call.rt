@@ -1,10 +1,14 @@
-ghost use Rattle.std.specs.Prelude.{◌≡◌, ◌≢◌, ◌⊎◌, ◌≤◌, ◌<◌, ℕ, List, [], Option, Some, length, take, IfOk, IfSome, IfNone, map, string_bytes};
+ghost use Rattle.std.specs.Prelude.{◌≡◌, ◌≢◌, ◌⊎◌, ◌≤◌, ◌<◌, ◌^◌, ℕ, List, [], Option, Some, length, take, IfOk, map, string_bytes};
 ghost use Rattle.std.specs.Io.KnownBytes.{Appends};
 ghost use Rattle.lwb_base.specs.Causes.{Rose};
-ghost use Rattle.replay_tool.specs.CommandLine.{IsFlood, ReportDue, FaultDue, UsageDue, SomeDue, IsComplete, Written, PartWritten};
+ghost use Rattle.replay_tool.specs.CommandLine.{Asks, IsCommand, ReportDue, FaultDue, UsageDue, SomeDue, IsComplete, Written, PartWritten};
+ghost use Rattle.replay_tool.specs.Answers.{Answers};
+ghost use Rattle.replay_tool.specs.declared.command.Command.{Command as CommandOf};
 
-use crate::command::is_flood;
-use crate::flood_answer::{FloodAnswer, flood_answer};
+use crate::answer::Answer;
+use crate::command::{Command, command_of};
+use crate::flood_answer::flood_answer;
+use crate::run_answer::{log_answer, run_answer};
 use air_log::Air;
 use lwb_base::{INPUT_LIMIT, Memory, ReadStop, Sink, Source, read_all, write_all};
 use std::alloc::Global;
@@ -15,12 +19,12 @@ pub struct Outcome {
     /// 0: the whole text was written. 1: the input was refused. 2: the words are no command. 3: the source failed.
     /// 4: the sink failed. 5: want of memory.
     pub status: u8,
-    /// The log of the flood that was run over the clocks that the text states. It is empty but with status 0, and with
-    /// status 4 where a report could not be written.
+    /// The log of what was run over the clocks that the text states. It is empty but with status 0, and with status 4
+    /// where a report could not be written.
     pub air: Air,
 }
 
-const USAGE: &[u8; 13] = b"usage: flood\n";
+const USAGE: &[u8; 25] = b"usage: flood | run | log\n";
 
 const TOO_LONG: &[u8; 15] = b"fault too long\n";
 
@@ -38,37 +42,49 @@ pub fn top<S: Source, K: Sink>(
     ensures usage { result.status ≡ 2 → Written (K.held sink.old) (K.held sink.new) (UsageDue (map string_bytes words.now)) }
 
     // A source that failed, a sink that failed, and want of memory.
-    ensures read_fault { result.status ≡ 3 → IsFlood (map string_bytes words.now) × Rose (S.faults source.old) (S.faults source.new) × (sink.new ≡ sink.old) }
+    ensures read_fault { result.status ≡ 3 → IsCommand (map string_bytes words.now) × Rose (S.faults source.old) (S.faults source.new) × (sink.new ≡ sink.old) }
     ensures write_fault { result.status ≡ 4 → Rose (K.faults sink.old) (K.faults sink.new)
         × PartWritten (K.held sink.old) (K.held sink.new) (SomeDue (map string_bytes words.now) (S.left source.old) (S.left source.new) result.air) }
-    ensures memory { result.status ≡ 5 → IsFlood (map string_bytes words.now) × (sink.new ≡ sink.old) }
+    ensures memory { result.status ≡ 5 → IsCommand (map string_bytes words.now) × (sink.new ≡ sink.old) }
 
     ensures no_log { result.status ≢ 0 → result.status ≢ 4 → result.air ≡ [] }
 
     // The counts of faults never fall, and for words that are no command the source stays as it was.
     ensures source_later { S.faults source.old ≤ S.faults source.new }
     ensures sink_later { K.faults sink.old ≤ K.faults sink.new }
-    ensures complete { IsFlood (map string_bytes words.now) → (Rose (S.faults source.old) (S.faults source.new) → ⊥) → (Rose (K.faults sink.old) (K.faults sink.new) → ⊥)
-        → (b : List ℕ) → S.left source.old ≡ Some b → IsComplete b result.status }
-    ensures complete_usage { (IsFlood (map string_bytes words.now) → ⊥) → (Rose (K.faults sink.old) (K.faults sink.new) → ⊥) → result.status ≡ 2 }
-    ensures untouched { (IsFlood (map string_bytes words.now) → ⊥) → source.new ≡ source.old }
+    ensures complete { (c : CommandOf) → Asks (map string_bytes words.now) c → (Rose (S.faults source.old) (S.faults source.new) → ⊥) → (Rose (K.faults sink.old) (K.faults sink.new) → ⊥)
+        → (b : List ℕ) → S.left source.old ≡ Some b → IsComplete c b result.status }
+    ensures complete_usage { (IsCommand (map string_bytes words.now) → ⊥) → (Rose (K.faults sink.old) (K.faults sink.new) → ⊥) → result.status ≡ 2 }
+    ensures untouched { (IsCommand (map string_bytes words.now) → ⊥) → source.new ≡ source.old }
 {
-    if !is_flood(words) {
+    let Some(command) = command_of(words) else {
         return without_log(alloc, say(sink, USAGE, 2));
-    }
+    };
     let bytes = match read_all(alloc, source) {
         Ok(bytes) => bytes,
         Err(ReadStop::ReadFault) => return without_log(alloc, 3),
         Err(ReadStop::TooLong) => return without_log(alloc, say(sink, TOO_LONG, 1)),
         Err(ReadStop::Memory) => return without_log(alloc, 5),
     };
-    match flood_answer(alloc, &bytes) {
-        Ok(FloodAnswer::Report(text, air)) => {
+    match answer(alloc, command, &bytes) {
+        Ok(Answer::Report(text, air)) => {
             let status = say(sink, text.as_bytes(), 0);
             Outcome { status, air }
         }
-        Ok(FloodAnswer::Fault(text)) => without_log(alloc, say(sink, text.as_bytes(), 1)),
+        Ok(Answer::Fault(text)) => without_log(alloc, say(sink, text.as_bytes(), 1)),
         Err(Memory) => without_log(alloc, 5),
+    }
+}
+
+// What the command has to write of these bytes.
+fn answer(alloc: Global, command: Command, bytes: &[u8]) -> Result<Answer, Memory>
+    requires { length bytes.now < 2 ^ 31 }
+    ensures { IfOk result (λ a. Answers command bytes.now a) }
+{
+    match command {
+        Command::Flood => flood_answer(alloc, bytes),
+        Command::Run => run_answer(alloc, bytes),
+        Command::Log => log_answer(alloc, bytes),
     }
 }
 

@@ -33,6 +33,7 @@ pub use printing::print;
 pub use reading::parse;
 pub use scenario::Scenario;
 pub use script::{Act, ScriptLine};
+pub use script_writers::write_payload;
 
 #[cfg(test)]
 mod tests;

@@ -72,7 +72,8 @@ fn write_put(
     write!(text, "\n")
 }
 
-fn write_payload(text: &mut String, bytes: &[u8]) -> Result<(), AllocError>
+/// Writes a payload's bytes as two digits each, or `-` where there are none.
+pub fn write_payload(text: &mut String, bytes: &[u8]) -> Result<(), AllocError>
     ensures { OnOk result (string_bytes text.new ≡ string_bytes text.old ++ payload_word bytes.now) }
 {
     if bytes.is_empty() {

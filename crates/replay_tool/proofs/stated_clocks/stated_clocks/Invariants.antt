@@ -3,4 +3,4 @@ use Rattle.replay_tool.specs.NodeRates.{AreClocks}
 use Rattle.replay_tool.proofs.stated_clocks.stated_clocks.Given as goal
 
 abbrev pub invariant-loop-line : goal.invariant-loop-line
-invariant-loop-line l = AreClocks l.f.rates (take l.line-index l.f.nodes) l.clocks.items
+invariant-loop-line l = AreClocks l.fn.rates (take l.line-index l.nodes) l.clocks.items

@@ -1,0 +1,10 @@
+-- Internal: what a command has to write.
+use Rattle.std.specs.Prelude.{ℕ, List, string_bytes}
+use Rattle.replay_tool.specs.CommandLine.{IsReport, IsFaultLine}
+use Rattle.replay_tool.specs.declared.answer.Answer.{Answer}
+use Rattle.replay_tool.specs.declared.answer.Answer.TheVariants.{Report, Fault}
+use Rattle.replay_tool.specs.declared.command.Command.{Command}
+
+abbrev pub Answers : Command → List ℕ → Answer → Type 0
+Answers c b (Report text air) = IsReport c b air (string_bytes text)
+Answers c b (Fault text) = IsFaultLine c b (string_bytes text)

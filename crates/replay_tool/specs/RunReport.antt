@@ -1,0 +1,28 @@
+-- The bytes of the report of a run.
+use Rattle.std.specs.Prelude.{ℕ, List, [], ◌∷◌, ◌++◌, codes, flat_map}
+use Rattle.scenario_text.specs.Canonical.{line_text, numbered}
+use Rattle.scenario_text.specs.Payloads.{payload_word}
+use Rattle.scenario_text.specs.ScenarioParts.{ScenarioParts}
+use Rattle.bus_rules.specs.declared.delivery.Delivery.{Delivery}
+use Rattle.bus_rules.specs.declared.delivery.DropLine.{DropLine}
+use Rattle.air_log.specs.declared.entry.Entry.{Entry}
+use Rattle.air_log.specs.Deliveries.{deliveries_of}
+use Rattle.air_log.specs.Drops.{drops_of}
+
+abbrev pub delivery_numbers : Delivery → List ℕ
+delivery_numbers d = d.frame ∷ d.rank ∷ d.slot ∷ d.node ∷ d.from ∷ d.boot ∷ d.stream ∷ d.seq ∷ []
+
+abbrev pub delivery_line : Delivery → List ℕ
+delivery_line d = line_text (numbered (codes "deliver") (delivery_numbers d) ++ payload_word d.payload ∷ [])
+
+abbrev pub drop_line : DropLine → List ℕ
+drop_line l = line_text (numbered (codes "drop") (l.frame ∷ l.node ∷ l.stream ∷ []))
+
+-- a line for each delivery, then one for each lost put
+abbrev pub report_lines : List Delivery → List DropLine → List ℕ
+report_lines made lost = flat_map delivery_line made ++ flat_map drop_line lost
+
+-- of a scenario over these clocks, by its log: the deliveries by frame, rank, slot and node, and the drops in the order
+-- of the text
+abbrev pub run_report : ScenarioParts → (ℕ → ℕ → ℕ) → List Entry → List ℕ
+run_report s clocks air = report_lines (deliveries_of s clocks air) (drops_of s clocks air)

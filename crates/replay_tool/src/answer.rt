@@ -1,0 +1,35 @@
+ghost use Rattle.std.specs.Prelude.{◌≡◌, ℕ, List, IfOk, string_bytes};
+ghost use Rattle.replay_tool.specs.Answers.{Answers};
+ghost use Rattle.replay_tool.specs.CommandLine.{HasFault, fault_line as fault_line_of};
+ghost use Rattle.replay_tool.specs.declared.command.Command.{Command as CommandOf};
+
+use air_log::Air;
+use lwb_base::Memory;
+use scenario_text::FaultKind;
+use std::alloc::{AllocError, Global};
+use std::fmt::Write;
+
+/// What a command writes, and the log of what it ran.
+#[derive(Drop)]
+pub enum Answer {
+    Report(String, Air),
+    Fault(String),
+}
+
+/// The answer to a text whose first fault is of this kind and in this line.
+pub fn fault_answer(alloc: Global, line: u32, kind: FaultKind) -> Result<Answer, Memory>
+    ensures { (c : CommandOf) (b : List ℕ) → HasFault c b line kind → IfOk result (λ a. Answers c b a) }
+{
+    match fault_line(alloc, line, kind) {
+        Ok(fault) => Ok(Answer::Fault(fault)),
+        Err(_) => Err(Memory),
+    }
+}
+
+fn fault_line(alloc: Global, line: u32, kind: FaultKind) -> Result<String, AllocError>
+    ensures { IfOk result (λ text. string_bytes text ≡ fault_line_of line kind) }
+{
+    let mut text = String::new(alloc);
+    write!(text, "fault line {line}: {kind}\n")?;
+    Ok(text)
+}

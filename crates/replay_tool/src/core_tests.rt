@@ -1,0 +1,209 @@
+//! Node cores by themselves, driven through the hearings of a run's log: they order what the log says was sent and tuned.
+
+ghost use Rattle.std.specs.Prelude.{◌≡◌, IfOk, OnOk};
+ghost use Rattle.lwb_base.specs.Profile.{one};
+
+use crate::run_answer::stated_world;
+use crate::run_tests::{ONE_PACKET, scenario};
+use air_log::{Air, Entry, SentEntry};
+use lwb_base::{Event, NodeId, Order, Packet, Payload, Profile, Rank, RecordingRadio};
+use node_core::Node;
+use std::alloc::Global;
+use std::test::Fail;
+use tick_clock::{At, DriftClock, SegmentClock};
+
+// No tick or reading of the run comes to this.
+const FAR: u64 = 1 << 45;
+
+/// A core whose clock reads the true tick, with its alarm and its sendings: the one that is ordered, and the end of the
+/// one that runs. Its radio is on at a rank since a tick, and was on at ranks from a tick on and before another.
+#[derive(Drop)]
+struct Driven {
+    core: Node,
+    clock: SegmentClock,
+    alarm: Option<u64>,
+    ordered: Option<(u64, Packet)>,
+    sends_until: Option<u64>,
+    listening: Option<(Rank, u64)>,
+    tuned: Vec<(Rank, u64, u64)>,
+}
+
+// Node 1 hosts, and each node sends at most twice in a flood. It has booted at tick 0.
+fn booted(alloc: Global, id: u8) -> Result<Driven, Fail>
+    ensures { IfOk result (λ d. d.core.setup.profile ≡ one) }
+{
+    let host = NodeId::new(1).ok_or("id")?;
+    let id = NodeId::new(id).ok_or("id")?;
+    let mut driven = Driven {
+        core: Node::new(alloc, &Profile::one(), id, &[host], 2)?,
+        clock: SegmentClock::new(alloc, 0, &[])?,
+        alarm: None,
+        ordered: None,
+        sends_until: None,
+        listening: None,
+        tuned: Vec::new(alloc),
+    };
+    driven.tell(0, Event::Boot)?;
+    Ok(driven)
+}
+
+impl Driven {
+    // The event happens at tick t, and what it orders is kept.
+    fn tell(&mut self, t: u64, event: Event) -> Result<(), Fail>
+        ensures { OnOk result (self.new.core.setup ≡ self.old.core.setup) }
+    {
+        if t > FAR || self.is_late_by(t) {
+            return Err("late")?;
+        }
+        let mut radio = RecordingRadio::new();
+        self.core.step(&At::new(&self.clock, t), &mut radio, event);
+        for _ in 0..8 {
+            if let Some(order) = radio.take() {
+                self.obey(t, order)?;
+            }
+        }
+        Ok(())
+    }
+
+    // An order that it gives at tick t is kept.
+    fn obey(&mut self, t: u64, order: Order) -> Result<(), Fail>
+        ensures { OnOk result (self.new.core.setup ≡ self.old.core.setup) }
+    {
+        match order {
+            Order::Listen(rank) => self.turn(Some(rank), t),
+            Order::Off => self.turn(None, t),
+            Order::SendAt(local, packet) => {
+                self.ordered = Some((self.due(local).max(t), packet));
+                Ok(())
+            }
+            Order::Alarm(local) => {
+                self.alarm = Some(self.due(local).max(t));
+                Ok(())
+            }
+        }
+    }
+
+    // The radio goes to a rank at tick t, or off.
+    fn turn(&mut self, rank: Option<Rank>, t: u64) -> Result<(), Fail>
+        ensures { OnOk result (self.new.core.setup ≡ self.old.core.setup) }
+    {
+        if let Some((before, since)) = self.listening {
+            if rank == Some(before) {
+                return Ok(());
+            }
+            self.tuned.push((before, since, t))?;
+        }
+        self.listening = match rank {
+            Some(rank) => Some((rank, t)),
+            None => None,
+        };
+        Ok(())
+    }
+
+    // Whether its ordered sending was to begin before this tick.
+    fn is_late_by(&self, t: u64) -> bool {
+        match &self.ordered {
+            Some((tick, _)) => *tick < t,
+            None => false,
+        }
+    }
+
+    fn due(&self, local: u64) -> u64 {
+        self.clock.due(local.min(FAR))
+    }
+
+    // Tells it of the end of its sending and of its alarms, as far as they come before this tick.
+    fn come_to(&mut self, t: u64) -> Result<(), Fail> {
+        for _ in 0..1000 {
+            if let Some(end) = self.sends_until
+                && end < t
+                && end <= self.alarm.unwrap_or(FAR)
+            {
+                self.sends_until = None;
+                self.tell(end, Event::Sent)?;
+            } else if let Some(due) = self.alarm
+                && due < t
+            {
+                self.alarm = None;
+                self.tell(due, Event::Alarm)?;
+            } else {
+                return Ok(());
+            }
+        }
+        Err("more alarms than a frame can have")?
+    }
+
+    // Whether it has ordered this sending, and it begins to send.
+    fn begins(&mut self, sent: &SentEntry) -> bool {
+        let ordered = self.ordered.take();
+        self.sends_until = Some(sent.end);
+        match ordered {
+            Some((tick, packet)) => tick == sent.start && packet.bytes() == sent.packet.bytes(),
+            None => false,
+        }
+    }
+}
+
+// Drives a node through what it hears in a log, up to a tick, at which its radio goes off. What it orders to be sent is
+// what the log has as sent, and nothing besides; the answer says whether that is anything.
+fn drive(driven: &mut Driven, air: &Air, node: u8, end: u64) -> Result<bool, Fail> {
+    let mut has_sent = false;
+    for i in 0..air.len() {
+        match air.at(i) {
+            Some(Entry::Heard(heard)) if heard.node.number() == node => {
+                driven.come_to(heard.end)?;
+                let packet = Packet::new(heard.packet.bytes()).ok_or("length")?;
+                driven.tell(heard.end, Event::Heard(packet))?;
+            }
+            Some(Entry::Sent(sent)) if sent.node.number() == node => {
+                driven.come_to(sent.start.saturating_add(1))?;
+                if !driven.begins(sent) {
+                    return Err("another sending")?;
+                }
+                has_sent = true;
+            }
+            Some(_) | None => {}
+        }
+    }
+    driven.come_to(end)?;
+    if driven.is_late_by(end) {
+        return Err("late")?;
+    }
+    driven.turn(None, end)?;
+    Ok(has_sent)
+}
+
+// When the radio of a node was on, by a log.
+fn tuned(alloc: Global, air: &Air, node: u8) -> Result<Vec<(Rank, u64, u64)>, Fail> {
+    let mut tuned = Vec::new(alloc);
+    for i in 0..air.len() {
+        if let Some(Entry::Tuned(entry)) = air.at(i)
+            && entry.node.number() == node
+        {
+            tuned.push((entry.rank, entry.start, entry.end))?;
+        }
+    }
+    Ok(tuned)
+}
+
+#[test]
+fn cores_order_what_the_log_has(rt: HostRuntime) -> Result<(), Fail> {
+    let alloc = rt.alloc();
+    let s = scenario(alloc, ONE_PACKET)?;
+    let mut world = stated_world(alloc, &s)?;
+    world.run(alloc)?;
+    let end = 12 * 256_000_000;
+
+    let mut one = booted(alloc, 1)?;
+    assert!(rt; drive(&mut one, world.air(), 1, end)?);
+    let by_log = tuned(alloc, world.air(), 1)?;
+    assert_eq!(rt; one.tuned.as_slice(), by_log.as_slice());
+
+    let mut two = booted(alloc, 2)?;
+    two.core.declare(0, 4);
+    two.core.put(0, &Payload::new(&[0xaa]).ok_or("length")?);
+    assert!(rt; drive(&mut two, world.air(), 2, end)?);
+    let by_log = tuned(alloc, world.air(), 2)?;
+    assert_eq!(rt; two.tuned.as_slice(), by_log.as_slice());
+    Ok(())
+}

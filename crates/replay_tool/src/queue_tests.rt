@@ -1,0 +1,80 @@
+//! A run over a queue of orders that is not the world's own.
+
+ghost use Rattle.std.specs.Prelude.{◌≡◌, IfOk, length, replicate};
+ghost use Rattle.event_calendar.specs.Orders.{nothing_due};
+
+use crate::run_answer::stated_world;
+use crate::run_tests::{ONE_PACKET, scenario};
+use air_log::{Air, Entry};
+use event_calendar::{Calendar, Class, Orders};
+use lwb_base::Memory;
+use scenario_text::Scenario;
+use std::alloc::Global;
+use std::test::Fail;
+
+/// A calendar that notes the ticks at which sendings are to end.
+#[derive(Drop)]
+struct Noting {
+    calendar: Calendar,
+    ends: Vec<u64>,
+    noted_all: bool,
+}
+
+impl Orders for Noting {
+    ghost map = { λ q. q.calendar };
+
+    fn set(&mut self, place: u8, class: Class, tick: u64) {
+        if class == Class::SendingEnd && self.ends.push(tick).is_err() {
+            self.noted_all = false;
+        }
+        self.calendar.set(place, class, tick);
+    }
+
+    fn clear(&mut self, place: u8, class: Class) {
+        self.calendar.clear(place, class);
+    }
+
+    fn next(&self) -> Option<(u64, Class, u8)> {
+        self.calendar.next()
+    }
+}
+
+// One in which nothing stands, with a place for each node.
+fn empty_queue(alloc: Global, s: &Scenario) -> Result<Noting, Memory>
+    ensures { IfOk result (λ q. q.calendar ≡ replicate (length s.now.nodes) nothing_due) }
+{
+    // What a scenario keeps to is known from this call.
+    let _profile = s.profile();
+    Ok(Noting {
+        calendar: Calendar::new(alloc, s.nodes().len() as u8)?,
+        ends: Vec::new(alloc),
+        noted_all: true,
+    })
+}
+
+fn ends_of_sendings(alloc: Global, air: &Air) -> Result<Vec<u64>, Fail> {
+    let mut ends = Vec::new(alloc);
+    for i in 0..air.len() {
+        if let Some(Entry::Sent(sent)) = air.at(i) {
+            ends.push(sent.end)?;
+        }
+    }
+    Ok(ends)
+}
+
+#[test]
+fn calendar_and_noting_queue(rt: HostRuntime) -> Result<(), Fail> {
+    let alloc = rt.alloc();
+    let s = scenario(alloc, ONE_PACKET)?;
+    let mut world = stated_world(alloc, &s)?;
+    let mut queue = empty_queue(alloc, &s)?;
+    world.run_with(alloc, &mut queue)?;
+    assert!(rt; queue.noted_all);
+    let mut noted = queue.ends;
+    noted.sort()?;
+    let mut ends = ends_of_sendings(alloc, world.air())?;
+    ends.sort()?;
+    assert!(rt; ends.len() > 0);
+    assert_eq!(rt; noted.as_slice(), ends.as_slice());
+    Ok(())
+}
