@@ -17,7 +17,7 @@ appends_more a b c text gone n le p q =
 -- where a piece stops the read, so does the whole
 pub stops_after : (a b c : Option (List ℕ)) (had has : List ℕ) (stop : ReadStop) → length had ≤ 4194304 → Consumes a b had → ReadsPiece b c had has (Err stop) → ReadsAll a c (Err stop)
 stops_after a b c had has ReadFault le p q = (had ++ [], Consumes-trans a b c had [] p q, omega (arith, length-append {A = ℕ}))
-stops_after a b c had has TooLong le p q = absurd q
+stops_after a b c had has TooLong le p q = (had ++ q.0, Consumes-trans a b c had q.0 p q.1, omega (arith, length-append had q.0, q.2))
 stops_after a b c had has Memory le p q = (had ++ q.0, Consumes-trans a b c had q.0 p q.1, omega (arith, length-append had q.0, q.2))
 
 -- the next n bytes stand at the front of the room

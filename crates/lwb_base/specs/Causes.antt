@@ -1,5 +1,5 @@
 -- When a count of faults rose, and what an answer of failure says of it.
-use Rattle.std.specs.Prelude.{◌≡◌, ℕ, ◌-◌, ◌^◌, ◌<◌, ◌≤◌, ◌⊎◌, Result, OnErr}
+use Rattle.std.specs.Prelude.{◌≡◌, ℕ, ◌+◌, ◌-◌, ◌^◌, ◌<◌, ◌≤◌, ◌⊎◌, min, Result, Ok, Err, OnErr}
 
 -- the count is above what it was, or stands at the last value of a `u64`
 abbrev pub Rose : ℕ → ℕ → Type 0
@@ -9,3 +9,8 @@ Rose before now = (before < now) ⊎ (now ≡ 2 ^ 64 - 1)
 pub record HasCause {T E : Type 0} (before now : ℕ) (result : Result T E) : Type 0 where
   pub later : before ≤ now
   pub failed : OnErr result (Rose before now)
+
+-- the count after a call, where each failure counts once and nothing else does. It stops at the last value of a `u64`
+abbrev pub counted : {T E : Type 0} → ℕ → Result T E → ℕ
+counted before (Ok v) = before
+counted before (Err e) = min (before + 1) (2 ^ 64 - 1)

@@ -3,3 +3,4 @@ pub mod Profile
 pub mod Causes
 pub mod Outside
 pub mod Reading
+pub mod Orders

@@ -1,6 +1,7 @@
 -- What is said on the bus beside data: requests with their acknowledgements, and schedules. An owner of a slot is a
 -- stream of a node, seen as its code.
-use Rattle.std.specs.Prelude.{ℕ, ◌+◌, ◌*◌, ◌/◌, ◌%◌, List}
+use Rattle.std.specs.Prelude.{ℕ, zero, suc, ◌+◌, ◌-◌, ◌*◌, ◌/◌, ◌%◌, ◌^◌, List, [], ◌∷◌, Bool, ◌==◌, nat_lt, if◌then◌else◌, length}
+use Rattle.std.specs.List.{list_all}
 
 abbrev pub code : ℕ → ℕ → ℕ
 code node stream = node * 4 + stream
@@ -34,3 +35,32 @@ pub record Plan : Type 0 where
 pub record Schedule : Type 0 where
   pub plan : Plan
   pub gap : ℕ
+
+-- each is a number of w bits
+abbrev pub fit : ℕ → List ℕ → Bool
+fit w ds = list_all (λ d. nat_lt d (2 ^ w)) ds
+
+-- the least number from w on that passes; w + n where the first n do not
+unfoldable pub least : ℕ → ℕ → (ℕ → Bool) → ℕ
+least zero w passes = w
+least (suc n) w passes = if passes w then w else least n (w + 1) passes
+
+-- the least width that all of them fit. A difference of two codes fits 10 bits
+abbrev pub width_of : List ℕ → ℕ
+width_of ds = least 10 0 (λ w. fit w ds)
+
+-- of successive codes
+abbrev pub differences : List ℕ → List ℕ
+differences [] = []
+differences (c ∷ []) = []
+differences (c ∷ d ∷ cs) = (d - c) ∷ differences (d ∷ cs)
+
+-- the bytes of a list of owners: their count, and where it is not 0 the first code with the width of the differences, and
+-- these without gaps
+abbrev pub owners_length : List ℕ → ℕ
+owners_length [] = 1
+owners_length (c ∷ cs) = 3 + (length cs * width_of (differences (c ∷ cs)) + 7) / 8
+
+-- the bytes of a schedule, with four for each acknowledgement. Where no contention slots are named there is room for one
+abbrev pub length_of : Schedule → ℕ
+length_of s = (if s.plan.contend == 0 then 9 else 6 + 4 * length s.plan.acks) + owners_length s.plan.owners

@@ -1,7 +1,7 @@
 ghost use Rattle.std.specs.Prelude.{◌≡◌, ◌<◌, ◌≤◌, ◌-◌, ◌^◌, ◌↔◌, ◌⊎◌, ℕ, [], All, Contains, IsErr, IfOk, Some, length, min};
 ghost use Rattle.std.specs.Io.{WritesAtMost};
 ghost use Rattle.std.specs.Io.KnownBytes.{WriteAppends};
-ghost use Rattle.lwb_base.specs.Causes.{HasCause};
+ghost use Rattle.lwb_base.specs.Causes.{HasCause, counted};
 ghost use Rattle.lwb_base.specs.Outside.{next_call, PutsOnce};
 
 use crate::{Failed, Memory, Sink};
@@ -38,17 +38,11 @@ impl MemorySink {
         requires numbers { All (λ n. n < 2 ^ 64 - 1) fails.now }
         ensures { IfOk result (λ s. s ≡ record { held = []; most = most; room = room; fails = fails.now; calls = 0; faults = 0 }) }
     {
-        let (Ok(held), Ok(fails)) = (
-            Vec::with_capacity(alloc, room),
-            Vec::from_slice(alloc, fails),
-        ) else {
-            return Err(Memory);
-        };
         Ok(MemorySink {
-            held,
+            held: Vec::with_capacity(alloc, room)?,
             most,
             room,
-            fails,
+            fails: Vec::from_slice(alloc, fails)?,
             calls: 0,
             faults: 0,
         })
@@ -72,6 +66,7 @@ impl Sink for MemorySink {
         ensures some { 0 < length piece.now → IfOk result (λ n. 0 < n) }
         ensures bytes { WriteAppends (Some self.old.held) (Some self.new.held) result piece.now }
         ensures cause { HasCause self.old.faults self.new.faults result }
+        ensures counted { self.new.faults ≡ counted self.old.faults result }
         ensures failed { IsErr result ↔ (Contains self.old.fails (next_call self.old.calls) ⊎ ((0 < length piece.now) × (self.old.room ≤ length self.old.held))) }
         ensures most { IfOk result (λ n. n ≡ min (length piece.now) (min self.old.most (self.old.room - length self.old.held))) }
         ensures once { PutsOnce self.old self.new }

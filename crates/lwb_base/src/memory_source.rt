@@ -1,7 +1,7 @@
 ghost use Rattle.std.specs.Prelude.{◌≡◌, ◌<◌, ◌-◌, ◌^◌, ◌↔◌, ℕ, All, Contains, IsErr, IfOk, Some, length, min};
 ghost use Rattle.std.specs.Io.{ReadsAtMost};
 ghost use Rattle.std.specs.Io.KnownBytes.{ReadConsumes};
-ghost use Rattle.lwb_base.specs.Causes.{HasCause};
+ghost use Rattle.lwb_base.specs.Causes.{HasCause, counted};
 ghost use Rattle.lwb_base.specs.Outside.{next_call, TakesOnce};
 
 use crate::{Failed, Memory, Source};
@@ -42,15 +42,11 @@ impl MemorySource {
         requires numbers { All (λ n. n < 2 ^ 64 - 1) fails.now }
         ensures { IfOk result (λ s. s ≡ record { left = bytes.now; most = most; fails = fails.now; calls = 0; faults = 0 }) }
     {
-        let (Ok(data), Ok(fails)) = (Vec::from_slice(alloc, bytes), Vec::from_slice(alloc, fails))
-        else {
-            return Err(Memory);
-        };
         Ok(MemorySource {
-            data,
+            data: Vec::from_slice(alloc, bytes)?,
             at: 0,
             most,
-            fails,
+            fails: Vec::from_slice(alloc, fails)?,
             calls: 0,
             faults: 0,
         })
@@ -66,6 +62,7 @@ impl Source for MemorySource {
         ensures bound { ReadsAtMost result room.new }
         ensures bytes { ReadConsumes (Some self.old.left) (Some self.new.left) result room.new }
         ensures cause { HasCause self.old.faults self.new.faults result }
+        ensures counted { self.new.faults ≡ counted self.old.faults result }
         ensures failed { IsErr result ↔ Contains self.old.fails (next_call self.old.calls) }
         ensures most { IfOk result (λ n. n ≡ min (length room.new) (min self.old.most (length self.old.left))) }
         ensures once { TakesOnce self.old self.new }

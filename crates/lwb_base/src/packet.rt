@@ -35,6 +35,14 @@ impl Packet {
         }
     }
 
+    /// The same bytes again.
+    pub fn copy(&self) -> Packet
+        ensures { result ≡ self.now }
+    {
+        Packet::new(self.bytes()).unwrap()
+    }
+
+    /// The bytes, from the first on the air to the last.
     pub fn bytes(&self) -> &[u8]
         ensures value { result.now ≡ self.now }
         ensures length { (3 ≤ length self.now) × (length self.now ≤ 125) }
@@ -42,7 +50,7 @@ impl Packet {
         self.bytes.as_slice()
     }
 
-    /// How many bytes there are.
+    /// How many bytes there are, 3 to 125.
     pub fn length(&self) -> u8
         ensures value { result ≡ length self.now }
         ensures range { (3 ≤ result) × (result ≤ 125) }

@@ -32,6 +32,14 @@ impl Payload {
         }
     }
 
+    /// The same bytes again.
+    pub fn copy(&self) -> Payload
+        ensures { result ≡ self.now }
+    {
+        Payload::new(self.bytes()).unwrap()
+    }
+
+    /// The bytes, at most 96.
     pub fn bytes(&self) -> &[u8]
         ensures value { result.now ≡ self.now }
         ensures length { length self.now ≤ 96 }

@@ -96,84 +96,96 @@ impl Profile {
 
     /// One byte on the air.
     pub fn byte(&self) -> u64
-        ensures { result ≡ self.now.byte }
+        ensures value { result ≡ self.now.byte }
+        ensures made { IsProfile self.now }
     {
         self.byte
     }
 
     /// From the end of a hearing to the start of its relay.
     pub fn turn(&self) -> u64
-        ensures { result ≡ self.now.turn }
+        ensures value { result ≡ self.now.turn }
+        ensures made { IsProfile self.now }
     {
         self.turn
     }
 
     /// The greatest displacement at which equal sendings are heard as one.
     pub fn delta(&self) -> u64
-        ensures { result ≡ self.now.delta }
+        ensures value { result ≡ self.now.delta }
+        ensures made { IsProfile self.now }
     {
         self.delta
     }
 
     /// From the opening of a window to the initiator's start.
     pub fn listen(&self) -> u64
-        ensures { result ≡ self.now.listen }
+        ensures value { result ≡ self.now.listen }
+        ensures made { IsProfile self.now }
     {
         self.listen
     }
 
     /// One slot of a round.
     pub fn slot(&self) -> u64
-        ensures { result ≡ self.now.slot }
+        ensures value { result ≡ self.now.slot }
+        ensures made { IsProfile self.now }
     {
         self.slot
     }
 
     /// From the opening of a window to its closing.
     pub fn close(&self) -> u64
-        ensures { result ≡ self.now.close }
+        ensures value { result ≡ self.now.close }
+        ensures made { IsProfile self.now }
     {
         self.close
     }
 
     /// From the start of a frame to the start of slot 0.
     pub fn lead(&self) -> u64
-        ensures { result ≡ self.now.lead }
+        ensures value { result ≡ self.now.lead }
+        ensures made { IsProfile self.now }
     {
         self.lead
     }
 
     /// From the start of a frame to the frame alarm.
     pub fn end(&self) -> u64
-        ensures { result ≡ self.now.end }
+        ensures value { result ≡ self.now.end }
+        ensures made { IsProfile self.now }
     {
         self.end
     }
 
     /// One frame.
     pub fn frame(&self) -> u64
-        ensures { result ≡ self.now.frame }
+        ensures value { result ≡ self.now.frame }
+        ensures made { IsProfile self.now }
     {
         self.frame
     }
 
     /// The seconds that a frame counts in the arithmetic of intervals.
     pub fn seconds(&self) -> u8
-        ensures { result ≡ self.now.seconds }
+        ensures value { result ≡ self.now.seconds }
+        ensures made { IsProfile self.now }
     {
         self.seconds
     }
 
     /// The longest packet, in bytes.
     pub fn packet_max(&self) -> u8
-        ensures { result ≡ self.now.packet_max }
+        ensures value { result ≡ self.now.packet_max }
+        ensures made { IsProfile self.now }
     {
         self.packet_max
     }
 
     /// The longest payload, in bytes.
     pub fn payload_max(&self) -> u8
-        ensures { result ≡ self.now.payload_max }
+        ensures value { result ≡ self.now.payload_max }
+        ensures made { IsProfile self.now }
     {
         self.payload_max
     }
@@ -188,14 +200,16 @@ impl Profile {
 
     /// How long a packet of n bytes is on the air: 8 bytes come before it.
     pub fn airtime(&self, n: u8) -> u64
-        ensures { result ≡ airtime_of self.now n }
+        ensures value { result ≡ airtime_of self.now n }
+        ensures made { IsProfile self.now }
     {
         (u64::from(n) + 8) * self.byte
     }
 
     /// From the start of a step of a flood to the start of the next, for a packet of n bytes.
     pub fn step(&self, n: u8) -> u64
-        ensures { result ≡ step_of self.now n }
+        ensures value { result ≡ step_of self.now n }
+        ensures made { IsProfile self.now }
     {
         self.airtime(n) + self.turn
     }

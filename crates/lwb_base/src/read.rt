@@ -28,15 +28,11 @@ pub fn read_all<S: Source>(alloc: Global, source: &mut S) -> Result<Vec<u8>, Rea
     ensures later { S.faults source.old ≤ S.faults source.new }
 {
     let mut bytes = Vec::new(alloc);
-    while bytes.len() <= INPUT_LIMIT {
-        if !read_piece(source, &mut bytes)? {
-            return Ok(bytes);
-        }
-    }
-    Err(ReadStop::TooLong)
+    while read_piece(source, &mut bytes)? {}
+    Ok(bytes)
 }
 
-// Takes one piece more, and says whether there was one.
+// Takes one piece more, and says whether there was one. No memory is asked for where the input is too long.
 fn read_piece<S: Source>(source: &mut S, bytes: &mut Vec<u8>) -> Result<bool, ReadStop>
     requires { length bytes.old.items ≤ INPUT_LIMIT }
     ensures bytes { ReadsPiece (S.left source.old) (S.left source.new) bytes.old.items bytes.new.items result }
@@ -49,6 +45,9 @@ fn read_piece<S: Source>(source: &mut S, bytes: &mut Vec<u8>) -> Result<bool, Re
         Ok(count) => count,
         Err(_) => return Err(ReadStop::ReadFault),
     };
+    if bytes.len() + count > INPUT_LIMIT {
+        return Err(ReadStop::TooLong);
+    }
     match bytes.extend_from_slice(&room[..count]) {
         Ok(()) => Ok(count > 0),
         Err(AllocError) => Err(ReadStop::Memory),

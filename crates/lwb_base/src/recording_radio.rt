@@ -44,9 +44,7 @@ impl RecordingRadio {
 }
 
 impl Radio for RecordingRadio {
-    ghost given = { λ r. r };
-
-    ghost room = { λ r. 8 - length r };
+    ghost told = { λ r. record { given = r; room = 8 - length r } };
 
     fn listen(&mut self, rank: Rank) {
         self.orders.push(Order::Listen(rank));
@@ -57,16 +55,10 @@ impl Radio for RecordingRadio {
     }
 
     fn send_at(&mut self, local: u64, packet: &Packet) {
-        self.orders.push(Order::SendAt(local, copy_of(packet)));
+        self.orders.push(Order::SendAt(local, packet.copy()));
     }
 
     fn alarm(&mut self, local: u64) {
         self.orders.push(Order::Alarm(local));
     }
-}
-
-fn copy_of(packet: &Packet) -> Packet
-    ensures { result ≡ packet.now }
-{
-    Packet::new(packet.bytes()).unwrap()
 }

@@ -1,4 +1,7 @@
-ghost use Rattle.std.specs.Prelude.{◌≡◌};
+ghost use Rattle.std.specs.Prelude.{◌≡◌, ◌<◌, length, IfOk, Ok};
+ghost use Rattle.std.specs.Io.{ReadsAtMost, WritesAtMost};
+ghost use Rattle.std.specs.Io.KnownBytes.{ReadConsumes, WriteAppends};
+ghost use Rattle.lwb_base.specs.Causes.{HasCause, counted};
 
 use crate::{Failed, Sink, Source};
 use std::io::{Read, Write};
@@ -11,6 +14,7 @@ pub struct ReaderSource<R: Read + Drop> {
 }
 
 impl<R: Read + Drop> ReaderSource<R> {
+    /// A source that reads from here and has not failed yet.
     pub fn new(reader: R) -> ReaderSource<R>
         ensures { result ≡ record { reader = reader; faults = 0 } }
     {
@@ -23,7 +27,12 @@ impl<R: Read + Drop> Source for ReaderSource<R> {
 
     ghost faults = { λ s. s.faults };
 
-    fn take(&mut self, room: &mut [u8]) -> Result<usize, Failed> {
+    fn take(&mut self, room: &mut [u8]) -> Result<usize, Failed>
+        ensures bound { ReadsAtMost result room.new }
+        ensures bytes { ReadConsumes (R.remaining self.old.reader) (R.remaining self.new.reader) result room.new }
+        ensures cause { HasCause self.old.faults self.new.faults result }
+        ensures counted { self.new.faults ≡ counted self.old.faults result }
+    {
         match self.reader.read(room) {
             Ok(count) => Ok(count),
             Err(_) => {
@@ -35,7 +44,7 @@ impl<R: Read + Drop> Source for ReaderSource<R> {
 }
 
 /// A writer of the standard library as a sink. It counts the writes that failed or took nothing of a piece that is
-/// not empty, up to the last value of a `u64`.
+/// not empty, up to the last value of a `u64`. An empty piece is taken without a write.
 #[derive(Drop)]
 pub struct WriterSink<W: Write + Drop> {
     writer: W,
@@ -43,6 +52,7 @@ pub struct WriterSink<W: Write + Drop> {
 }
 
 impl<W: Write + Drop> WriterSink<W> {
+    /// A sink that writes there and has not failed yet.
     pub fn new(writer: W) -> WriterSink<W>
         ensures { result ≡ record { writer = writer; faults = 0 } }
     {
@@ -55,9 +65,19 @@ impl<W: Write + Drop> Sink for WriterSink<W> {
 
     ghost faults = { λ s. s.faults };
 
-    fn put(&mut self, piece: &[u8]) -> Result<usize, Failed> {
+    fn put(&mut self, piece: &[u8]) -> Result<usize, Failed>
+        ensures bound { WritesAtMost result piece.now }
+        ensures some { 0 < length piece.now → IfOk result (λ n. 0 < n) }
+        ensures bytes { WriteAppends (W.contents self.old.writer) (W.contents self.new.writer) result piece.now }
+        ensures cause { HasCause self.old.faults self.new.faults result }
+        ensures counted { self.new.faults ≡ counted self.old.faults result }
+        ensures nothing { length piece.now ≡ 0 → result ≡ Ok 0 }
+    {
+        if piece.is_empty() {
+            return Ok(0);
+        }
         match self.writer.write(piece) {
-            Ok(count) if count > 0 || piece.is_empty() => Ok(count),
+            Ok(count) if count > 0 => Ok(count),
             _ => {
                 self.faults = self.faults.saturating_add(1);
                 Err(Failed)
