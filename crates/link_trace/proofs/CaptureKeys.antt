@@ -83,3 +83,7 @@ module _ (f j k v : ℕ) (ls : List CaptureLine) (up : Ascends by_capture ls) wh
   place_of_key (Err at) inside parted = λ u.
       let place = searched by_capture by_capture_total ls (key 0) up (Err at) inside parted in
       record { within = place.within; below = place.below; above = place.above }
+
+  pub none_of_key : (r : Result ℕ ℕ) → IsSearchInRange r (length ls) → IsBinarySearchResult (λ x. by_capture x (key 0)) ls r → IfErr r (λ at. list_any (is_capture f j k v) ls ≡ false)
+  none_of_key (Ok at) inside found = tt
+  none_of_key (Err at) inside parted = absent 0 at (searched by_capture by_capture_total ls (key 0) up (Err at) inside parted)

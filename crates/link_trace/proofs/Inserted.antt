@@ -1,5 +1,5 @@
 -- A line added in its order: what the list then holds, that it ascends, and where a search finds its place.
-use Rattle.std.proofs.Common.{◌≡◌, ℕ, zero, suc, ◌+◌, ◌-◌, ◌<◌, ◌≤◌, List, [], ◌∷◌, ◌++◌, Bool, true, false, ◌||◌, ◌&&◌, length, get_or, Result, Ok, Err, is_ok, refl, sym, ◌∙◌, ap, subst, arith, inl, inr, if◌then◌else◌}
+use Rattle.std.proofs.Common.{◌≡◌, ℕ, zero, suc, ◌+◌, ◌-◌, ◌<◌, ◌≤◌, List, [], ◌∷◌, ◌++◌, Bool, true, false, ◌||◌, ◌&&◌, length, get_or, Result, Ok, Err, refl, sym, ◌∙◌, ap, subst, arith, inl, inr, if◌then◌else◌}
 use Rattle.std.proofs.lemmas.Bool.{cases_lt, false≢true}
 use Rattle.std.proofs.lemmas.List.Edits.{length-insert, get_or-insert_below, get_or-insert_at, get_or-insert_above, insert_end}
 use Rattle.std.proofs.lemmas.List.Sorted.{searchable_from_sorted}
@@ -11,6 +11,7 @@ use Rattle.std.specs.Ordering.{ordering_index, ordering_reverse, is_lt, is_eq}
 use Rattle.std.specs.declared.cmp.Ordering.{Ordering}
 use Rattle.std.specs.declared.cmp.Ordering.TheVariants.{Less, Equal, Greater}
 use Rattle.std.specs.Result.{MatchResult}
+use Rattle.std.specs.Prelude.{IfOk, IfErr}
 use Rattle.link_trace.specs.Order.{Ascends, HasPlace, with_line}
 
 module _ {L : Type 0} (order : L → L → Ordering) where
@@ -98,9 +99,13 @@ module _ {L : Type 0} (order : L → L → Ordering) (total : IsTotalOrder order
     searched up (Err at) inside parted = let parts = parted (rises ls up l) in record { within = inside; below = parts.0; above = parts.1 }
 
     -- it finds the line exactly where it is there
-    pub found_exactly : Ascends order ls → (r : Result ℕ ℕ) → IsSearchInRange r (length ls) → IsBinarySearchResult (λ x. order x l) ls r → is_ok r ≡ there
-    found_exactly up (Ok at) inside found = sym (searched up (Ok at) inside found)
-    found_exactly up (Err at) inside parted = sym (not_there at (searched up (Err at) inside parted))
+    pub found_there : Ascends order ls → (r : Result ℕ ℕ) → IsSearchInRange r (length ls) → IsBinarySearchResult (λ x. order x l) ls r → IfOk r (λ at. there ≡ true)
+    found_there up (Ok at) inside found = searched up (Ok at) inside found
+    found_there up (Err at) inside parted = tt
+
+    pub not_found_there : Ascends order ls → (r : Result ℕ ℕ) → IsSearchInRange r (length ls) → IsBinarySearchResult (λ x. order x l) ls r → IfErr r (λ at. there ≡ false)
+    not_found_there up (Ok at) inside found = tt
+    not_found_there up (Err at) inside parted = not_there at (searched up (Err at) inside parted)
 
     module _ (at : ℕ) (place : HasPlace order ls l at) where
       pub insert_is_with_line : insert ls at l ≡ with_line order l ls

@@ -3,5 +3,7 @@ pub mod Orders
 pub mod Together
 pub mod CaptureKeys
 pub mod MaskBits
+pub mod MaskReads
 pub mod MasksOfPassing
+pub mod MasksOfReaching
 pub mod SmallSeals

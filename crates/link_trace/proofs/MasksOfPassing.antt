@@ -9,7 +9,7 @@ use Rattle.link_trace.specs.Passes.{Lines, is_link, is_loss, is_of_step, cuts_by
 use Rattle.link_trace.proofs.MaskBits.{empty_mask, same_tests, removed}
 use Rattle.link_trace.proofs.Together.{list_any-filter, one_of_these}
 
-grouped : (a b c : Bool) → (a && (b && c)) ≡ (a && b && c)
+pub grouped : (a b c : Bool) → (a && (b && c)) ≡ (a && b && c)
 grouped true b c = refl
 grouped false b c = refl
 

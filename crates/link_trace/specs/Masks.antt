@@ -1,8 +1,9 @@
 -- Masks of the nodes of a seal, and those that a sealed trace keeps.
-use Rattle.std.specs.Prelude.{◌≡◌, ℕ, ◌<◌, ◌≤◌, List, Bool, ◌&&◌, nat_lt, length, slice_index, if◌then◌else◌}
+use Rattle.std.specs.Prelude.{◌≡◌, ℕ, ◌<◌, ◌≤◌, List, Bool, ◌&&◌, nat_lt, length, slice_index, slice_index_or, if◌then◌else◌}
 use Rattle.std.specs.Int.{bit_at}
 use Rattle.std.specs.List.{list_any, AllPairs}
 use Rattle.link_trace.specs.declared.lines.LinkLine.{LinkLine}
+use Rattle.link_trace.specs.declared.masks.LinkMasks.{LinkMasks}
 use Rattle.link_trace.specs.Order.{AreInOrder}
 use Rattle.link_trace.specs.Passes.{Lines, is_link}
 
@@ -20,14 +21,16 @@ IsMaskUpto test nodes n mask = (i : ℕ) → bit_at mask i ≡ (if nat_lt i n &&
 abbrev pub IsMask : (ℕ → Bool) → List ℕ → ℕ → Type 0
 IsMask test nodes mask = IsMaskUpto test nodes (length nodes) mask
 
--- one mask for each node, of the nodes that have a link to it
-pub record AreLinkMasks (links : List LinkLine) (nodes masks : List ℕ) : Type 0 where
+-- one for each node, of the nodes that have a link to it and of those to which it has one
+pub record AreLinkMasks (links : List LinkLine) (nodes : List ℕ) (masks : List LinkMasks) : Type 0 where
   pub one_each : length masks ≡ length nodes
-  pub to_each : (at : ℕ) → at < length nodes
-      → IsMask (λ from. list_any (is_link from (slice_index nodes at)) links) nodes (slice_index masks at)
+  pub to_each : (at : ℕ) (d : LinkMasks) → at < length nodes
+      → IsMask (λ from. list_any (is_link from (slice_index nodes at)) links) nodes (slice_index_or masks at d).to_it
+  pub from_each : (at : ℕ) (d : LinkMasks) → at < length nodes
+      → IsMask (λ to. list_any (is_link (slice_index nodes at) to) links) nodes (slice_index_or masks at d).from_it
 
 -- what is true of each trace
-pub record AreKept (t : Lines) (nodes masks : List ℕ) : Type 0 where
+pub record AreKept (t : Lines) (nodes : List ℕ) (masks : List LinkMasks) : Type 0 where
   pub in_order : AreInOrder t
   pub few : length nodes ≤ 64
   pub ascending : AllPairs (λ a b. a < b) nodes

@@ -17,15 +17,15 @@ pub fn add_capture(lines: &mut Vec<CaptureLine>, line: CaptureLine) -> Result<bo
     ensures ascends { Ascends by_capture lines.new.items }
     ensures twice { result ≡ Ok false
         → list_any (is_capture line.frame line.slot line.step line.at) lines.old.items ≡ true }
+    ensures there { list_any (is_capture line.frame line.slot line.step line.at) lines.old.items ≡ true
+        → result ≡ Ok false }
     ensures same { result ≡ Ok false → lines.new.items ≡ lines.old.items }
     ensures err { OnErr result (lines.new.items ≡ lines.old.items) }
 {
     match find_capture(lines, line.frame, line.slot, line.step, line.at) {
         Ok(_) => Ok(false),
         Err(place) => {
-            if lines.insert(place, line).is_err() {
-                return Err(Memory);
-            }
+            lines.insert(place, line)?;
             Ok(true)
         }
     }
@@ -58,7 +58,8 @@ fn find_capture(
 ) -> Result<usize, usize>
     requires { Ascends by_capture lines.now }
     ensures found { IfOk result (IsFirst (is_capture frame slot step at) lines.now) }
-    ensures absent { IfErr result (λ place. (from : ℕ)
+    ensures absent { IfErr result (λ _. list_any (is_capture frame slot step at) lines.now ≡ false) }
+    ensures place { IfErr result (λ place. (from : ℕ)
         → HasPlace by_capture lines.now (record { frame = frame; slot = slot; step = step; at = at; from = from }) place) }
 {
     let key = (frame, slot, step, at);

@@ -1,8 +1,8 @@
-ghost use Rattle.std.specs.Prelude.{◌≡◌, Ok, true, false, OnErr};
+ghost use Rattle.std.specs.Prelude.{◌≡◌, Ok, true, false, IfOk, IfErr, OnErr};
 ghost use Rattle.std.specs.List.{list_any};
 ghost use Rattle.std.specs.Ordering.{is_eq};
 ghost use Rattle.link_trace.specs.Passes.{is_link};
-ghost use Rattle.link_trace.specs.Order.{Ascends, by_link, with_line};
+ghost use Rattle.link_trace.specs.Order.{Ascends, HasPlace, by_link, with_line};
 
 use crate::LinkLine;
 use lwb_base::{Memory, NodeId};
@@ -14,15 +14,14 @@ pub fn add_in_order<L: Ord + Drop>(lines: &mut Vec<L>, line: L) -> Result<bool, 
     ensures fresh { result ≡ Ok true → list_any (λ l. is_eq (L.cmp l line)) lines.old.items ≡ false }
     ensures ascends { Ascends L.cmp lines.new.items }
     ensures twice { result ≡ Ok false → list_any (λ l. is_eq (L.cmp l line)) lines.old.items ≡ true }
+    ensures there { list_any (λ l. is_eq (L.cmp l line)) lines.old.items ≡ true → result ≡ Ok false }
     ensures same { result ≡ Ok false → lines.new.items ≡ lines.old.items }
     ensures err { OnErr result (lines.new.items ≡ lines.old.items) }
 {
-    match lines.binary_search(&line) {
+    match find_line(lines, &line) {
         Ok(_) => Ok(false),
         Err(place) => {
-            if lines.insert(place, line).is_err() {
-                return Err(Memory);
-            }
+            lines.insert(place, line)?;
             Ok(true)
         }
     }
@@ -33,7 +32,7 @@ pub fn is_there<L: Ord>(lines: &[L], line: &L) -> bool
     requires { Ascends L.cmp lines.now }
     ensures { result ≡ list_any (λ l. is_eq (L.cmp l line.now)) lines.now }
 {
-    lines.binary_search(line).is_ok()
+    find_line(lines, line).is_ok()
 }
 
 /// Whether the pair is one of the links.
@@ -42,4 +41,14 @@ pub fn has_link(links: &[LinkLine], from: NodeId, to: NodeId) -> bool
     ensures { result ≡ list_any (is_link from to) links.now }
 {
     is_there(links, &LinkLine { from, to })
+}
+
+// Where the line is, or where it would go.
+fn find_line<L: Ord>(lines: &[L], line: &L) -> Result<usize, usize>
+    requires { Ascends L.cmp lines.now }
+    ensures found { IfOk result (λ _. list_any (λ l. is_eq (L.cmp l line.now)) lines.now ≡ true) }
+    ensures absent { IfErr result (λ _. list_any (λ l. is_eq (L.cmp l line.now)) lines.now ≡ false) }
+    ensures place { IfErr result (HasPlace L.cmp lines.now line.now) }
+{
+    lines.binary_search(line)
 }

@@ -19,6 +19,13 @@ pub trait Links {
         ensures { IsMask (λ from. passes (lines self.now) frame slot step from (slice_index (nodes self.now) at))
             (nodes self.now) result };
 
+    /// The nodes to which a link from node `from` passes in that frame, slot and step: bit i is that of node i, and bits
+    /// past the nodes are 0. Nodes are counted from 0, as the seal names them.
+    fn to_mask(&self, frame: u32, slot: u8, step: u8, from: u8) -> u64
+        requires { from < length (nodes self.now) }
+        ensures { IsMask (λ to. passes (lines self.now) frame slot step (slice_index (nodes self.now) from) to)
+            (nodes self.now) result };
+
     /// The sender that the capture line of that frame, slot and step at the node names. None comes exactly where there
     /// is no such line.
     fn captured(&self, frame: u32, slot: u8, step: u8, at: NodeId) -> Option<NodeId>
@@ -32,6 +39,10 @@ impl Links for Trace {
 
     fn from_mask(&self, frame: u32, slot: u8, step: u8, at: u8) -> u64 {
         Trace::from_mask(self, frame, slot, step, at)
+    }
+
+    fn to_mask(&self, frame: u32, slot: u8, step: u8, from: u8) -> u64 {
+        Trace::to_mask(self, frame, slot, step, from)
     }
 
     fn captured(&self, frame: u32, slot: u8, step: u8, at: NodeId) -> Option<NodeId> {

@@ -24,6 +24,17 @@ fn masks_of_three<L: Links>(links: &L, frame: u32, slot: u8, step: u8) -> [u64; 
     ]
 }
 
+// Whom each of the three nodes reaches, through that bound.
+fn reach_of_three<L: Links>(links: &L, frame: u32, slot: u8, step: u8) -> [u64; 3]
+    requires { length (L.nodes links.now) ≡ 3 }
+{
+    [
+        links.to_mask(frame, slot, step, 0),
+        links.to_mask(frame, slot, step, 1),
+        links.to_mask(frame, slot, step, 2),
+    ]
+}
+
 #[test]
 fn a_link_passes_in_its_direction_but_where_it_is_lost(rt: HostRuntime) -> Result<(), Fail> {
     let one = node(1)?;
@@ -149,13 +160,13 @@ fn masks_of_three_nodes_in_a_line(rt: HostRuntime) -> Result<(), Fail> {
     trace.lose(5, 1, 0, one, two)?;
     trace.cut(5, 1, 2, three)?;
     trace.seal(&[one, two, three])?;
-    // frame, slot, step, who reaches each of the nodes
-    for (frame, slot, step, masks) in [
-        (5, 1, 0, [0b010, 0b100, 0b010]),
-        (5, 1, 1, [0b010, 0b101, 0b010]),
-        (5, 1, 2, [0b010, 0b001, 0]),
-        (5, 2, 0, [0b010, 0b001, 0]),
-        (6, 0, 0, [0b010, 0b101, 0b010]),
+    // frame, slot, step, who reaches each of the nodes, whom each of them reaches
+    for (frame, slot, step, masks, reach) in [
+        (5, 1, 0, [0b010, 0b100, 0b010], [0, 0b101, 0b010]),
+        (5, 1, 1, [0b010, 0b101, 0b010], [0b010, 0b101, 0b010]),
+        (5, 1, 2, [0b010, 0b001, 0], [0b010, 0b001, 0]),
+        (5, 2, 0, [0b010, 0b001, 0], [0b010, 0b001, 0]),
+        (6, 0, 0, [0b010, 0b101, 0b010], [0b010, 0b101, 0b010]),
     ] {
         assert_eq!(rt;
             masks_of_three(&trace, frame, slot, step),

@@ -1,14 +1,13 @@
-ghost use Rattle.std.specs.Prelude.{◌≡◌, ◌<◌, length, slice_index, OnOk, OnErr, Ok, true, false};
+ghost use Rattle.std.specs.Prelude.{◌≡◌, ◌<◌, [], length, slice_index, OnOk, OnErr, Ok, true, false};
 ghost use Rattle.std.specs.List.{list_any};
 ghost use Rattle.link_trace.specs.Passes.{is_link, is_loss, is_cut, is_capture, cut_off};
-ghost use Rattle.link_trace.specs.Order.{Ascends, by_link, by_loss, by_cut, by_capture};
-ghost use Rattle.link_trace.specs.Order.{with_link, with_loss, with_cut, with_capture};
+ghost use Rattle.link_trace.specs.Order.{Ascends, by_link, by_loss, by_cut, by_capture, with_link, with_loss, with_cut, with_capture};
 ghost use Rattle.link_trace.specs.Sealed.{unsealed, no_lines};
 ghost use Rattle.link_trace.specs.Masks.{AreNodes, IsMask};
 
 use crate::captures::{add_capture, captured_sender};
 use crate::in_order::{add_in_order, has_link, is_there};
-use crate::masks::{cut_mask, link_masks, lost_mask};
+use crate::masks::{LinkMasks, cut_mask, link_masks, lost_from_mask, lost_mask};
 use crate::ranges::{cuts_so_far, losses_of_step, names};
 use crate::{CaptureLine, CutLine, LinkLine, LoseLine};
 use lwb_base::{Memory, NodeId};
@@ -24,7 +23,7 @@ pub struct Trace {
     cuts: Vec<CutLine>,
     captures: Vec<CaptureLine>,
     nodes: Vec<NodeId>,
-    masks: Vec<u64>,
+    masks: Vec<LinkMasks>,
     alloc: Global,
 }
 
@@ -63,26 +62,26 @@ impl Trace {
     }
 
     /// Adds a link, which unseals the trace. `Ok(false)` comes exactly where it is there already, and then nothing
-    /// changes.
+    /// changes. After Memory the trace is as it was.
     pub fn link(&mut self, from: NodeId, to: NodeId) -> Result<bool, Memory>
         ensures added { result ≡ Ok true
             → self.new ≡ unsealed (with_link (record { from = from; to = to }) self.old.lines) }
         ensures fresh { result ≡ Ok true → list_any (is_link from to) self.old.lines.links ≡ false }
         ensures twice { result ≡ Ok false
             → (list_any (is_link from to) self.old.lines.links ≡ true) × (self.new ≡ self.old) }
+        ensures there { list_any (is_link from to) self.old.lines.links ≡ true → result ≡ Ok false }
         ensures err { OnErr result (self.new ≡ self.old) }
     {
         let line = LinkLine { from, to };
         let is_new = add_in_order(&mut self.links, line)?;
         if is_new {
-            self.nodes.clear();
-            self.masks.clear();
+            unseal(&mut self.nodes, &mut self.masks);
         }
         Ok(is_new)
     }
 
     /// Loses a link in one step, which unseals the trace. `Ok(false)` comes exactly where that line is there
-    /// already, and then nothing changes.
+    /// already, and then nothing changes. After Memory the trace is as it was.
     #[tactic(auto, using(crate::proofs::Orders::tells_loss))]
     pub fn lose(
         &mut self,
@@ -97,6 +96,7 @@ impl Trace {
         ensures fresh { result ≡ Ok true → list_any (is_loss frame slot step from to) self.old.lines.losses ≡ false }
         ensures twice { result ≡ Ok false
             → (list_any (is_loss frame slot step from to) self.old.lines.losses ≡ true) × (self.new ≡ self.old) }
+        ensures there { list_any (is_loss frame slot step from to) self.old.lines.losses ≡ true → result ≡ Ok false }
         ensures err { OnErr result (self.new ≡ self.old) }
     {
         let line = LoseLine {
@@ -108,20 +108,20 @@ impl Trace {
         };
         let is_new = add_in_order(&mut self.losses, line)?;
         if is_new {
-            self.nodes.clear();
-            self.masks.clear();
+            unseal(&mut self.nodes, &mut self.masks);
         }
         Ok(is_new)
     }
 
     /// Cuts a node off from that step on until the frame ends, which unseals the trace. `Ok(false)` comes exactly
-    /// where that line is there already, and then nothing changes.
+    /// where that line is there already, and then nothing changes. After Memory the trace is as it was.
     pub fn cut(&mut self, frame: u32, slot: u8, step: u8, node: NodeId) -> Result<bool, Memory>
         ensures added { result ≡ Ok true
             → self.new ≡ unsealed (with_cut (record { frame = frame; slot = slot; step = step; node = node }) self.old.lines) }
         ensures fresh { result ≡ Ok true → list_any (is_cut frame slot step node) self.old.lines.cuts ≡ false }
         ensures twice { result ≡ Ok false
             → (list_any (is_cut frame slot step node) self.old.lines.cuts ≡ true) × (self.new ≡ self.old) }
+        ensures there { list_any (is_cut frame slot step node) self.old.lines.cuts ≡ true → result ≡ Ok false }
         ensures err { OnErr result (self.new ≡ self.old) }
     {
         let line = CutLine {
@@ -132,15 +132,14 @@ impl Trace {
         };
         let is_new = add_in_order(&mut self.cuts, line)?;
         if is_new {
-            self.nodes.clear();
-            self.masks.clear();
+            unseal(&mut self.nodes, &mut self.masks);
         }
         Ok(is_new)
     }
 
     /// Names the sender that a node hears in that step where different packets meet, which unseals the trace.
     /// `Ok(false)` comes exactly where a line of that frame, slot, step and node is there already, and then nothing
-    /// changes.
+    /// changes. After Memory the trace is as it was.
     pub fn capture(
         &mut self,
         frame: u32,
@@ -154,6 +153,7 @@ impl Trace {
         ensures fresh { result ≡ Ok true → list_any (is_capture frame slot step at) self.old.lines.captures ≡ false }
         ensures twice { result ≡ Ok false
             → (list_any (is_capture frame slot step at) self.old.lines.captures ≡ true) × (self.new ≡ self.old) }
+        ensures there { list_any (is_capture frame slot step at) self.old.lines.captures ≡ true → result ≡ Ok false }
         ensures err { OnErr result (self.new ≡ self.old) }
     {
         let line = CaptureLine {
@@ -165,8 +165,7 @@ impl Trace {
         };
         let is_new = add_capture(&mut self.captures, line)?;
         if is_new {
-            self.nodes.clear();
-            self.masks.clear();
+            unseal(&mut self.nodes, &mut self.masks);
         }
         Ok(is_new)
     }
@@ -191,16 +190,14 @@ impl Trace {
     }
 
     /// Seals the trace with these nodes, 1 to 64 ascending ids: it keeps, for each of them, which of them have a link
-    /// to it. The lines stay. After Memory the trace is as it was.
+    /// to it and to which it has one. The lines stay. After Memory the trace is as it was.
     pub fn seal(&mut self, nodes: &[NodeId]) -> Result<(), Memory>
         requires { AreNodes nodes.now }
         ensures sealed { OnOk result (self.new ≡ record { lines = self.old.lines; nodes = nodes.now }) }
         ensures err { OnErr result (self.new ≡ self.old) }
     {
         let masks = link_masks(self.alloc, &self.links, nodes)?;
-        let Ok(kept) = Vec::from_slice(self.alloc, nodes) else {
-            return Err(Memory);
-        };
+        let kept = Vec::from_slice(self.alloc, nodes)?;
         self.nodes = kept;
         self.masks = masks;
         Ok(())
@@ -222,7 +219,27 @@ impl Trace {
         let losses = losses_of_step(&self.losses, frame, slot, step);
         let lost = lost_mask(losses, &self.nodes, to);
         let cut = cut_mask(cuts, &self.nodes);
-        self.masks[usize::from(at)] & !lost & !cut
+        let links = self.masks[usize::from(at)];
+        links.to_it & !lost & !cut
+    }
+
+    /// The nodes to which a link from node `from` passes in that frame, slot and step, as `from_mask` gives nodes. It
+    /// takes as long.
+    pub fn to_mask(&self, frame: u32, slot: u8, step: u8, from: u8) -> u64
+        requires { from < length self.now.nodes }
+        ensures { IsMask (λ to. passes_by self.now.lines frame slot step (slice_index self.now.nodes from) to)
+            self.now.nodes result }
+    {
+        let node = self.nodes[usize::from(from)];
+        let cuts = cuts_so_far(&self.cuts, frame, slot, step);
+        if names(cuts, node) {
+            return 0;
+        }
+        let losses = losses_of_step(&self.losses, frame, slot, step);
+        let lost = lost_from_mask(losses, &self.nodes, node);
+        let cut = cut_mask(cuts, &self.nodes);
+        let links = self.masks[usize::from(from)];
+        links.from_it & !lost & !cut
     }
 
     /// The links, ascending by the sending node and then the receiving one.
@@ -256,6 +273,15 @@ impl Trace {
     {
         &self.captures
     }
+}
+
+// A trace with another line is no longer sealed: it has no nodes and no masks.
+fn unseal(nodes: &mut Vec<NodeId>, masks: &mut Vec<LinkMasks>)
+    ensures nodes { nodes.new.items ≡ [] }
+    ensures masks { masks.new.items ≡ [] }
+{
+    nodes.clear();
+    masks.clear();
 }
 
 fn has_loss(losses: &[LoseLine], frame: u32, slot: u8, step: u8, from: NodeId, to: NodeId) -> bool

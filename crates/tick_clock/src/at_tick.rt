@@ -20,6 +20,7 @@ impl<'a, C: DriftClock> Model for At<'a, C> {
 }
 
 impl<'a, C: DriftClock> At<'a, C> {
+    /// The clock at the true tick `t` of 1/64 µs, at most 2^45.
     pub fn new(clock: &'a C, t: u64) -> At<'a, C>
         requires { t ≤ 2 ^ 45 }
         ensures { result ≡ C.readings clock.now t }

@@ -17,6 +17,7 @@ pub struct JumpClock {
 impl JumpClock {
     ghost use Rattle.tick_clock.specs.ClockReadings.{jump_clock_reads};
 
+    /// A clock that gains, or loses where it is not fast, and has the offset at tick 0: 0 to 256,000 ticks.
     pub fn new(offset: u64, fast: bool) -> JumpClock
         requires { offset ≤ 256000 }
         ensures { jump_clock_reads result ≡ jump_reading offset fast }

@@ -1,4 +1,5 @@
 ghost use Rattle.std.specs.Prelude.{◌≡◌, ℕ, ◌*◌, ◌^◌, ◌≤◌, ◌<◌, IfOk, All, length, map};
+ghost use Rattle.std.specs.Int.{div_ceil};
 ghost use Rattle.std.specs.Int.RustNames.{unsigned_abs};
 ghost use Rattle.tick_clock.specs.Rates.{wild_at, unordered_at};
 ghost use Rattle.tick_clock.specs.RatesLaw.{count_before};
@@ -51,9 +52,7 @@ pub fn segments_of(alloc: Global, rates: &[(u64, i8)]) -> Result<Vec<Segment>, M
     for &(start, ppm) in rates {
         let count = last.counted(start);
         last = Segment { start, ppm, count };
-        if segments.push(last).is_err() {
-            return Err(Memory);
-        }
+        segments.push(last)?;
     }
     Ok(segments)
 }
@@ -75,8 +74,21 @@ pub fn tick_of_count(segments: &[Segment], wanted: u128) -> u64
     ensures before { (s : ℕ) → s < result → count_before (map entry_of segments.now) s < wanted }
 {
     let last = last_below(segments, wanted);
-    let ticks = (wanted - last.count).div_ceil(u128::from(last.pace()));
-    last.start + ticks as u64
+    last.start + ticks_for(wanted - last.count, last.pace())
+}
+
+// The least number of ticks in which a clock of this pace counts so many millionths. Most counts have 64 bits, whose
+// division takes a fraction of the time of that of 128 bits.
+fn ticks_for(count: u128, pace: u64) -> u64
+    requires pace { 999980 ≤ pace }
+    requires range { count ≤ 1000000 * 2 ^ 48 }
+    ensures value { result ≡ div_ceil count pace }
+    ensures few { result ≤ 2 ^ 49 }
+{
+    match u64::try_from(count) {
+        Ok(count) => count.div_ceil(pace),
+        Err(_) => count.div_ceil(u128::from(pace)) as u64,
+    }
 }
 
 // The last segment that has begun by tick t.

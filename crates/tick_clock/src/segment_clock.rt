@@ -1,4 +1,4 @@
-ghost use Rattle.std.specs.Prelude.{◌≡◌, ℕ, ◌^◌, ◌≤◌, ◌<◌, ◌↔◌, IsErrOf, IfOk, All};
+ghost use Rattle.std.specs.Prelude.{◌≡◌, ℕ, ◌*◌, ◌/◌, ◌^◌, ◌≤◌, ◌<◌, ◌↔◌, IsErrOf, IfOk, All};
 ghost use Rattle.tick_clock.specs.Rates.{wild_at, unordered_at, segment_reading};
 ghost use Rattle.tick_clock.specs.Segments.{AreKept, AreKept-prop, first_segment};
 
@@ -71,11 +71,23 @@ impl DriftClock for SegmentClock {
     ghost keeps_drift_law = { λ c. kept_law c.offset c.segments.items c.early c.kept };
 
     fn reading(&self, t: u64) -> u64 {
-        self.offset + (count_at(&self.segments, t) / MILLIONTHS) as u64
+        self.offset + whole_ticks(count_at(&self.segments, t))
     }
 
     fn due(&self, local: u64) -> u64 {
         let ticks = local.saturating_sub(self.offset);
         tick_of_count(&self.segments, u128::from(ticks) * MILLIONTHS)
+    }
+}
+
+// So many millionths in whole ticks. In the first three days all counts have 64 bits, whose division takes a fraction of
+// the time of that of 128 bits.
+fn whole_ticks(count: u128) -> u64
+    requires { count < 1000000 * 2 ^ 64 }
+    ensures { result ≡ count / 1000000 }
+{
+    match u64::try_from(count) {
+        Ok(count) => count / 1_000_000,
+        Err(_) => (count / MILLIONTHS) as u64,
     }
 }

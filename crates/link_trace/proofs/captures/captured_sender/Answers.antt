@@ -2,7 +2,7 @@ use Rattle.std.proofs.Common.{ap, sym, Option}
 use Rattle.std.specs.Option.{option_map}
 use Rattle.link_trace.specs.declared.lines.CaptureLine.{CaptureLine}
 use Rattle.link_trace.specs.Passes.{is_capture}
-use Rattle.link_trace.proofs.CaptureKeys.{find_first, find_none, absent}
+use Rattle.link_trace.proofs.CaptureKeys.{find_first, find_none}
 use Rattle.link_trace.proofs.captures.captured_sender.Goals as goal
 
 pub returns-in-Ok : goal.returns-in-Ok
@@ -13,5 +13,4 @@ returns-in-Ok c =
 pub returns-in-Err : goal.returns-in-Err
 returns-in-Err c =
     let test = is_capture c.args.frame c.args.slot c.args.step c.args.at in
-    let none = absent c.args.frame c.args.slot c.args.step c.args.at c.args.lines.now c.requires 0 c.in-Err.field-0 (c.in-Err.ensures.absent 0) in
-    ap (λ (o : Option CaptureLine). option_map (λ (l : CaptureLine). l.from) o) (sym (find_none test c.args.lines.now none))
+    ap (λ (o : Option CaptureLine). option_map (λ (l : CaptureLine). l.from) o) (sym (find_none test c.args.lines.now c.in-Err.ensures.absent))

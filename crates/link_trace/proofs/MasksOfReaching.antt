@@ -1,0 +1,64 @@
+-- The masks of the links from a node, less those that are lost and the nodes that are cut off, tell which of them pass.
+use Rattle.std.proofs.Common.{◌≡◌, ℕ, ◌^◌, ◌<◌, ◌≤◌, List, Bool, true, false, not, ◌&&◌, ◌==◌, length, bit_and, w64, refl, sym, ◌∙◌, ap}
+use Rattle.std.specs.Int.{bit_not}
+use Rattle.std.specs.List.{filter, list_any}
+use Rattle.link_trace.specs.declared.lines.LoseLine.{LoseLine}
+use Rattle.link_trace.specs.declared.lines.CutLine.{CutLine}
+use Rattle.link_trace.specs.Masks.{IsMask}
+use Rattle.link_trace.specs.Passes.{Lines, is_link, is_loss, is_of_step, cuts_by, cut_off, passes}
+use Rattle.link_trace.proofs.MaskBits.{empty_mask, same_tests, removed}
+use Rattle.link_trace.proofs.MasksOfPassing.{grouped}
+use Rattle.link_trace.proofs.Together.{list_any-filter, one_of_these}
+
+module _ (t : Lines) (f j k from : ℕ) where
+  abbrev linked : ℕ → Bool
+  linked to = list_any (is_link from to) t.links
+
+  abbrev lost : ℕ → Bool
+  lost to = list_any (λ (l : LoseLine). (l.from == from) && (l.to == to)) (filter (is_of_step f j k) t.losses)
+
+  abbrev cut : ℕ → Bool
+  cut node = list_any (λ (l : CutLine). l.node == node) (filter (cuts_by f j k) t.cuts)
+
+  lost_is : (to : ℕ) → lost to ≡ list_any (is_loss f j k from to) t.losses
+  lost_is to =
+      list_any-filter (is_of_step f j k) (λ (l : LoseLine). (l.from == from) && (l.to == to)) t.losses
+      ∙ (λ i. list_any (λ (l : LoseLine). grouped (is_of_step f j k l) (l.from == from) (l.to == to) i) t.losses)
+
+  cut_is : (node : ℕ) → cut node ≡ cut_off t.cuts f j k node
+  cut_is node = one_of_these f j k node t.cuts
+
+  left_is : (a b c d : Bool) → c ≡ false → (a && not b && not d) ≡ (a && not b && not c && not d)
+  left_is a b false d none = ap (λ (x : Bool). x && not d) (whole (a && not b))
+    where
+      whole : (x : Bool) → x ≡ (x && true)
+      whole true = refl
+      whole false = refl
+  left_is a b true d none = cc
+
+  reaching_is : (to : ℕ) → cut from ≡ false → (linked to && not (lost to) && not (cut to)) ≡ passes t f j k from to
+  reaching_is to none =
+      left_is (linked to) (lost to) (cut from) (cut to) none
+      ∙ ap (λ (b : Bool). linked to && not b && not (cut from) && not (cut to)) (lost_is to)
+      ∙ ap (λ (b : Bool). linked to && not (list_any (is_loss f j k from to) t.losses) && not b && not (cut to)) (cut_is from)
+      ∙ ap (λ (b : Bool). linked to && not (list_any (is_loss f j k from to) t.losses) && not (cut_off t.cuts f j k from) && not b) (cut_is to)
+
+  pub mask_of_reaching : (nodes : List ℕ) → length nodes ≤ 64 → (a b c : ℕ) → b < 2 ^ 64 → c < 2 ^ 64 → cut from ≡ false → IsMask linked nodes a → IsMask lost nodes b → IsMask cut nodes c
+      → IsMask (λ to. passes t f j k from to) nodes (bit_and (bit_and a (bit_not w64 b)) (bit_not w64 c))
+  mask_of_reaching nodes few a b c b_small c_small none a_is b_is c_is =
+      same_tests nodes (λ to. linked to && not (lost to) && not (cut to)) (λ to. passes t f j k from to) (bit_and (bit_and a (bit_not w64 b)) (bit_not w64 c)) (λ to. reaching_is to none)
+      (removed nodes few (λ to. linked to && not (lost to)) cut (bit_and a (bit_not w64 b)) c c_small (removed nodes few linked lost a b b_small a_is b_is) c_is)
+
+  none_left : (a b c d : Bool) → c ≡ true → false ≡ (a && b && not c && d)
+  none_left a b true d is = ap (λ (x : Bool). x && d) (nothing (a && b))
+    where
+      nothing : (x : Bool) → false ≡ (x && false)
+      nothing true = refl
+      nothing false = refl
+  none_left a b false d is = cc
+
+  -- nothing passes from a node that is cut off
+  pub none_reaching : (nodes : List ℕ) → cut from ≡ true → IsMask (λ to. passes t f j k from to) nodes 0
+  none_reaching nodes is =
+      same_tests nodes (λ to. false) (λ to. passes t f j k from to) 0
+      (λ to. none_left (linked to) (not (list_any (is_loss f j k from to) t.losses)) (cut_off t.cuts f j k from) (not (cut_off t.cuts f j k to)) (sym (cut_is from) ∙ is)) (empty_mask nodes)
