@@ -20,5 +20,6 @@ pub fn with_counter(p: &Packet, counter: u8) -> Packet
 pub fn same_body(a: &Packet, b: &Packet) -> bool
     ensures { result ≡ bytes_eq (body a.now) (body b.now) }
 {
-    with_counter(a, 0).bytes() == with_counter(b, 0).bytes()
+    let (a, b) = (a.bytes(), b.bytes());
+    a[..2] == b[..2] && a[3..] == b[3..]
 }

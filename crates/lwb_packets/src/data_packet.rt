@@ -12,6 +12,7 @@ pub struct DataPacket {
     pub slot: u8,
     /// The relay counter, 0 to 11.
     pub counter: u8,
+    /// The node whose stream it is, 1 to 200.
     pub node: NodeId,
     /// The boot of the node that sent it, 1 to 200.
     pub boot: u8,
@@ -19,6 +20,7 @@ pub struct DataPacket {
     pub stream: u8,
     /// The number of the packet in its stream, 0 to 65,534.
     pub seq: u16,
+    /// What it carries, 0 to 96 bytes.
     pub payload: Payload,
 }
 

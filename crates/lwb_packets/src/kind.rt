@@ -10,6 +10,7 @@ pub enum Kind {
     Schedule,
     /// A data packet, which carries a payload.
     Payload,
+    /// A request of a stream, which a node sends in a contention slot.
     Request,
 }
 

@@ -11,6 +11,7 @@ pub struct Request {
     pub slot: u8,
     /// The relay counter, 0 to 11.
     pub counter: u8,
+    /// The node that asks, 1 to 200.
     pub node: NodeId,
     /// The boot of the node, 1 to 200.
     pub boot: u8,

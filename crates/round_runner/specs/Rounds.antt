@@ -4,6 +4,7 @@ use Rattle.lwb_base.specs.Profile.{Numbers}
 use Rattle.lwb_packets.specs.declared.kind.Kind.{Kind}
 use Rattle.lwb_packets.specs.declared.kind.Kind.TheVariants.{Schedule, Payload, Request}
 use Rattle.time_reference.specs.Reference.{RoundTimes, slot_time, stopped}
+use Rattle.bus_rules.specs.Plans.{last_with}
 use Rattle.round_runner.specs.declared.window.Window.{Window}
 
 -- when its slots begin, from a window's opening to the initiator's start and to its closing, the count of owners, and the
@@ -18,13 +19,9 @@ pub record Round : Type 0 where
 abbrev pub round_of : Numbers → RoundTimes → ℕ → ℕ → Round
 round_of p times owners contend = record { times = times; listen = p.listen; close = p.close; owners = owners; contend = contend }
 
--- one where no number is named
-abbrev pub slots_named : ℕ → ℕ
-slots_named contend = if contend == 0 then 1 else contend
-
--- after slot 0, the data slots and the contention slots
+-- the slot that closes it
 abbrev pub last_of : Round → ℕ
-last_of r = r.owners + slots_named r.contend + 1
+last_of r = last_with r.owners r.contend
 
 abbrev pub kind_of_slot : Round → ℕ → Kind
 kind_of_slot r j = if (j == 0) || (j == last_of r) then Schedule else if nat_le j r.owners then Payload else Request

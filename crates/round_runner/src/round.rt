@@ -3,13 +3,11 @@ ghost use Rattle.lwb_base.specs.Profile.{IsProfile};
 ghost use Rattle.round_runner.specs.Rounds.{round_of, window_of, last_of, kind_of_slot};
 
 use crate::Window;
+use bus_rules::last_slot;
 use lwb_base::Profile;
 use lwb_packets::Kind;
 use std::marker::Model;
-use time_reference::Reference;
-
-// Times stop here.
-const LAST_TIME: u64 = (1 << 47) - 1;
+use time_reference::{Reference, stopped};
 
 /// One round as a node goes by it: the times of its slots, and what each slot is for.
 ///
@@ -44,7 +42,6 @@ impl Round {
         requires contend { contend ≤ 4 }
         ensures { result ≡ round_of profile.now reference owners contend }
     {
-        let _contend = profile.contend();
         Round {
             reference,
             listen: profile.listen(),
@@ -62,8 +59,8 @@ impl Round {
         let begin = self.reference.slot_start(slot);
         Window {
             begin,
-            start: LAST_TIME.min(begin + self.listen),
-            until: LAST_TIME.min(begin + self.close),
+            start: stopped(begin + self.listen),
+            until: stopped(begin + self.close),
         }
     }
 
@@ -72,7 +69,7 @@ impl Round {
         ensures value { result ≡ last_of self.now }
         ensures range { (2 ≤ result) × (result ≤ 45) }
     {
-        self.owners + self.contend.max(1) + 1
+        last_slot(self.owners, self.contend)
     }
 
     /// What a slot is for, which is at most the last.

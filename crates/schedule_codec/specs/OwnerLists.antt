@@ -1,10 +1,12 @@
 -- Ascending lists of owners, as codes, and their bytes.
-use Rattle.std.specs.Prelude.{ℕ, zero, suc, ◌+◌, ◌-◌, ◌*◌, List, [], ◌∷◌, ◌++◌, Bool, true, ◌&&◌, nat_lt, nat_le, if◌then◌else◌, length, Some, None}
+use Rattle.std.specs.Prelude.{ℕ, ◌+◌, ◌-◌, ◌*◌, List, [], ◌∷◌, ◌++◌, Bool, true, ◌&&◌, nat_lt, nat_le, length, Some, None}
 use Rattle.std.specs.declared.option.Option.{Option}
 use Rattle.std.specs.List.{list_all, slice_get}
 use Rattle.lwb_packets.specs.Ranges.{between}
 use Rattle.lwb_packets.specs.TwoBytes.{two_bytes}
-use Rattle.schedule_codec.specs.Packing.{fit, bytes_for, packed}
+use Rattle.schedule_codec.specs.Packing.{packed}
+pub use Rattle.lwb_base.specs.Messages.{width_of, differences, owners_length}
+unfoldable pub use Rattle.lwb_base.specs.Messages.{least}
 
 -- each is not below the one before
 abbrev pub ascend : List ℕ → Bool
@@ -25,21 +27,6 @@ may_follow (Some last) c = nat_le last c
 abbrev pub takes_owner : List ℕ → ℕ → Bool
 takes_owner cs c = nat_lt (length cs) 40 && may_follow (slice_get cs (length cs - 1)) c
 
--- of successive codes
-abbrev pub differences : List ℕ → List ℕ
-differences [] = []
-differences (c ∷ []) = []
-differences (c ∷ d ∷ cs) = (d - c) ∷ differences (d ∷ cs)
-
--- the least number from w on that passes; w + n where the first n do not
-unfoldable pub least : ℕ → ℕ → (ℕ → Bool) → ℕ
-least zero w passes = w
-least (suc n) w passes = if passes w then w else least n (w + 1) passes
-
--- the least width that all of them fit. A difference of two codes fits 10 bits
-abbrev pub width_of : List ℕ → ℕ
-width_of ds = least 10 0 (λ w. fit w ds)
-
 -- the first code with the width, and the packed differences
 abbrev pub codes_bytes : ℕ → List ℕ → List ℕ
 codes_bytes c ds = two_bytes (c * 16 + width_of ds) ++ packed (width_of ds) ds
@@ -48,7 +35,3 @@ codes_bytes c ds = two_bytes (c * 16 + width_of ds) ++ packed (width_of ds) ds
 abbrev pub owners_bytes : List ℕ → List ℕ
 owners_bytes [] = 0 ∷ []
 owners_bytes (c ∷ cs) = length (c ∷ cs) ∷ codes_bytes c (differences (c ∷ cs))
-
-abbrev pub owners_length : List ℕ → ℕ
-owners_length [] = 1
-owners_length (c ∷ cs) = 3 + bytes_for (length cs * width_of (differences (c ∷ cs)))

@@ -1,10 +1,6 @@
 -- Numbers of w bits each, packed into bytes.
-use Rattle.std.specs.Prelude.{◌≡◌, true, ℕ, zero, suc, ◌+◌, ◌-◌, ◌*◌, ◌/◌, ◌%◌, ◌^◌, List, [], ◌∷◌, Bool, nat_lt, fold, length}
-use Rattle.std.specs.List.{list_all}
-
--- each is a number of w bits
-abbrev pub fit : ℕ → List ℕ → Bool
-fit w ds = list_all (λ d. nat_lt d (2 ^ w)) ds
+use Rattle.std.specs.Prelude.{◌≡◌, true, ℕ, zero, suc, ◌+◌, ◌-◌, ◌*◌, ◌/◌, ◌%◌, ◌^◌, List, [], ◌∷◌, fold, length}
+pub use Rattle.lwb_base.specs.Messages.{fit}
 
 -- numbers of w bits each, the first one highest, as one number
 unfoldable pub number : ℕ → List ℕ → ℕ

@@ -4,7 +4,8 @@ use Rattle.std.specs.List.{list_all}
 use Rattle.lwb_base.specs.Messages.{Ask, Schedule}
 use Rattle.lwb_packets.specs.Ranges.{between}
 use Rattle.schedule_codec.specs.AckLists.{are_acks, ask_in_range, ask_bytes}
-use Rattle.schedule_codec.specs.OwnerLists.{are_owners, owners_bytes, owners_length}
+use Rattle.schedule_codec.specs.OwnerLists.{are_owners, owners_bytes}
+pub use Rattle.lwb_base.specs.Messages.{length_of}
 
 -- one acknowledgement, or zeros for none
 abbrev pub single_ack : List Ask → List ℕ
@@ -63,7 +64,3 @@ pub record IsWritable (s : Schedule) (slot : ℕ) : Type 0 where
 -- these bytes are the schedule's, in some slot and with some counter
 abbrev pub spells : List ℕ → Schedule → Bool
 spells p s = in_range s (slice_index p 1) (slice_index p 2) && bytes_eq (spelling s (slice_index p 1) (slice_index p 2)) p
-
--- the bytes of a schedule
-abbrev pub length_of : Schedule → ℕ
-length_of s = (if s.plan.contend == 0 then 9 else 6 + 4 * length s.plan.acks) + owners_length s.plan.owners

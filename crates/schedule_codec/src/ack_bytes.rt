@@ -36,7 +36,9 @@ pub fn write_acks(contend: u8, acks: &Acks) -> ArrayVec<u8, 17>
 /// How many contention slots a schedule names, and what it acknowledges.
 #[derive(Drop)]
 pub struct Acknowledged {
+    /// The number of contention slots, 1 to 4, or 0 where none is named.
     pub contend: u8,
+    /// What is acknowledged: at most one where no number is named.
     pub acks: Acks,
 }
 

@@ -10,6 +10,7 @@ use std::marker::Model;
 /// The acknowledgement of a request, with the request's own fields.
 #[derive(Clone, Copy, Debug, PartialEq, Eq)]
 pub struct Ack {
+    /// The node that asked.
     pub node: NodeId,
     /// The boot of the node, 1 to 200.
     pub boot: u8,

@@ -26,6 +26,7 @@ impl Model for BitWriter {
 }
 
 impl BitWriter {
+    /// A writer that has written nothing.
     pub fn new() -> BitWriter
         ensures { result ≡ record { count = 0; value = 0 } }
     {
@@ -36,7 +37,7 @@ impl BitWriter {
         }
     }
 
-    /// Writes a number of so many bits.
+    /// Writes a number of so many bits, at most 10. There is room for 392 bits in all.
     pub fn push(&mut self, value: u16, width: u8)
         requires narrow { width ≤ 10 }
         requires value { value < 2 ^ width }
@@ -90,6 +91,7 @@ impl<'a> Model for BitReader<'a> {
 }
 
 impl<'a> BitReader<'a> {
+    /// A reader of all the bits of these bytes.
     pub fn new(bytes: &'a [u8]) -> BitReader<'a>
         ensures { result ≡ record { count = 8 * length bytes.entry.now; value = number 8 bytes.entry.now } }
     {
@@ -100,7 +102,7 @@ impl<'a> BitReader<'a> {
         }
     }
 
-    /// Reads a number of so many bits.
+    /// Reads a number of so many bits, at most 10 and no more than are left.
     pub fn take(&mut self, width: u8) -> u16
         requires narrow { width ≤ 10 }
         requires left { width ≤ self.old.count }
@@ -122,7 +124,7 @@ impl<'a> BitReader<'a> {
         number as u16
     }
 
-    /// Whether the last bits, which fill up a byte, are zero.
+    /// Whether the last bits, which fill up a byte and are fewer than 8, are zero.
     pub fn is_filled(&self) -> bool
         requires { self.now.count < 8 }
         ensures zero { result ≡ (self.now.value == 0) }

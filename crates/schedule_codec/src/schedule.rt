@@ -6,6 +6,7 @@ use std::marker::Model;
 /// the end of the round before, names the frame in which it comes.
 #[derive(Drop)]
 pub struct Schedule {
+    /// The rank of the host.
     pub host: Rank,
     /// The boot of the host, 1 to 200.
     pub host_boot: u8,
@@ -15,6 +16,7 @@ pub struct Schedule {
     pub contend: u8,
     /// At most one where the number of contention slots is not named.
     pub acks: Acks,
+    /// The owners of the data slots, from slot 1 on.
     pub owners: Owners,
 }
 

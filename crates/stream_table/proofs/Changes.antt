@@ -1,23 +1,22 @@
 -- The entries after one of them changed, or went, or came.
-use Rattle.std.proofs.Common.{◌≡◌, ◌≢◌, ℕ, ◌+◌, ◌<◌, ◌≤◌, List, [], ◌∷◌, Bool, true, false, nat_lt, not, ◌&&◌, cond, if◌then◌else◌, is_some, is_none, length, get_or, set, map, filter, filter_map, Option, Some, None, refl, sym, ◌∙◌, ap, subst, arith, eq-eqb}
-use Rattle.std.specs.List.{insert, remove, cons_option}
+use Rattle.std.proofs.Common.{◌≡◌, ◌≢◌, ℕ, ◌+◌, ◌<◌, ◌≤◌, List, [], ◌∷◌, Bool, true, false, nat_lt, not, cond, is_some, length, get_or, set, map, filter, filter_map, Option, Some, None, refl, sym, ◌∙◌, ap, subst, arith, eq-eqb}
+use Rattle.std.specs.List.{remove, cons_option}
 use Rattle.std.specs.Option.{IfSome, option_map_or}
-use Rattle.std.proofs.lemmas.Bool.{ne_eqb, lt-ltb, le-ltb, ltb-true, ltb-false, and_right, cond-false}
-use Rattle.stream_table.specs.declared.places.Put.TheVariants.{Changed}
-use Rattle.std.proofs.lemmas.List.{length-map, length-set}
-use Rattle.std.proofs.lemmas.List.Edits.{length-insert}
+use Rattle.std.proofs.lemmas.Bool.{ne_eqb, lt-ltb, le-ltb, ltb-true, ltb-false}
+use Rattle.std.proofs.lemmas.List.{length-map}
 use Rattle.std.proofs.lemmas.Option.{get_or_from_slice_get}
-use Rattle.bus_rules.specs.Tables.{Entry, has_code, AreEntries, Ascends, entry_of, with_entry, without, seen, missed}
-use Rattle.stream_table.specs.Entries.{IsAt, IsGap, granted_once, is_full_for, put_answer, misses_last}
-use Rattle.stream_table.proofs.Order.{Keeps, Sifts, ascends_map, ascends_filter_map, ascends_filter, ascends_with, entry_at}
-use Rattle.stream_table.proofs.Edits.{map_none, map_at, sift_none, sift_set, sift_remove, without_none, without_at, replaced_is, inserted_is}
+use Rattle.bus_rules.specs.Tables.{Entry, code_in, has_code, AreEntries, entry_of, without, seen, missed}
+use Rattle.code_order.specs.Order.{IsAt, IsGap}
+use Rattle.stream_table.specs.Entries.{granted_once, misses_last}
+use Rattle.stream_table.proofs.Order.{Keeps, Sifts, ascends_map, ascends_filter_map, ascends_filter}
+use Rattle.stream_table.proofs.Edits.{map_none, map_at, sift_none, sift_set, sift_remove, without_none, without_at}
 
 -- what is read at the place is the entry
-pub read_is : (es : List Entry) (c n : ℕ) (at : IsAt es c n) (x : Entry) → x ≡ get_or es n x → x ≡ at.entry
-read_is es c n at x read = read ∙ get_or_from_slice_get es n at.entry x at.at
+pub read_is : (es : List Entry) (c n : ℕ) (at : IsAt code_in es c n) (x : Entry) → x ≡ get_or es n x → x ≡ at.item
+read_is es c n at x read = read ∙ get_or_from_slice_get es n at.item x at.at
 
-pub found : (es : List Entry) (c n : ℕ) (at : IsAt es c n) → AreEntries es → entry_of es c ≡ Some at.entry
-found es c n at are = entry_at c es n at.entry are.ascends at.at at.is
+pub found : (es : List Entry) (c n : ℕ) (at : IsAt code_in es c n) → AreEntries es → entry_of es c ≡ Some at.item
+found es c n at are = at.found
 
 seen_others : (c : ℕ) (e : Entry) → e.code ≢ c → seen c e ≡ e
 seen_others c e other = rw (ne_eqb e.code c other) refl
@@ -29,13 +28,13 @@ missed_others : (c : ℕ) (e : Entry) → e.code ≢ c → missed c e ≡ Some e
 missed_others c e other = rw (ne_eqb e.code c other) refl
 
 -- a change of the entry alone
-changed : (f : ℕ → Entry → Entry) (es : List Entry) (c n : ℕ) (at : IsAt es c n) (x new : Entry) (out : List Entry) → ((e : Entry) → e.code ≢ c → f c e ≡ e) → AreEntries es
+changed : (f : ℕ → Entry → Entry) (es : List Entry) (c n : ℕ) (at : IsAt code_in es c n) (x new : Entry) (out : List Entry) → ((e : Entry) → e.code ≢ c → f c e ≡ e) → AreEntries es
     → x ≡ get_or es n x → new ≡ f x.code x → out ≡ set es n new → out ≡ map (f c) es
 changed f es c n at x new out others are read now is =
     let same = read_is es c n at x read in
     let here : x.code ≡ c = ap (λ (e : Entry). e.code) same ∙ at.is in
-    let value : new ≡ f c at.entry = now ∙ ap (λ (d : ℕ). f d x) here ∙ ap (f c) same in
-    is ∙ ap (set es n) value ∙ sym (map_at (f c) c others es n at.entry are.ascends at.at at.is)
+    let value : new ≡ f c at.item = now ∙ ap (λ (d : ℕ). f d x) here ∙ ap (f c) same in
+    is ∙ ap (set es n) value ∙ sym (map_at (f c) c others es n at.item are.ascends at.at at.is)
 
 kept_map : (f : Entry → Entry) (es out : List Entry) → Keeps f → AreEntries es → out ≡ map f es → AreEntries out
 kept_map f es out keeps are is =
@@ -49,65 +48,65 @@ seen_keeps c = record { code = λ e. refl }
 granted_keeps : (c : ℕ) → Keeps (granted_once c)
 granted_keeps c = record { code = λ e. refl }
 
-pub heard_is : (es : List Entry) (c n : ℕ) (at : IsAt es c n) (x new : Entry) (out : List Entry) → AreEntries es → x ≡ get_or es n x → new ≡ seen x.code x → out ≡ set es n new → out ≡ map (seen c) es
+pub heard_is : (es : List Entry) (c n : ℕ) (at : IsAt code_in es c n) (x new : Entry) (out : List Entry) → AreEntries es → x ≡ get_or es n x → new ≡ seen x.code x → out ≡ set es n new → out ≡ map (seen c) es
 heard_is es c n at x new out are read now is = changed seen es c n at x new out (seen_others c) are read now is
 
 pub heard_kept : (es out : List Entry) (c : ℕ) → AreEntries es → out ≡ map (seen c) es → AreEntries out
 heard_kept es out c are is = kept_map (seen c) es out (seen_keeps c) are is
 
-pub heard_none : (es : List Entry) (c n : ℕ) → IsGap es c n → es ≡ map (seen c) es
+pub heard_none : (es : List Entry) (c n : ℕ) → IsGap code_in es c n → es ≡ map (seen c) es
 heard_none es c n gap = sym (map_none (seen c) c (seen_others c) es gap.missing)
 
-pub granted_is : (es : List Entry) (c n : ℕ) (at : IsAt es c n) (x new : Entry) (out : List Entry) → AreEntries es → x ≡ get_or es n x → new ≡ granted_once x.code x → out ≡ set es n new → out ≡ map (granted_once c) es
+pub granted_is : (es : List Entry) (c n : ℕ) (at : IsAt code_in es c n) (x new : Entry) (out : List Entry) → AreEntries es → x ≡ get_or es n x → new ≡ granted_once x.code x → out ≡ set es n new → out ≡ map (granted_once c) es
 granted_is es c n at x new out are read now is = changed granted_once es c n at x new out (granted_others c) are read now is
 
 pub granted_kept : (es out : List Entry) (c : ℕ) → AreEntries es → out ≡ map (granted_once c) es → AreEntries out
 granted_kept es out c are is = kept_map (granted_once c) es out (granted_keeps c) are is
 
-pub granted_none : (es : List Entry) (c n : ℕ) → IsGap es c n → es ≡ map (granted_once c) es
+pub granted_none : (es : List Entry) (c n : ℕ) → IsGap code_in es c n → es ≡ map (granted_once c) es
 granted_none es c n gap = sym (map_none (granted_once c) c (granted_others c) es gap.missing)
 
-pub granted_less : (es : List Entry) (c n : ℕ) (at : IsAt es c n) (x : Entry) (m : ℕ) → AreEntries es → x ≡ get_or es n x → IfSome (entry_of es c) (λ e. e.granted < m) → x.granted < m
+pub granted_less : (es : List Entry) (c n : ℕ) (at : IsAt code_in es c n) (x : Entry) (m : ℕ) → AreEntries es → x ≡ get_or es n x → IfSome (entry_of es c) (λ e. e.granted < m) → x.granted < m
 granted_less es c n at x m are read bound =
-    let here : at.entry.granted < m = subst (λ (o : Option Entry). IfSome o (λ e. e.granted < m)) (found es c n at are) bound in
+    let here : at.item.granted < m = subst (λ (o : Option Entry). IfSome o (λ e. e.granted < m)) (found es c n at are) bound in
     subst (λ (e : Entry). e.granted < m) (sym (read_is es c n at x read)) here
 
 -- a miss
-module _ (es : List Entry) (c n : ℕ) (at : IsAt es c n) (x : Entry) (are : AreEntries es) (read : x ≡ get_or es n x) where
-  outcome : missed x.code x ≡ missed c at.entry
+module _ (es : List Entry) (c n : ℕ) (at : IsAt code_in es c n) (x : Entry) (are : AreEntries es) (read : x ≡ get_or es n x) where
+  outcome : missed x.code x ≡ missed c at.item
   outcome =
       let same = read_is es c n at x read in
       let here : x.code ≡ c = ap (λ (e : Entry). e.code) same ∙ at.is in
       ap (λ (d : ℕ). missed d x) here ∙ ap (missed c) same
 
   pub missed_is : (new : Entry) (out : List Entry) → Some new ≡ missed x.code x → out ≡ set es n new → out ≡ filter_map (missed c) es
-  missed_is new out now is = is ∙ sym (sift_set (missed c) c (missed_others c) es n at.entry new are.ascends at.at at.is (sym (now ∙ outcome)))
+  missed_is new out now is = is ∙ sym (sift_set (missed c) c (missed_others c) es n at.item new are.ascends at.at at.is (sym (now ∙ outcome)))
 
   pub gone_is : (out : List Entry) → None ≡ missed x.code x → out ≡ remove es n → out ≡ filter_map (missed c) es
-  gone_is out now is = is ∙ sym (sift_remove (missed c) c (missed_others c) es n at.entry are.ascends at.at at.is (sym (now ∙ outcome)))
+  gone_is out now is = is ∙ sym (sift_remove (missed c) c (missed_others c) es n at.item are.ascends at.at at.is (sym (now ∙ outcome)))
 
-  last : misses_last es c ≡ nat_lt 14 at.entry.unheard
+  last : misses_last es c ≡ nat_lt 14 at.item.unheard
   last = ap (λ (o : Option Entry). option_map_or (λ (e : Entry). nat_lt 14 e.unheard) o false) (found es c n at are)
 
   pub stays : (new : Entry) → Some new ≡ missed x.code x → false ≡ misses_last es c
-  stays new now = sym (last ∙ by_test (nat_lt (at.entry.unheard + 1) 16) refl)
+  stays new now = sym (last ∙ by_test (nat_lt (at.item.unheard + 1) 16) refl)
     where
-      opened : Some new ≡ cond (nat_lt (at.entry.unheard + 1) 16) (Some (record at.entry { unheard = at.entry.unheard + 1 })) None
-      opened = now ∙ outcome ∙ rw (eq-eqb at.entry.code c at.is) refl
+      opened : Some new ≡ cond (nat_lt (at.item.unheard + 1) 16) (Some (record at.item { unheard = at.item.unheard + 1 })) None
+      opened = now ∙ outcome ∙ rw (eq-eqb at.item.code c at.is) refl
 
-      by_test : (b : Bool) → nat_lt (at.entry.unheard + 1) 16 ≡ b → nat_lt 14 at.entry.unheard ≡ false
-      by_test true is = let below = ltb-true (at.entry.unheard + 1) 16 is in le-ltb 14 at.entry.unheard (omega arith)
+      by_test : (b : Bool) → nat_lt (at.item.unheard + 1) 16 ≡ b → nat_lt 14 at.item.unheard ≡ false
+      by_test true is = let below = ltb-true (at.item.unheard + 1) 16 is in le-ltb 14 at.item.unheard (omega arith)
       by_test false is = let none : Some new ≡ None = opened ∙ rw is refl in cc
 
   pub goes_now : None ≡ missed x.code x → true ≡ misses_last es c
-  goes_now now = sym (last ∙ by_test (nat_lt (at.entry.unheard + 1) 16) refl)
+  goes_now now = sym (last ∙ by_test (nat_lt (at.item.unheard + 1) 16) refl)
     where
-      opened : None ≡ cond (nat_lt (at.entry.unheard + 1) 16) (Some (record at.entry { unheard = at.entry.unheard + 1 })) None
-      opened = now ∙ outcome ∙ rw (eq-eqb at.entry.code c at.is) refl
+      opened : None ≡ cond (nat_lt (at.item.unheard + 1) 16) (Some (record at.item { unheard = at.item.unheard + 1 })) None
+      opened = now ∙ outcome ∙ rw (eq-eqb at.item.code c at.is) refl
 
-      by_test : (b : Bool) → nat_lt (at.entry.unheard + 1) 16 ≡ b → nat_lt 14 at.entry.unheard ≡ true
-      by_test true is = let some : None ≡ Some (record at.entry { unheard = at.entry.unheard + 1 }) = opened ∙ rw is refl in cc
-      by_test false is = let from = ltb-false (at.entry.unheard + 1) 16 is in lt-ltb 14 at.entry.unheard (omega arith)
+      by_test : (b : Bool) → nat_lt (at.item.unheard + 1) 16 ≡ b → nat_lt 14 at.item.unheard ≡ true
+      by_test true is = let some : None ≡ Some (record at.item { unheard = at.item.unheard + 1 }) = opened ∙ rw is refl in cc
+      by_test false is = let from = ltb-false (at.item.unheard + 1) 16 is in lt-ltb 14 at.item.unheard (omega arith)
 
 length_option : (o : Option Entry) (xs ys : List Entry) → length xs ≤ length ys → length (cons_option o xs) ≤ length ys + 1
 length_option None xs ys le = omega arith
@@ -128,17 +127,17 @@ missed_sifts c = record { code = λ e. missed_cases c e (has_code c e) (nat_lt (
 pub missed_kept : (es out : List Entry) (c : ℕ) → AreEntries es → out ≡ filter_map (missed c) es → AreEntries out
 missed_kept es out c are is = subst AreEntries (sym is) (record { few = omega (arith, are.few, length_sifted (missed c) es); ascends = ascends_filter_map (missed c) es (missed_sifts c) are.ascends })
 
-pub missed_none : (es : List Entry) (c n : ℕ) → IsGap es c n → es ≡ filter_map (missed c) es
+pub missed_none : (es : List Entry) (c n : ℕ) → IsGap code_in es c n → es ≡ filter_map (missed c) es
 missed_none es c n gap = sym (sift_none (missed c) c (missed_others c) es gap.missing)
 
-pub stays_none : (es : List Entry) (c n : ℕ) → IsGap es c n → false ≡ misses_last es c
+pub stays_none : (es : List Entry) (c n : ℕ) → IsGap code_in es c n → false ≡ misses_last es c
 stays_none es c n gap = sym (ap (λ (o : Option Entry). option_map_or (λ (e : Entry). nat_lt 14 e.unheard) o false) gap.missing)
 
 -- a removal
-pub removed_is : (es out : List Entry) (c n : ℕ) (at : IsAt es c n) → AreEntries es → out ≡ remove es n → out ≡ without c es
-removed_is es out c n at are is = is ∙ sym (without_at c es n at.entry are.ascends at.at at.is)
+pub removed_is : (es out : List Entry) (c n : ℕ) (at : IsAt code_in es c n) → AreEntries es → out ≡ remove es n → out ≡ without c es
+removed_is es out c n at are is = is ∙ sym (without_at c es n at.item are.ascends at.at at.is)
 
-pub removed_none : (es : List Entry) (c n : ℕ) → IsGap es c n → es ≡ without c es
+pub removed_none : (es : List Entry) (c n : ℕ) → IsGap code_in es c n → es ≡ without c es
 removed_none es c n gap = sym (without_none c es gap.missing)
 
 length_cond : (b : Bool) (x : Entry) (xs ys : List Entry) → length xs ≤ length ys → length (cond b (x ∷ xs) xs) ≤ length ys + 1
@@ -154,46 +153,13 @@ removed_kept es out c are is =
     let p : Entry → Bool = λ e. not (has_code c e) in
     subst AreEntries (sym is) (record { few = omega (arith, are.few, length_filtered p es); ascends = ascends_filter p es are.ascends })
 
-pub is_there : (es : List Entry) (c n : ℕ) → IsAt es c n → AreEntries es → true ≡ is_some (entry_of es c)
+pub is_there : (es : List Entry) (c n : ℕ) → IsAt code_in es c n → AreEntries es → true ≡ is_some (entry_of es c)
 is_there es c n at are = sym (ap is_some (found es c n at are))
 
-pub is_missing : (es : List Entry) (c n : ℕ) → IsGap es c n → false ≡ is_some (entry_of es c)
+pub is_missing : (es : List Entry) (c n : ℕ) → IsGap code_in es c n → false ≡ is_some (entry_of es c)
 is_missing es c n gap = sym (ap is_some gap.missing)
 
--- an entry put to the others
-pub placed_at : (es : List Entry) (c n : ℕ) → IsAt es c n → AreEntries es → Changed ≡ put_answer es c
-placed_at es c n at are = rw (found es c n at are) refl
-
-abbrev placed : Entry → List Entry → List Entry
-placed e es = if is_full_for es e.code then es else with_entry e es
-
-pub replaced : (es : List Entry) (n : ℕ) (e : Entry) (out : List Entry) → IsAt es e.code n → AreEntries es → out ≡ set es n e → out ≡ placed e es
-replaced es n e out at are is =
-    let there = found es e.code n at are in
-    is ∙ sym (replaced_is e es n at.entry are.ascends at.at at.is) ∙ sym (ap (λ (o : Option Entry). if is_none o && not (nat_lt (length es) 32) then es else with_entry e es) there)
-
-pub added : (es : List Entry) (n : ℕ) (e : Entry) (out : List Entry) → IsGap es e.code n → length es < 32 → out ≡ insert es n e → out ≡ placed e es
-added es n e out gap room is =
-    let tests : is_full_for es e.code ≡ false = ap (λ (b : Bool). is_none (entry_of es e.code) && not b) (lt-ltb (length es) 32 room) ∙ and_right (is_none (entry_of es e.code)) false refl in
-    is ∙ ap (λ (p : ℕ). insert es p e) gap.place ∙ sym (inserted_is e es gap.missing) ∙ sym (cond-false (is_full_for es e.code) es (with_entry e es) tests)
-
-pub replaced_kept : (es : List Entry) (n : ℕ) (e : Entry) (out : List Entry) → IsAt es e.code n → AreEntries es → out ≡ set es n e → AreEntries out
-replaced_kept es n e out at are is =
-    let same = replaced_is e es n at.entry are.ascends at.at at.is in
-    record {
-      few = omega (arith, are.few, ap length is, length-set es n e);
-      ascends = subst Ascends (sym (is ∙ sym same)) (ascends_with e es are.ascends);
-    }
-
-pub added_kept : (es : List Entry) (n : ℕ) (e : Entry) (out : List Entry) → IsGap es e.code n → AreEntries es → length es < 32 → out ≡ insert es n e → AreEntries out
-added_kept es n e out gap are room is =
-    let same : out ≡ with_entry e es = is ∙ ap (λ (p : ℕ). insert es p e) gap.place ∙ sym (inserted_is e es gap.missing) in
-    record {
-      few = omega (arith, ap length is, length-insert es n e gap.within);
-      ascends = subst Ascends (sym same) (ascends_with e es are.ascends);
-    }
-
 -- what is read off the entry is what the table has of its owner
-pub value_at : (f : Entry → ℕ) (es : List Entry) (c n : ℕ) (at : IsAt es c n) (x : Entry) → AreEntries es → x ≡ get_or es n x → f x ≡ option_map_or f (entry_of es c) 0
+pub value_at : (f : Entry → ℕ) (es : List Entry) (c n : ℕ) (at : IsAt code_in es c n) (x : Entry) → AreEntries es → x ≡ get_or es n x → f x ≡ option_map_or f (entry_of es c) 0
 value_at f es c n at x are read =
     ap f (read_is es c n at x read) ∙ sym (ap (λ (o : Option Entry). option_map_or f o 0) (found es c n at are))

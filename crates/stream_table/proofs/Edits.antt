@@ -1,9 +1,8 @@
 -- What one entry's change does to the list.
-use Rattle.std.proofs.Common.{◌≡◌, ◌≢◌, ℕ, zero, suc, ◌+◌, List, [], ◌∷◌, Bool, true, false, nat_lt, cond, set, map, filter_map, Option, Some, None, refl, sym, ◌∙◌, ap, subst, arith, eq-eqb, one-add}
-use Rattle.std.specs.List.{slice_get, prefix_len, insert, remove}
-use Rattle.std.proofs.lemmas.Bool.{ne_eqb, lt-ltb, le-ltb, ltb-true, ltb-false}
-use Rattle.bus_rules.specs.Tables.{Entry, Above, Ascends, entry_of, with_entry, without}
-use Rattle.stream_table.specs.Entries.{is_below}
+use Rattle.std.proofs.Common.{◌≡◌, ◌≢◌, ℕ, zero, suc, List, [], ◌∷◌, set, map, filter_map, Option, Some, None, refl, ◌∙◌, ap, subst, arith, eq-eqb}
+use Rattle.std.specs.List.{slice_get, remove}
+use Rattle.std.proofs.lemmas.Bool.{ne_eqb}
+use Rattle.bus_rules.specs.Tables.{Entry, Above, Ascends, entry_of, without}
 use Rattle.stream_table.proofs.Order.{above_get, none_above, apart_from}
 
 -- a change of the entries with the code c alone
@@ -75,32 +74,3 @@ without_at c (e ∷ es) (suc n) x up at is =
     let above = above_get e.code es n x up.0 at in
     let apart : e.code ≢ c = omega arith in
     rw (ne_eqb e.code c apart) (ap (λ (l : List Entry). e ∷ l) (without_at c es n x up.1 at is))
-
--- a new entry, in its place or instead of one
-pub replaced_is : (e : Entry) (es : List Entry) (n : ℕ) (x : Entry) → Ascends es → slice_get es n ≡ Some x → x.code ≡ e.code → with_entry e es ≡ set es n e
-replaced_is e [] n x up at is = cc
-replaced_is e (y ∷ es) zero x up at is =
-    let same : y ≡ x = cc in
-    let here : e.code ≡ y.code = sym (ap (λ (z : Entry). z.code) same ∙ is) in
-    rw (eq-eqb e.code y.code here) refl
-replaced_is e (y ∷ es) (suc n) x up at is =
-    let above = above_get y.code es n x up.0 at in
-    let apart : e.code ≢ y.code = omega arith in
-    rw (ne_eqb e.code y.code apart, le-ltb e.code y.code (omega arith)) (ap (λ (l : List Entry). y ∷ l) (replaced_is e es n x up.1 at is))
-
-insert_by_test : (e y : Entry) (es : List Entry) (n : ℕ) (b : Bool) → nat_lt y.code e.code ≡ b → y.code ≢ e.code → with_entry e es ≡ insert es n e
-    → with_entry e (y ∷ es) ≡ insert (y ∷ es) (cond b (1 + n) 0) e
-insert_by_test e y es n true is apart rest =
-    let below = ltb-true y.code e.code is in
-    let other : e.code ≢ y.code = omega arith in
-    rw (ne_eqb e.code y.code other, le-ltb e.code y.code (omega arith), one-add) (ap (λ (l : List Entry). y ∷ l) rest)
-insert_by_test e y es n false is apart rest =
-    let from = ltb-false y.code e.code is in
-    let other : e.code ≢ y.code = omega arith in
-    rw (ne_eqb e.code y.code other, lt-ltb e.code y.code (omega arith)) refl
-
-pub inserted_is : (e : Entry) (es : List Entry) → entry_of es e.code ≡ None → with_entry e es ≡ insert es (prefix_len (is_below e.code) es) e
-inserted_is e [] none = refl
-inserted_is e (y ∷ es) none =
-    let apart = apart_from e.code y es none in
-    insert_by_test e y es (prefix_len (is_below e.code) es) (nat_lt y.code e.code) refl apart.0 (inserted_is e es apart.1)

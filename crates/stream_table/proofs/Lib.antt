@@ -1,3 +1,4 @@
+pub mod InOrder
 pub mod Order
 pub mod Edits
 pub mod Changes

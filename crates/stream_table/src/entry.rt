@@ -4,6 +4,7 @@ ghost use Rattle.bus_rules.specs.Granting.{owed_to};
 ghost use Rattle.stream_table.specs.Entries.{granted_once};
 
 use bus_rules::owed;
+use code_order::Coded;
 use lwb_base::{NodeId, Owner};
 use std::marker::Model;
 
@@ -41,6 +42,14 @@ impl Default for Entry {
     }
 }
 
+impl Coded for Entry {
+    ghost code_of = { code_in };
+
+    fn code(&self) -> u16 {
+        self.owner.code()
+    }
+}
+
 impl Entry {
     // A stream accepted in this frame.
     pub(crate) fn new(owner: Owner, boot: u8, interval: u8, frame: u32) -> Entry
@@ -61,12 +70,6 @@ impl Entry {
         ensures { result ≡ self.now.code }
     {
         self.owner
-    }
-
-    pub(crate) fn code(&self) -> u16
-        ensures { result ≡ self.now.code }
-    {
-        self.owner.code()
     }
 
     pub(crate) fn interval(&self) -> u8

@@ -1,49 +1,20 @@
-ghost use Rattle.std.specs.Prelude.{◌≡◌, ◌-◌, ◌≤◌, ◌<◌, ◌==◌, ◌^◌, IfOk, IfErr, IfSome, length, is_some, if◌then◌else◌, map, filter_map, slice_set};
-ghost use Rattle.std.specs.List.{prefix_len};
-ghost use Rattle.bus_rules.specs.Tables.{AreEntries, Ascends, entry_of, with_entry, without, seen, missed};
-ghost use Rattle.stream_table.specs.Entries.{IsAt, IsGap, is_below, granted_once, put_answer, misses_last, is_full_for};
+ghost use Rattle.std.specs.Prelude.{◌≡◌, ◌-◌, ◌<◌, ◌^◌, IfOk, IfErr, IfSome, length, is_some, if◌then◌else◌, map, filter_map, slice_set};
+ghost use Rattle.code_order.specs.Order.{IsAt, IsGap, put_answer};
+ghost use Rattle.bus_rules.specs.Tables.{AreEntries, Ascends, code_in, entry_of, with_entry, without, seen, missed};
+ghost use Rattle.stream_table.specs.Entries.{granted_once, misses_last, is_full_for};
 
 use crate::entry::Entry;
 use arrayvec::ArrayVec;
-
-// What became of an entry that was put to the others.
-pub(crate) enum Put {
-    Added,
-    Changed,
-    Full,
-}
+use code_order::Placement;
 
 // The place of the entry with this code, or the place at which it would stand.
+#[tactic(auto, using(crate::proofs::InOrder::in_order))]
 pub(crate) fn search(entries: &[Entry], code: u16) -> Result<usize, usize>
     requires { Ascends entries.now }
-    ensures found { IfOk result (λ n. IsAt entries.now code n) }
-    ensures missing { IfErr result (λ n. IsGap entries.now code n) }
+    ensures found { IfOk result (IsAt code_in entries.now code) }
+    ensures missing { IfErr result (IsGap code_in entries.now code) }
 {
-    let place = place_of(entries, code);
-    if place < entries.len() && entries[place].code() == code {
-        Ok(place)
-    } else {
-        Err(place)
-    }
-}
-
-// How many entries have a code below this one.
-fn place_of(entries: &[Entry], code: u16) -> usize
-    requires { Ascends entries.now }
-    ensures value { result ≡ prefix_len (is_below code) entries.now }
-    ensures within { result ≤ length entries.now }
-{
-    let mut low = 0;
-    let mut high = entries.len();
-    while low < high {
-        let middle = low + (high - low) / 2;
-        if entries[middle].code() < code {
-            low = middle + 1;
-        } else {
-            high = middle;
-        }
-    }
-    low
+    code_order::search(entries, code)
 }
 
 // An entry in the place of another.
@@ -55,25 +26,13 @@ fn set(entries: &mut ArrayVec<Entry, 32>, place: usize, entry: Entry)
 }
 
 // Puts an entry in its place, or instead of the one that has its code.
-pub(crate) fn place_entry(entries: &mut ArrayVec<Entry, 32>, entry: Entry) -> Put
+pub(crate) fn place_entry(entries: &mut ArrayVec<Entry, 32>, entry: Entry) -> Placement
     requires { AreEntries entries.old.items }
-    ensures answer { result ≡ put_answer entries.old.items entry.code }
+    ensures answer { result ≡ put_answer code_in 32 entries.old.items entry.code }
     ensures after { entries.new.items ≡ (if is_full_for entries.old.items entry.code then entries.old.items else with_entry entry entries.old.items) }
     ensures kept { AreEntries entries.new.items }
 {
-    match search(entries.as_slice(), entry.code()) {
-        Ok(place) => {
-            set(entries, place, entry);
-            Put::Changed
-        }
-        Err(place) => {
-            if entries.is_full() {
-                return Put::Full;
-            }
-            entries.insert(place, entry);
-            Put::Added
-        }
-    }
+    code_order::put(entries, entry)
 }
 
 // Removes the entry with this code. False where there is none.

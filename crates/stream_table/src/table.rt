@@ -9,6 +9,7 @@ ghost use Rattle.stream_table.specs.Entries.{grant_owner, owed_by};
 use crate::entry::Entry;
 use crate::places;
 use arrayvec::ArrayVec;
+use code_order::Placement;
 use lwb_base::Owner;
 use lwb_packets::Request;
 use std::marker::Model;
@@ -62,6 +63,7 @@ impl Table {
         self.place
     }
 
+    /// The next turns begin at this code, or at the least code above it that is owed something.
     pub fn set_place(&mut self, code: u16)
         ensures { self.new ≡ record self.old { place = code } }
     {
@@ -90,9 +92,9 @@ impl Table {
         }
         let entry = Entry::new(owner, ask.boot, ask.interval, frame);
         match places::place_entry(&mut self.entries, entry) {
-            places::Put::Added => Answer::Accepted,
-            places::Put::Changed => Answer::Replaced,
-            places::Put::Full => Answer::Full,
+            Placement::Added => Answer::Accepted,
+            Placement::Replaced => Answer::Replaced,
+            Placement::Full => Answer::Full,
         }
     }
 

@@ -9,7 +9,7 @@ pub mod flood_laws;
 mod reference;
 pub mod round_laws;
 
-pub use reference::Reference;
+pub use reference::{Reference, stopped};
 
 #[cfg(test)]
 mod tests;

@@ -30,8 +30,16 @@ impl Model for Reference {
     ghost inverse = { λ r. record { zero = r.zero; slot = r.slot; frame = r.frame } };
 }
 
-/// The last time: later ones stop here.
+// The last time.
 const LAST_TIME: u64 = (1 << 47) - 1;
+
+/// This time, or 2^47 - 1 where it is later: there times stop.
+pub fn stopped(time: u64) -> u64
+    ensures value { result ≡ stopped time }
+    ensures range { result < 2 ^ 47 }
+{
+    time.min(LAST_TIME)
+}
 
 impl Reference {
     /// From a schedule of a slot that was heard with this counter and length. Its start is the local time at which the
@@ -53,10 +61,9 @@ impl Reference {
         ensures within_55 { (own : ℕ → ℕ) (origin : ℕ) → IsHeard profile.now own origin local_start counter length
             slot → length ≤ 74 → Near (slot_time result slot + profile.now.listen) (own origin) 55 }
     {
-        let _contend = profile.contend();
         let steps = u64::from(counter) * profile.step(length);
         let slots = u64::from(slot) * profile.slot();
-        Reference::with_zero(
+        Reference::beginning(
             profile,
             local_start.saturating_sub(steps + profile.listen() + slots),
         )
@@ -66,22 +73,39 @@ impl Reference {
     pub fn of_host(profile: &Profile, frame: u32) -> Reference
         ensures { result ≡ times_of profile.now (stopped (host_zero profile.now frame)) }
     {
-        let _contend = profile.contend();
         let zero = u64::from(frame) * profile.frame() + profile.lead();
-        Reference::with_zero(profile, zero.min(LAST_TIME))
+        Reference::beginning(profile, stopped(zero))
     }
 
-    /// Of a round whose slot 0 begins at this time, which is below 2^47.
-    pub fn with_zero(profile: &Profile, zero: u64) -> Reference
+    /// Of a node that knows of no round yet. Its slot 0 begins at 0.
+    pub fn new(profile: &Profile) -> Reference
+        ensures { result ≡ times_of profile.now 0 }
+    {
+        Reference::beginning(profile, 0)
+    }
+
+    // Of a round whose slot 0 begins at this time.
+    fn beginning(profile: &Profile, zero: u64) -> Reference
         requires { zero < 2 ^ 47 }
         ensures value { result ≡ times_of profile.now zero }
         ensures made { IsProfile profile.now }
     {
-        let _contend = profile.contend();
         Reference {
             zero,
             slot: profile.slot(),
             frame: profile.frame(),
+        }
+    }
+
+    /// The reference for a round whose slot 0 begins at this time, which is below 2^47.
+    pub fn moved(&self, zero: u64) -> Reference
+        requires { zero < 2 ^ 47 }
+        ensures { result ≡ record self.now { zero = zero } }
+    {
+        Reference {
+            zero,
+            slot: self.slot,
+            frame: self.frame,
         }
     }
 
@@ -97,7 +121,7 @@ impl Reference {
     pub fn slot_start(&self, slot: u8) -> u64
         ensures { result ≡ slot_time self.now slot }
     {
-        (self.zero + u64::from(slot) * self.slot).min(LAST_TIME)
+        stopped(self.zero + u64::from(slot) * self.slot)
     }
 
     /// The reference for the round that is so many frames later.
@@ -106,7 +130,7 @@ impl Reference {
     {
         let zero = self.zero + u64::from(gap) * self.frame;
         Reference {
-            zero: zero.min(LAST_TIME),
+            zero: stopped(zero),
             slot: self.slot,
             frame: self.frame,
         }
