@@ -1,2 +1,5 @@
 pub mod Packets
 pub mod WholeRuns
+pub mod CountedPackets
+pub mod Spellings
+pub mod Counters

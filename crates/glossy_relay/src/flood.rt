@@ -1,5 +1,7 @@
-ghost use Rattle.std.specs.Prelude.{◌≡◌, ◌≤◌, slice_index, true};
-ghost use Rattle.glossy_relay.specs.Relaying.{carries as carries_body, is_packet, is_spelling as spells};
+ghost use Rattle.std.specs.Prelude.{◌≡◌, ◌≤◌, ◌&&◌, IfSome, slice_index, true};
+ghost use Rattle.std.specs.Str.{bytes_eq};
+ghost use Rattle.lwb_packets.specs.Body.{body};
+ghost use Rattle.glossy_relay.specs.Relaying.{carries, is_packet, is_spelling as spells};
 
 use lwb_base::Packet;
 use lwb_packets::{Kind, decode_payload, decode_request, kind_of, same_body, with_counter};
@@ -43,14 +45,16 @@ pub struct Flood {
 }
 
 impl Model for Flood {
-    ghost use Rattle.std.specs.Prelude.{◌≤◌, ◌<◌, ◌≡◌, true};
+    ghost use Rattle.std.specs.Prelude.{◌≤◌, ◌<◌, ◌≡◌, true, IfSome};
     ghost use Rattle.glossy_relay.specs.FloodState.{FloodState};
+    ghost use Rattle.glossy_relay.specs.Relaying.{is_spelling};
 
     ghost Value = { FloodState };
 
     ghost view = { λ s. record { kind = s.kind; slot = s.slot; limit = s.limit; sent = s.sent; waiting = s.waiting; initiated = s.initiated; first = s.first } };
 
-    ghost invariant = { λ s. (s.limit ≤ 4) × (s.sent ≤ s.limit) × (s.waiting ≡ true → s.sent < s.limit) };
+    ghost invariant = { λ s. (s.limit ≤ 4) × (s.sent ≤ s.limit) × (s.waiting ≡ true → s.sent < s.limit)
+        × IfSome s.first (λ p. is_spelling s.kind p ≡ true) };
 }
 
 impl Flood {
@@ -71,7 +75,7 @@ impl Flood {
             sent: 0,
             waiting: true,
             initiated: true,
-            first: Some(copy_of(packet)),
+            first: Some(packet.copy()),
         }
     }
 
@@ -114,14 +118,13 @@ impl Flood {
         if self.sent >= self.limit
             || self.waiting
             || p.slot() != self.slot
-            || !is_spelling(self.kind, p)
-            || !carries(&self.first, p)
+            || !takes(self.kind, &self.first, p)
         {
             return Reply::Ignore;
         }
         let counter = p.counter();
         if self.first.is_none() {
-            self.first = Some(copy_of(p));
+            self.first = Some(p.copy());
         }
         if counter >= LAST_COUNTER {
             return Reply::Keep;
@@ -152,17 +155,28 @@ impl Flood {
         if self.initiated {
             return None;
         }
-        match &self.first {
-            Some(p) => Some((copy_of(p), p.counter())),
-            None => None,
-        }
+        let p = self.first.as_ref()?;
+        Some((p.copy(), p.counter()))
     }
 }
 
-fn copy_of(p: &Packet) -> Packet
-    ensures { result ≡ p.now }
+// Whether the packet is a spelling of the flood's kind, and of the body that it carries, if it carries one.
+fn takes(kind: Kind, first: &Option<Packet>, p: &Packet) -> bool
+    requires { IfSome first.now (λ q. spells kind q ≡ true) }
+    ensures { result ≡ (spells kind p.now && carries first.now p.now) }
 {
-    with_counter(p, p.counter())
+    match first {
+        Some(first) => spells_body_of(kind, first, p),
+        None => is_spelling(kind, p),
+    }
+}
+
+// A spelling stays one with any counter up to 11, so no packet of a known body is decoded again.
+fn spells_body_of(kind: Kind, first: &Packet, p: &Packet) -> bool
+    requires { spells kind first.now ≡ true }
+    ensures { result ≡ (spells kind p.now && bytes_eq (body first.now) (body p.now)) }
+{
+    p.counter() <= LAST_COUNTER && same_body(first, p)
 }
 
 fn is_spelling(kind: Kind, p: &Packet) -> bool
@@ -172,14 +186,5 @@ fn is_spelling(kind: Kind, p: &Packet) -> bool
         Kind::Schedule => read(p).is_some(),
         Kind::Payload => decode_payload(p).is_some(),
         Kind::Request => decode_request(p).is_some(),
-    }
-}
-
-fn carries(first: &Option<Packet>, p: &Packet) -> bool
-    ensures { result ≡ carries_body first.now p.now }
-{
-    match first {
-        Some(first) => same_body(first, p),
-        None => true,
     }
 }
