@@ -1,5 +1,5 @@
 -- The state of a node that the bus and the node table share, and what script lines and frame ends do to it.
-use Rattle.std.specs.Prelude.{ℕ, ◌+◌, ◌%◌, List, [], Bool, ◌&&◌, ◌||◌, ◌==◌, if◌then◌else◌, is_some, Some, None, position}
+use Rattle.std.specs.Prelude.{ℕ, ◌+◌, ◌%◌, List, [], Bool, ◌&&◌, ◌||◌, ◌==◌, if◌then◌else◌, is_some, Some, None, position, length}
 use Rattle.std.specs.declared.option.Option.{Option}
 use Rattle.lwb_base.specs.Profile.{Numbers}
 use Rattle.lwb_base.specs.Messages.{Ask, Plan, Schedule}
@@ -39,6 +39,10 @@ pub record Setup : Type 0 where
 -- the rank of a node among the hosts by rank
 abbrev pub own_rank : ℕ → List ℕ → Option ℕ
 own_rank node hosts = position (λ h. h == node) hosts
+
+-- what is fixed for the node of this id, in a network of these hosts by rank
+abbrev pub setup_for : Numbers → List ℕ → ℕ → ℕ → Setup
+setup_for p hosts sends v = record { profile = p; id = v; own = own_rank v hosts; ranks = length hosts; sends = sends }
 
 abbrev pub is_fresh : Core → Bool
 is_fresh c = is_some c.own_slot

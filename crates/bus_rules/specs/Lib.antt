@@ -7,3 +7,5 @@ pub mod Plans
 pub mod Tuning
 pub mod Cores
 pub mod Slots
+pub mod Charges
+pub mod States

@@ -2,11 +2,12 @@
 use Rattle.std.specs.Prelude.{ℕ, ◌+◌, ◌-◌, List, [], ◌∷◌, ◌++◌, Bool, true, false, ◌&&◌, ◌==◌, nat_lt, nat_le, if◌then◌else◌, Some, None, slice_index, length, option_map}
 use Rattle.std.specs.declared.option.Option.{Option}
 use Rattle.lwb_base.specs.Profile.{Numbers}
-use Rattle.lwb_base.specs.Messages.{Ask, Plan, Schedule, node_of, stream_of}
+use Rattle.lwb_base.specs.Messages.{Ask, Plan, Schedule, node_of, stream_of, length_of}
+use Rattle.bus_rules.specs.declared.delivery.Delivery.{Delivery}
 use Rattle.bus_rules.specs.declared.part.Part.{Part}
 use Rattle.bus_rules.specs.declared.part.Part.TheVariants.{Opening, Data as DataSlot, Contention, Closing}
 use Rattle.bus_rules.specs.declared.tune.Tune.TheVariants.{Host}
-use Rattle.bus_rules.specs.Plans.{opening, last_slot}
+use Rattle.bus_rules.specs.Plans.{opening, last_slot, slots_named}
 use Rattle.bus_rules.specs.Streams.{Waiting, first_waiting, taken, requested, after_contention, stream_at}
 use Rattle.bus_rules.specs.Tables.{Table, heard_owner, unheard_owner}
 use Rattle.bus_rules.specs.Tuning.{hosts_in, rank_of}
@@ -110,7 +111,7 @@ slot_heard f Closing heard c = c
 
 -- a host keeps a request for each contention slot, and its rounds have as many as its profile names
 abbrev pub most_kept : Numbers → ℕ
-most_kept p = if p.contend == 0 then 1 else p.contend
+most_kept p = slots_named p.contend
 
 -- the window of a slot closes in frame f. initiated: the node said something itself; last, what it accepted
 abbrev pub closed : Setup → ℕ → Part → Bool → Core → Option Message → Closed
@@ -118,3 +119,20 @@ closed s f part initiated c None = record { core = slot_heard f part initiated c
 closed s f part initiated c (Some (ScheduleOf x)) = record { core = schedule_accepted s.id f x c; delivered = None }
 closed s f part initiated c (Some (DataOf d)) = record { core = slot_heard f part true c; delivered = Some d }
 closed s f part initiated c (Some (RequestOf a)) = record { core = record c { kept = if hosts_now f c && nat_lt (length c.kept) (most_kept s.profile) then c.kept ++ a ∷ [] else c.kept }; delivered = None }
+
+-- what this node delivers of the data that it accepted in slot j of the round of this frame and rank
+abbrev pub delivery_of : ℕ → ℕ → ℕ → ℕ → Data → Delivery
+delivery_of node frame rank j d = record { frame = frame; rank = rank; slot = j; node = node; from = d.node; boot = d.boot; stream = d.stream; seq = d.seq; payload = d.payload }
+
+-- a slot in which the host says its schedule
+abbrev pub is_schedule_part : Part → Bool
+is_schedule_part Opening = true
+is_schedule_part (DataSlot owner) = false
+is_schedule_part (Contention i) = false
+is_schedule_part Closing = true
+
+-- the bytes of what is said
+abbrev pub message_length : Message → ℕ
+message_length (ScheduleOf x) = length_of x
+message_length (DataOf d) = 8 + length d.payload
+message_length (RequestOf a) = 7

@@ -35,6 +35,11 @@ HasWaited (Scan r waited) = waited ≤ 11
 HasWaited (Hold r due) = ⊤
 HasWaited (Host r due) = ⊤
 
+abbrev pub is_scan : Tune → Bool
+is_scan (Scan r waited) = true
+is_scan (Hold r due) = false
+is_scan (Host r due) = false
+
 abbrev pub hosts : Tune → Bool
 hosts (Scan r waited) = false
 hosts (Hold r due) = false

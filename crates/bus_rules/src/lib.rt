@@ -4,12 +4,14 @@
 mod delivery;
 mod flood_result;
 mod part;
+mod rounds;
 mod slots_owed;
 mod tune;
 
 pub use delivery::{Delivery, DropLine};
 pub use flood_result::FloodResult;
 pub use part::Part;
+pub use rounds::{contention_slots, last_slot};
 pub use slots_owed::owed;
 pub use tune::{Tune, next_tune};
 

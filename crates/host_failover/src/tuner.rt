@@ -43,6 +43,7 @@ impl Tuner {
         }
     }
 
+    /// What the node listens to or hosts now.
     pub fn tune(&self) -> Tune
         ensures { result ≡ self.now.tune }
     {

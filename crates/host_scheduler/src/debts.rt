@@ -1,5 +1,6 @@
 ghost use Rattle.std.specs.Prelude.{◌≡◌, ◌+◌, ◌≤◌, ◌++◌, All, length, replicate, sum_by};
 ghost use Rattle.bus_rules.specs.Granting.{owed_to};
+ghost use Rattle.bus_rules.specs.Tables.{AreEntries};
 ghost use Rattle.host_scheduler.specs.Debts.{debts_of, all_owed, IsCode, owed_in};
 
 use arrayvec::ArrayVec;
@@ -14,13 +15,13 @@ pub(crate) struct Debt {
 
 // What is owed in a frame to each owner of a table, by ascending code.
 pub(crate) fn debts(table: &Table, seconds: u8, frame: u32) -> ArrayVec<Debt, 32>
+    requires kept { AreEntries table.now.entries }
     requires seconds { seconds ≤ 5 }
     requires accepted { All (λ e. e.accepted ≤ frame) table.now.entries }
     requires frame { frame ≤ 16777219 }
     ensures value { result.items ≡ debts_of (owed_to seconds frame) table.now.entries }
     ensures codes { All (λ d. IsCode d.code) result.items }
 {
-    let _place = table.place();
     let mut debts = ArrayVec::new();
     for i in 0..32 {
         let Some(owner) = table.owner_at(i) else {

@@ -17,7 +17,9 @@ const SLOTS: u32 = 40;
 /// What a host plans: its next round is `gap` frames from now, 1 to 4, and has these owners.
 #[derive(Drop)]
 pub struct Plan {
+    /// The frames from this one to the round, 1 to 4.
     pub gap: u8,
+    /// The owners of its data slots, at most 40.
     pub owners: Owners,
 }
 
@@ -30,7 +32,6 @@ pub fn plan_round(table: &mut Table, profile: &Profile, frame: u32) -> Plan
     ensures owners { result.owners ≡ (planned profile.now.seconds frame table.old).owners }
     ensures table { table.new ≡ (planned profile.now.seconds frame table.old).table }
 {
-    let _contend = profile.contend();
     let seconds = profile.seconds();
     let gap = gap(table, seconds, frame);
     let codes = sorted(slots(table, seconds, frame + u32::from(gap)));

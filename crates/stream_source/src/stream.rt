@@ -18,6 +18,7 @@ const NUMBERS: u16 = 65535;
 pub struct Waiting {
     /// 0 to 65,534.
     pub seq: u16,
+    /// What it carries.
     pub payload: Payload,
 }
 
@@ -39,6 +40,7 @@ impl Model for Waiting {
 pub enum Put {
     /// It waits, with this number.
     Queued(u16),
+    /// It is gone, and the stream is as it was.
     Dropped,
 }
 
@@ -67,16 +69,14 @@ impl Stream {
     pub(crate) fn new(alloc: Global) -> Result<Stream, Memory>
         ensures { IfOk result (λ s. s ≡ rule.no_stream) }
     {
-        match HeapCircularBuffer::with_capacity(alloc, ROOM) {
-            Ok(queue) => Ok(Stream {
-                wish: 0,
-                agreed: 0,
-                last: 0,
-                queue,
-                next: 0,
-            }),
-            Err(_) => Err(Memory),
-        }
+        let queue = HeapCircularBuffer::with_capacity(alloc, ROOM)?;
+        Ok(Stream {
+            wish: 0,
+            agreed: 0,
+            last: 0,
+            queue,
+            next: 0,
+        })
     }
 
     pub(crate) fn clear(&mut self)

@@ -34,7 +34,7 @@ impl Model for Streams {
 }
 
 impl Streams {
-    /// The streams of a booted node.
+    /// The streams of a booted node. `Memory` where there is none for their queues.
     pub fn new(alloc: Global) -> Result<Streams, Memory>
         ensures { IfOk result (λ s. s ≡ rule.cleared) }
     {
@@ -61,7 +61,7 @@ impl Streams {
         self.host = None;
     }
 
-    /// Sets the interval that the stream wishes, in seconds.
+    /// Sets the interval that a stream, 0 to 3, wishes: 1 to 120 seconds.
     pub fn declare(&mut self, stream: u8, interval: u8)
         requires stream { stream ≤ 3 }
         requires interval { (1 ≤ interval) × (interval ≤ 120) }
@@ -88,7 +88,7 @@ impl Streams {
         self.streams[usize::from(stream)].put(payload)
     }
 
-    /// Takes the packet that waits longest. None exactly where none waits.
+    /// Takes the packet that waits longest in a stream, 0 to 3. None exactly where none waits.
     pub fn take(&mut self, stream: u8) -> Option<Waiting>
         requires { stream ≤ 3 }
         ensures answer { result ≡ rule.first_waiting self.old stream }
@@ -97,7 +97,7 @@ impl Streams {
         self.streams[usize::from(stream)].take()
     }
 
-    /// What the stream wishes, where a request of it is due. None exactly where none is.
+    /// The interval that a stream wishes, in seconds and 0 for none, where a request of it is due. None exactly where none is.
     pub fn due_of(&self, stream: u8) -> Option<u8>
         requires { stream ≤ 3 }
         ensures value { result ≡ rule.due_of self.now stream }
@@ -171,7 +171,7 @@ impl Streams {
         self.skips = 0;
     }
 
-    /// Sets what is agreed with the host, 0 for nothing.
+    /// Sets the interval that is agreed with the host: 1 to 120 seconds, or 0 for nothing.
     pub fn set_agreed(&mut self, stream: u8, interval: u8)
         requires stream { stream ≤ 3 }
         requires interval { interval ≤ 120 }
