@@ -1,15 +1,17 @@
--- No row gives more than four orders, and orders of calls in turn.
+-- No row gives more than four orders, and calls in turn.
 use Rattle.std.proofs.Common.{◌≡◌, ℕ, ◌+◌, ◌≤◌, List, [], ◌∷◌, ◌++◌, length, Bool, Option, Some, None, refl, sym, ◌∙◌, ap, arith}
 use Rattle.std.proofs.lemmas.Bool.{cond_both}
 use Rattle.std.proofs.lemmas.List.{append-nil, append_assoc}
 use Rattle.lwb_base.specs.Profile.{Numbers}
 use Rattle.lwb_base.specs.declared.event.Event.{Event}
 use Rattle.lwb_base.specs.declared.event.Event.TheVariants.{Boot, Alarm, Heard, Sent}
+use Rattle.lwb_base.specs.Orders.{Told}
 use Rattle.lwb_base.specs.declared.order.Order.{Order}
 use Rattle.lwb_base.specs.declared.order.Order.TheVariants.{Listen, Alarm as AlarmAt, Off}
 use Rattle.glossy_relay.specs.declared.flood.Reply.{Reply}
 use Rattle.glossy_relay.specs.declared.flood.Reply.TheVariants.{Relay, Keep, Ignore}
 use Rattle.glossy_relay.specs.Relaying.{reply_to}
+use Rattle.bus_rules.specs.declared.delivery.Delivery.{Delivery}
 use Rattle.bus_rules.specs.declared.tune.Tune.{Tune}
 use Rattle.bus_rules.specs.declared.tune.Tune.TheVariants.{Scan, Hold, Host}
 use Rattle.bus_rules.specs.Cores.{Setup, frame_ended, begins_host}
@@ -18,10 +20,10 @@ use Rattle.bus_rules.specs.Tuning.{rank_of}
 use Rattle.node_core.specs.declared.stage.Stage.{Stage}
 use Rattle.node_core.specs.declared.stage.Stage.TheVariants.{Idle, Scanning, AwaitFrame, AwaitSlot, InWindow}
 use Rattle.node_core.specs.declared.call.Call.{Call}
-use Rattle.node_core.specs.Said.{message_of}
+use Rattle.lwb_member.specs.Said.{message_of}
 use Rattle.node_core.specs.Nodes.{Node, NodeState, stopped_frame}
 use Rattle.node_core.specs.Rows.{Stepped, row, at_alarm, at_heard, at_sent, in_window, orders_for, first_sending, relaying, scanner_hears, joins, sends, zero_for, frame_alarms, reply_by}
-use Rattle.node_core.specs.Runs.{orders_by, after_call, after_calls, orders_of, orders_of_all}
+use Rattle.node_core.specs.Runs.{orders_by, after_call, after_calls, delivery_after, delivery_after_calls, orders_of, orders_of_all}
 use Rattle.node_core.specs.Standing.{Follows}
 
 abbrev Few : Option Stepped → Type 0
@@ -82,20 +84,24 @@ few_orders s n now Alarm = few_at_alarm s n n.stage
 few_orders s n now (Heard p) = few_at_heard s n now p n.stage
 few_orders s n now Sent = few_at_sent n n.stage
 
-spent : (old new : NodeState) (before after : List Order) (room left : ℕ) (r : Option Stepped) → Follows old new before after room left r → left + length (orders_by r) ≡ room
-spent old new before after room left None is = is.1.spent
-spent old new before after room left (Some r) is = is.1.spent
+spent : (old new : NodeState) (before after : Told) (r : Option Stepped) → Follows old new before after r → after.room + length (orders_by r) ≡ before.room
+spent old new before after None is = is.1.spent
+spent old new before after (Some r) is = is.1.spent
 
 -- a step leaves the room but for four orders
-pub room_left : (s : Setup) (n : Node) (now : ℕ) (e : Event) (old new : NodeState) (before after : List Order) (room left : ℕ) → Follows old new before after room left (row s n now e) → room ≤ left + 4
-room_left s n now e old new before after room left is =
+pub room_left : (s : Setup) (n : Node) (now : ℕ) (e : Event) (old new : NodeState) (before after : Told) → Follows old new before after (row s n now e) → before.room ≤ after.room + 4
+room_left s n now e old new before after is =
     let few = few_orders s n now e in
-    omega (arith, spent old new before after room left (row s n now e) is)
+    omega (arith, spent old new before after (row s n now e) is)
 
 -- one call more
 pub calls_push : (s : Setup) (n : Node) (calls : List Call) (call : Call) → after_calls s n (calls ++ call ∷ []) ≡ after_call s (after_calls s n calls) call
 calls_push s n [] call = refl
 calls_push s n (c ∷ calls) call = calls_push s (after_call s n c) calls call
+
+pub deliveries_push : (s : Setup) (n : Node) (d : Option Delivery) (calls : List Call) (call : Call) → delivery_after_calls s n d (calls ++ call ∷ []) ≡ delivery_after s (after_calls s n calls) (delivery_after_calls s n d calls) call
+deliveries_push s n d [] call = refl
+deliveries_push s n d (c ∷ calls) call = deliveries_push s (after_call s n c) (delivery_after s n d c) calls call
 
 pub orders_push : (s : Setup) (n : Node) (calls : List Call) (call : Call) → orders_of_all s n (calls ++ call ∷ []) ≡ orders_of_all s n calls ++ orders_of s (after_calls s n calls) call
 orders_push s n [] call = append-nil (orders_of s n call)

@@ -11,7 +11,8 @@ use Rattle.bus_rules.specs.declared.part.Part.{Part}
 use Rattle.bus_rules.specs.declared.part.Part.TheVariants.{Opening, Closing}
 use Rattle.bus_rules.specs.Plans.{last_slot}
 use Rattle.bus_rules.specs.Cores.{Core}
-use Rattle.node_core.specs.Rows.{kind_for, last_by, part_by}
+use Rattle.lwb_member.specs.Places.{kind_for}
+use Rattle.node_core.specs.Rows.{last_by, part_by}
 use Rattle.node_core.specs.Standing.{IsWindow}
 use Rattle.node_core.proofs.KeptWindows.{Carries, carried}
 

@@ -7,10 +7,12 @@ use Rattle.lwb_packets.specs.declared.kind.Kind.{Kind}
 use Rattle.glossy_relay.specs.FloodState.{FloodState}
 use Rattle.glossy_relay.specs.Relaying.{fits, is_spelling, slot_of, carries, after_heard, first_of, counter_of, accepted_of}
 use Rattle.bus_rules.specs.Cores.{Core}
-use Rattle.node_core.specs.Said.{message_of}
+use Rattle.lwb_member.specs.Said.{message_of}
 use Rattle.node_core.specs.Windows.{Window}
 use Rattle.node_core.specs.Nodes.{zero_from}
-use Rattle.node_core.specs.Rows.{is_foreign, hearing, kind_for, is_schedule_part, is_ignored, reply_by}
+use Rattle.bus_rules.specs.Slots.{is_schedule_part}
+use Rattle.lwb_member.specs.Places.{kind_for}
+use Rattle.node_core.specs.Rows.{is_foreign, hearing, is_ignored, reply_by}
 use Rattle.node_core.specs.declared.stage.Stage.TheVariants.{InWindow}
 use Rattle.node_core.specs.Standing.{IsWindow, HostsIn}
 

@@ -1,12 +1,10 @@
 mod WorkedOrders
-pub mod Meanings
-pub mod Spoken
-pub mod Beginning
 pub mod KeptWindows
-pub mod Answering
-pub mod HostPlanned
+pub mod Timed
+pub mod OffNodes
 pub mod Opened
-pub mod KeptTables
 pub mod Followed
 pub mod JoinedWindows
 pub mod FewOrders
+pub mod KeptBoots
+pub mod NamedDeliveries

@@ -7,7 +7,7 @@ use Rattle.time_reference.specs.Reference.{times_of}
 use Rattle.round_runner.specs.Rounds.{Round, round_of, window_of}
 use Rattle.round_runner.specs.declared.window.Window.{Window}
 use Rattle.bus_rules.specs.Slots.{Message}
-use Rattle.node_core.specs.Said.{said_in}
+use Rattle.lwb_member.specs.Said.{said_in}
 use Rattle.node_core.specs.Nodes.{starts_at, closes_at}
 use Rattle.node_core.specs.Rows.{first_sending}
 use Rattle.node_core.specs.Openings.{sent_first}

@@ -1,10 +1,7 @@
-pub mod Said
 pub mod Windows
 pub mod Nodes
 pub mod Rows
 pub mod Runs
-pub mod Members
-pub mod Planning
 pub mod Standing
 pub mod Openings
 pub mod Closings

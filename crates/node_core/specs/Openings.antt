@@ -1,21 +1,10 @@
 -- The opening of a window, by the packet that the node says in its slot, if it says one.
-use Rattle.std.specs.Prelude.{◌≡◌, ℕ, ◌≤◌, List, [], ◌∷◌, Some, None}
+use Rattle.std.specs.Prelude.{ℕ, List, [], ◌∷◌, Some, None}
 use Rattle.std.specs.declared.option.Option.{Option}
-use Rattle.lwb_base.specs.Messages.{Plan}
 use Rattle.lwb_base.specs.declared.order.Order.{Order}
 use Rattle.lwb_base.specs.declared.order.Order.TheVariants.{SendAt}
 use Rattle.lwb_packets.specs.declared.kind.Kind.{Kind}
 use Rattle.glossy_relay.specs.FloodState.{FloodState, listening, initiating}
-use Rattle.bus_rules.specs.declared.part.Part.{Part}
-use Rattle.bus_rules.specs.declared.part.Part.TheVariants.{Opening, Data, Contention, Closing}
-use Rattle.bus_rules.specs.Plans.{last_slot}
-
--- where the slots of each part stand in a round
-abbrev pub IsPlaced : Plan → ℕ → Part → Type 0
-IsPlaced p j Opening = j ≡ 0
-IsPlaced p j (Data owner) = (1 ≤ j) × (j ≤ 40)
-IsPlaced p j (Contention i) = (1 ≤ j) × (j ≤ 44)
-IsPlaced p j Closing = j ≡ last_slot p
 
 abbrev pub flood_with : Kind → ℕ → ℕ → Option (List ℕ) → FloodState
 flood_with kind j n None = listening kind j n

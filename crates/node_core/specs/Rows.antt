@@ -15,14 +15,15 @@ use Rattle.glossy_relay.specs.declared.flood.Reply.{Reply}
 use Rattle.glossy_relay.specs.declared.flood.Reply.TheVariants.{Relay, Keep, Ignore}
 use Rattle.bus_rules.specs.declared.delivery.Delivery.{Delivery}
 use Rattle.bus_rules.specs.declared.part.Part.{Part}
-use Rattle.bus_rules.specs.declared.part.Part.TheVariants.{Opening, Data as DataSlot, Contention, Closing}
+use Rattle.bus_rules.specs.declared.part.Part.TheVariants.{Opening, Closing}
 use Rattle.bus_rules.specs.declared.tune.Tune.{Tune}
 use Rattle.bus_rules.specs.declared.tune.Tune.TheVariants.{Scan, Hold, Host}
 use Rattle.bus_rules.specs.Plans.{last_slot}
 use Rattle.bus_rules.specs.Tuning.{rank_of}
 use Rattle.bus_rules.specs.Cores.{Setup, booted, frame_ended, begins_host}
-use Rattle.bus_rules.specs.Slots.{Data, Message, ScheduleOf, DataOf, RequestOf, part_of, opened, closed}
-use Rattle.node_core.specs.Said.{bytes_of, message_of}
+use Rattle.bus_rules.specs.Slots.{Message, ScheduleOf, DataOf, RequestOf, part_of, opened, closed, delivery_of, is_schedule_part}
+use Rattle.lwb_member.specs.Places.{kind_for}
+use Rattle.lwb_member.specs.Said.{bytes_of, message_of}
 use Rattle.node_core.specs.declared.stage.Stage.{Stage}
 use Rattle.node_core.specs.declared.stage.Stage.TheVariants.{Idle, Scanning, AwaitFrame, AwaitSlot, InWindow}
 use Rattle.node_core.specs.Windows.{Window}
@@ -74,12 +75,6 @@ frame_alarms s n =
     }
 
 -- window opens, with host plans in the last slot of a host
-abbrev pub kind_for : Part → Kind.Kind
-kind_for Opening = Kind.TheVariants.Schedule
-kind_for (DataSlot owner) = Kind.TheVariants.Payload
-kind_for (Contention i) = Kind.TheVariants.Request
-kind_for Closing = Kind.TheVariants.Schedule
-
 abbrev pub flood_for : Setup → Part → ℕ → Option Message → FloodState
 flood_for s part j None = listening (kind_for part) j s.sends
 flood_for s part j (Some m) = initiating (bytes_of m j) s.sends
@@ -141,12 +136,6 @@ is_ignored Keep = false
 is_ignored Ignore = true
 
 -- the first schedule that is accepted gives the reference; it is used from the window's closing on
-abbrev pub is_schedule_part : Part → Bool
-is_schedule_part Opening = true
-is_schedule_part (DataSlot owner) = false
-is_schedule_part (Contention i) = false
-is_schedule_part Closing = true
-
 abbrev pub reply_by : ℕ → Window → List ℕ → Reply
 reply_by rank w p = if is_foreign rank (message_of p) then Ignore else reply_to w.flood p
 
@@ -193,10 +182,6 @@ zero_next p z (Host r due) = zero_of_host p due
 zero_next p z (Hold r due) = z
 zero_next p z (Scan r waited) = z
 
--- what is delivered in a slot of the round of this frame and rank
-abbrev pub delivery_of : Setup → ℕ → ℕ → ℕ → Data → Delivery
-delivery_of s frame rank j d = record { frame = frame; rank = rank; slot = j; node = s.id; from = d.node; boot = d.boot; stream = d.stream; seq = d.seq; payload = d.payload }
-
 abbrev pub goes_on : Setup → ℕ → ℕ → Node → Option Delivery → Stepped
 goes_on s j last n delivery =
     let more = nat_lt j last in
@@ -213,7 +198,7 @@ accepted_in w = option_and_then (λ a. message_of a.0) (accepted_of w.flood)
 abbrev pub window_closes : Setup → Node → ℕ → Window → Stepped
 window_closes s n j w =
     let c = closed s n.frame w.part w.flood.initiated n.core (accepted_in w) in
-    goes_on s j w.last (record n { core = c.core; zero = zero_by s.profile n.zero w.reference (accepted_in w) }) (option_map (delivery_of s n.frame (rank_of n.core.tune) j) c.delivered)
+    goes_on s j w.last (record n { core = c.core; zero = zero_by s.profile n.zero w.reference (accepted_in w) }) (option_map (delivery_of s.id n.frame (rank_of n.core.tune) j) c.delivered)
 
 -- the row that fits, by the place and the event; none where no row fits
 abbrev pub at_alarm : Setup → Node → Stage → Option Stepped

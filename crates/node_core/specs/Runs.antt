@@ -2,13 +2,14 @@
 use Rattle.std.specs.Prelude.{ℕ, ◌<◌, ◌≤◌, ◌^◌, List, [], ◌∷◌, ◌++◌, Some, None, length, ⊤}
 use Rattle.std.specs.declared.option.Option.{Option}
 use Rattle.lwb_base.specs.declared.order.Order.{Order}
+use Rattle.bus_rules.specs.declared.delivery.Delivery.{Delivery}
 use Rattle.bus_rules.specs.Streams.{Streams, declared, left, put}
 use Rattle.bus_rules.specs.Cores.{Setup}
 use Rattle.node_core.specs.Nodes.{Node, rebooted}
 use Rattle.node_core.specs.Rows.{Stepped, row}
 use Rattle.node_core.specs.declared.call.Call.{Call}
 use Rattle.node_core.specs.declared.call.Call.TheVariants.{Step, Declare, Leave, Put, Reboot}
-use Rattle.node_core.specs.Members.{IsBoot}
+use Rattle.lwb_member.specs.Members.{IsBoot}
 
 -- the node after the row that fits, if one does
 abbrev pub node_after : Node → Option Stepped → Node
@@ -29,6 +30,18 @@ after_call s n (Leave i) = with_streams n (left i n.core.streams)
 after_call s n (Put i payload) = with_streams n (put i payload n.core.streams)
 after_call s n (Reboot boot) = rebooted boot
 
+-- the delivery after the row that fits. Where none fits, the one before stays
+abbrev pub delivery_by : Option Delivery → Option Stepped → Option Delivery
+delivery_by delivery None = delivery
+delivery_by delivery (Some r) = r.delivery
+
+abbrev pub delivery_after : Setup → Node → Option Delivery → Call → Option Delivery
+delivery_after s n delivery (Step now e) = delivery_by delivery (row s n now e)
+delivery_after s n delivery (Declare i interval) = delivery
+delivery_after s n delivery (Leave i) = delivery
+delivery_after s n delivery (Put i payload) = delivery
+delivery_after s n delivery (Reboot boot) = None
+
 abbrev pub orders_of : Setup → Node → Call → List Order
 orders_of s n (Step now e) = orders_by (row s n now e)
 orders_of s n (Declare i interval) = []
@@ -40,6 +53,11 @@ orders_of s n (Reboot boot) = []
 abbrev pub after_calls : Setup → Node → List Call → Node
 after_calls s n [] = n
 after_calls s n (call ∷ calls) = after_calls s (after_call s n call) calls
+
+-- the delivery of the last step whose event fitted a row, unless the node was as new after it
+abbrev pub delivery_after_calls : Setup → Node → Option Delivery → List Call → Option Delivery
+delivery_after_calls s n delivery [] = delivery
+delivery_after_calls s n delivery (call ∷ calls) = delivery_after_calls s (after_call s n call) (delivery_after s n delivery call) calls
 
 -- the orders of each call
 abbrev pub orders_of_each : Setup → Node → List Call → List (List Order)

@@ -1,7 +1,9 @@
 -- Where a node stands, and what holds of it at all times.
 use Rattle.std.specs.Prelude.{◌≡◌, ℕ, ◌+◌, ◌^◌, ◌<◌, ◌≤◌, ◌⊎◌, true, false, Some, None, List, [], ◌++◌, length, ⊤}
 use Rattle.std.specs.Option.{IfSome}
-use Rattle.lwb_base.specs.declared.order.Order.{Order}
+use Rattle.lwb_base.specs.Profile.{Numbers}
+use Rattle.lwb_base.specs.Orders.{Told, Gives}
+use Rattle.time_reference.specs.Reference.{RoundTimes, times_of}
 use Rattle.glossy_relay.specs.Relaying.{is_spelling}
 use Rattle.std.specs.declared.option.Option.{Option}
 use Rattle.bus_rules.specs.Plans.{last_slot}
@@ -9,14 +11,15 @@ use Rattle.bus_rules.specs.declared.tune.Tune.{Tune}
 use Rattle.bus_rules.specs.declared.tune.Tune.TheVariants.{Scan, Hold, Host}
 use Rattle.bus_rules.specs.Tuning.{hosts}
 use Rattle.bus_rules.specs.Cores.{Core}
-use Rattle.bus_rules.specs.Slots.{hosts_now}
+use Rattle.bus_rules.specs.Slots.{hosts_now, is_schedule_part}
 use Rattle.node_core.specs.declared.node.Place as Place
 use Rattle.node_core.specs.declared.stage.Stage.{Stage}
 use Rattle.node_core.specs.declared.stage.Stage.TheVariants.{Idle, Scanning, AwaitFrame, AwaitSlot, InWindow}
 use Rattle.node_core.specs.Windows.{Window}
 use Rattle.node_core.specs.Nodes.{NodeState}
-use Rattle.node_core.specs.Planning.{IsEarly}
-use Rattle.node_core.specs.Rows.{Stepped, kind_for, is_schedule_part}
+use Rattle.lwb_member.specs.Planning.{IsEarly}
+use Rattle.lwb_member.specs.Places.{kind_for}
+use Rattle.node_core.specs.Rows.{Stepped}
 
 abbrev pub place_of : Stage → Place.Place
 place_of Idle = Place.TheVariants.Off
@@ -34,7 +37,7 @@ pub record IsWindow (c : Core) (j : ℕ) (w : Window) : Type 0 where
   pub reference : IfSome w.reference (λ z. z < 2 ^ 47)
 
 abbrev pub IsStage : Core → Stage → Type 0
-IsStage c Idle = ⊤
+IsStage c Idle = c.tune ≡ Scan 0 0
 IsStage c Scanning = ⊤
 IsStage c AwaitFrame = ⊤
 IsStage c (AwaitSlot j) = j ≤ last_slot c.plan
@@ -52,9 +55,10 @@ HostsIn frame c AwaitFrame = ⊤
 HostsIn frame c (AwaitSlot j) = IsOwn frame c
 HostsIn frame c (InWindow j w) = (j < w.last → IsOwn frame c) × (hosts c.tune ≡ true → is_schedule_part w.part ≡ true → w.flood.initiated ≡ true)
 
-pub record IsNode (c : Core) (frame z : ℕ) (stage : Stage) : Type 0 where
+-- reference: when the slots of its round begin, with the lengths of the profile
+pub record IsNode (p : Numbers) (c : Core) (frame : ℕ) (reference : RoundTimes) (stage : Stage) : Type 0 where
   pub few : frame ≤ 16777215
-  pub early : z < 2 ^ 47
+  pub timed : reference ≡ times_of p reference.zero
   pub stands : IsStage c stage
   pub accepted : IsEarly frame c.table
   pub hosted : HostsIn frame c stage
@@ -65,12 +69,7 @@ IsDue f (Scan r waited) = ⊤
 IsDue f (Hold r due) = due ≡ f
 IsDue f (Host r due) = due ≡ f
 
--- these orders were given to a radio, one after another, and as much less room is left
-pub record Gives (before after : List Order) (room left : ℕ) (orders : List Order) : Type 0 where
-  pub given : after ≡ before ++ orders
-  pub spent : left + length orders ≡ room
-
 -- the row that fits was gone through; where none fits, nothing changed and nothing was ordered
-abbrev pub Follows : NodeState → NodeState → List Order → List Order → ℕ → ℕ → Option Stepped → Type 0
-Follows old new before after room left None = (new ≡ old) × Gives before after room left []
-Follows old new before after room left (Some r) = (new ≡ record old { node = r.node; delivery = r.delivery }) × Gives before after room left r.orders
+abbrev pub Follows : NodeState → NodeState → Told → Told → Option Stepped → Type 0
+Follows old new before after None = (new ≡ old) × Gives before after []
+Follows old new before after (Some r) = (new ≡ record old { node = r.node; delivery = r.delivery }) × Gives before after r.orders

@@ -1,6 +1,6 @@
 ghost use Rattle.std.specs.Prelude.{◌≡◌, ◌<◌, ◌^◌};
 
-use lwb_base::{Event, LocalClock, Packet, Payload};
+use lwb_base::{Event, LocalClock, Payload};
 use std::marker::Model;
 
 /// What can happen to a node.
@@ -57,13 +57,7 @@ pub(crate) fn copy_of_event(event: &Event) -> Event
     match event {
         Event::Boot => Event::Boot,
         Event::Alarm => Event::Alarm,
-        Event::Heard(packet) => Event::Heard(copy_of(packet)),
+        Event::Heard(packet) => Event::Heard(packet.copy()),
         Event::Sent => Event::Sent,
     }
-}
-
-fn copy_of(packet: &Packet) -> Packet
-    ensures { result ≡ packet.now }
-{
-    Packet::new(packet.bytes()).unwrap()
 }

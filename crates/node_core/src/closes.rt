@@ -2,29 +2,31 @@
 
 ghost use Rattle.std.specs.Prelude.{◌≡◌, ◌≤◌, ◌<◌, ◌^◌, ◌+◌, IfSome};
 ghost use Rattle.std.specs.Option.{option_map};
+ghost use Rattle.time_reference.specs.Reference.{times_of};
 ghost use Rattle.bus_rules.specs.Plans.{last_slot};
 ghost use Rattle.node_core.specs.Closings.{at_closing};
-ghost use Rattle.node_core.specs.Members.{IsHeard};
+ghost use Rattle.lwb_member.specs.Members.{IsHeard};
 ghost use Rattle.node_core.specs.Rows.{accepted_in, goes_on, window_closes, zero_by as zero_taken};
-ghost use Rattle.node_core.specs.Said.{meaning};
-ghost use Rattle.node_core.specs.Standing.{Follows, Gives, HostsIn, IsOwn, IsWindow};
+ghost use Rattle.lwb_member.specs.Said.{meaning};
+ghost use Rattle.node_core.specs.Standing.{Follows, HostsIn, IsOwn, IsWindow};
+ghost use Rattle.lwb_base.specs.Orders.{Gives};
 ghost use Rattle.node_core.specs.declared.stage.Stage.TheVariants.{InWindow};
 
-use crate::message::{Heard, message_in};
 use crate::node::Node;
 use crate::stage::Stage;
-use crate::times::{frame_alarm, host_zero, opens_at};
+use crate::times::frame_alarm;
 use crate::window::Window;
 use bus_rules::Tune;
-use lwb_base::{Profile, Radio};
+use lwb_base::Radio;
+use lwb_member::{Heard, message_in};
 use std::mem;
 use time_reference::Reference;
 
 impl Node {
     // Window closes, and round ends in the last slot.
     pub(crate) fn close_window<R: Radio>(&mut self, radio: &mut R)
-        requires { 2 ≤ R.room radio.old }
-        ensures { Follows self.old self.new (R.given radio.old) (R.given radio.new) (R.room radio.old) (R.room radio.new) (at_closing self.old.setup self.old.node self.old.node.stage) }
+        requires { 2 ≤ (R.told radio.old).room }
+        ensures { Follows self.old self.new (R.told radio.old) (R.told radio.new) (at_closing self.old.setup self.old.node self.old.node.stage) }
     {
         match mem::replace(&mut self.stage, Stage::AwaitFrame) {
             Stage::InWindow(slot, window) => self.close(slot, &window, radio),
@@ -36,13 +38,14 @@ impl Node {
     fn close<R: Radio>(&mut self, slot: u8, window: &Window, radio: &mut R)
         requires window { IsWindow self.old.node.core slot window.now }
         requires hosted { HostsIn self.old.node.frame self.old.node.core (InWindow slot window.now) }
-        requires room { 2 ≤ R.room radio.old }
+        requires room { 2 ≤ (R.told radio.old).room }
         ensures node { self.new ≡ record self.old { node = (window_closes self.old.setup self.old.node slot window.now).node; delivery = (window_closes self.old.setup self.old.node slot window.now).delivery } }
-        ensures orders { Gives (R.given radio.old) (R.given radio.new) (R.room radio.old) (R.room radio.new) (window_closes self.old.setup self.old.node slot window.now).orders }
+        ensures orders { Gives (R.told radio.old) (R.told radio.new) (window_closes self.old.setup self.old.node slot window.now).orders }
     {
         let accepted = window.accepted();
+        let reference = self.reference_after(window.reference, &accepted);
         self.stage = Stage::AwaitFrame;
-        self.zero = zero_by(&self.member.profile, self.zero, window.reference, &accepted);
+        self.reference = reference;
         self.delivery = self.member.close(
             self.frame,
             slot,
@@ -53,23 +56,38 @@ impl Node {
         self.go_on(slot, window.last, radio);
     }
 
+    // The reference from the closing of a window on: that of an accepted schedule, whose zero this is, for the next round.
+    fn reference_after(&self, heard: Option<u64>, accepted: &Option<Heard>) -> Reference
+        requires { IfSome heard (λ z. z < 2 ^ 47) }
+        ensures zero { result.zero ≡ zero_taken self.now.setup.profile self.now.node.zero heard (option_map meaning accepted.now) }
+        ensures times { result ≡ times_of self.now.setup.profile result.zero }
+    {
+        match (heard, accepted) {
+            (Some(zero), Some(Heard::Schedule(schedule))) => {
+                self.reference.moved(zero).next_round(schedule.gap)
+            }
+            _ => self.reference,
+        }
+    }
+
     // After the window of this slot of a round that ends with the last.
+    #[tactic(auto, using(crate::proofs::Timed::opening_is))]
     fn go_on<R: Radio>(&mut self, slot: u8, last: u8, radio: &mut R)
         requires next { slot < last → slot + 1 ≤ last_slot self.old.node.core.plan }
         requires own { slot < last → IsOwn self.old.node.frame self.old.node.core }
-        requires room { 2 ≤ R.room radio.old }
+        requires room { 2 ≤ (R.told radio.old).room }
         ensures node { self.new ≡ record self.old { node = (goes_on self.old.setup slot last self.old.node self.old.delivery).node } }
-        ensures orders { Gives (R.given radio.old) (R.given radio.new) (R.room radio.old) (R.room radio.new) (goes_on self.old.setup slot last self.old.node self.old.delivery).orders }
+        ensures orders { Gives (R.told radio.old) (R.told radio.new) (goes_on self.old.setup slot last self.old.node self.old.delivery).orders }
     {
-        let profile = self.member.profile;
+        let profile = self.member.profile();
         radio.off();
         if slot < last {
             self.stage = Stage::AwaitSlot(slot + 1);
-            radio.alarm(opens_at(&profile, self.zero, slot + 1));
+            radio.alarm(self.reference.slot_start(slot + 1));
         } else {
             self.stage = Stage::AwaitFrame;
             if let Tune::Host(_, due) = self.member.tune() {
-                self.zero = host_zero(&profile, due);
+                self.reference = Reference::of_host(&profile, due);
             }
             radio.alarm(frame_alarm(&profile, self.frame));
         }
@@ -84,21 +102,5 @@ impl Window {
     {
         let (packet, _) = self.flood.accepted()?;
         message_in(&packet)
-    }
-}
-
-// The zero from the closing of a window on: by the reference that an accepted schedule gave.
-fn zero_by(profile: &Profile, zero: u64, reference: Option<u64>, accepted: &Option<Heard>) -> u64
-    requires zero { zero < 2 ^ 47 }
-    requires reference { IfSome reference (λ z. z < 2 ^ 47) }
-    ensures value { result ≡ zero_taken profile.now zero reference (option_map meaning accepted.now) }
-    ensures range { result < 2 ^ 47 }
-{
-    match (reference, accepted) {
-        (Some(taken), Some(Heard::Schedule(schedule))) => {
-            let reference = Reference::with_zero(profile, taken);
-            reference.next_round(schedule.gap).zero()
-        }
-        _ => zero,
     }
 }

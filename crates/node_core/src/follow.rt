@@ -1,7 +1,7 @@
 //! Whole runs of a node: all that happens to it, one after another.
 
 ghost use Rattle.std.specs.Prelude.{◌≡◌, ◌≤◌, ◌+◌, ◌*◌, ◌++◌, All, length};
-ghost use Rattle.node_core.specs.Runs.{IsAllowed, after_call, after_calls, orders_of, orders_of_all};
+ghost use Rattle.node_core.specs.Runs.{IsAllowed, after_call, after_calls, delivery_after, delivery_after_calls, orders_of, orders_of_all};
 
 use crate::call::{Call, Reading, copy_of_event};
 use crate::node::Node;
@@ -12,9 +12,10 @@ impl Node {
     /// script leave it, and the radio, which has room for 4 orders a call, was given their orders.
     pub fn follow<R: Radio>(&mut self, calls: &[Call], radio: &mut R)
         requires allowed { All (IsAllowed self.old.setup) calls.now }
-        requires room { 4 * length calls.now ≤ R.room radio.old }
+        requires room { 4 * length calls.now ≤ (R.told radio.old).room }
         ensures node { self.new.node ≡ after_calls self.old.setup self.old.node calls.now }
-        ensures orders { R.given radio.new ≡ R.given radio.old ++ orders_of_all self.old.setup self.old.node calls.now }
+        ensures orders { (R.told radio.new).given ≡ (R.told radio.old).given ++ orders_of_all self.old.setup self.old.node calls.now }
+        ensures delivery { self.new.delivery ≡ delivery_after_calls self.old.setup self.old.node self.old.delivery calls.now }
         ensures setup { self.new.setup ≡ self.old.setup }
     {
         for call in calls {
@@ -22,12 +23,14 @@ impl Node {
         }
     }
 
+    #[tactic(auto, using(crate::proofs::Followed::delivery_follows))]
     fn undergo<R: Radio>(&mut self, call: &Call, radio: &mut R)
         requires allowed { IsAllowed self.old.setup call.now }
-        requires room { 4 ≤ R.room radio.old }
+        requires room { 4 ≤ (R.told radio.old).room }
         ensures node { self.new.node ≡ after_call self.old.setup self.old.node call.now }
-        ensures orders { R.given radio.new ≡ R.given radio.old ++ orders_of self.old.setup self.old.node call.now }
-        ensures room { R.room radio.old ≤ R.room radio.new + 4 }
+        ensures orders { (R.told radio.new).given ≡ (R.told radio.old).given ++ orders_of self.old.setup self.old.node call.now }
+        ensures delivery { self.new.delivery ≡ delivery_after self.old.setup self.old.node self.old.delivery call.now }
+        ensures room { (R.told radio.old).room ≤ (R.told radio.new).room + 4 }
         ensures setup { self.new.setup ≡ self.old.setup }
     {
         match call {

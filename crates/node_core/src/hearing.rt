@@ -4,19 +4,20 @@ ghost use Rattle.std.specs.Prelude.{◌≡◌, ◌≤◌, ◌<◌, ◌^◌, Some
 ghost use Rattle.schedule_codec.specs.Spelling.{slot_fits};
 ghost use Rattle.glossy_relay.specs.Relaying.{slot_of};
 ghost use Rattle.bus_rules.specs.Tuning.{hosts};
-ghost use Rattle.node_core.specs.Said.{message_of};
+ghost use Rattle.lwb_member.specs.Said.{message_of};
 ghost use Rattle.node_core.specs.Rows.{at_heard, in_window, joins, last_by as last_slot_by, part_by as part_of_slot_by, scanner_hears};
-ghost use Rattle.node_core.specs.Standing.{Follows, Gives};
+ghost use Rattle.node_core.specs.Standing.{Follows};
+ghost use Rattle.lwb_base.specs.Orders.{Gives};
 
-use crate::message::{Heard, message_in};
 use crate::node::Node;
-use crate::rows::{rank_of, relay};
+use crate::rows::relay;
 use crate::stage::Stage;
-use crate::times::{closes_at, heard_zero};
+use crate::times::{closes_at, heard_reference};
 use crate::window::Window;
 use bus_rules::Part;
 use glossy_relay::Flood;
 use lwb_base::{Packet, Radio};
+use lwb_member::{Heard, last_slot, message_in};
 use lwb_packets::Kind;
 use schedule_codec::Schedule;
 use std::mem;
@@ -25,8 +26,8 @@ impl Node {
     // A packet was heard.
     pub(crate) fn hear<R: Radio>(&mut self, now: u64, packet: &Packet, radio: &mut R)
         requires now { now < 2 ^ 46 }
-        requires room { 2 ≤ R.room radio.old }
-        ensures { Follows self.old self.new (R.given radio.old) (R.given radio.new) (R.room radio.old) (R.room radio.new) (at_heard self.old.setup self.old.node now packet.now self.old.node.stage) }
+        requires room { 2 ≤ (R.told radio.old).room }
+        ensures { Follows self.old self.new (R.told radio.old) (R.told radio.new) (at_heard self.old.setup self.old.node now packet.now self.old.node.stage) }
     {
         match self.stage {
             Stage::Scanning => self.hear_while_scanning(now, packet, radio),
@@ -39,12 +40,12 @@ impl Node {
     fn hear_while_scanning<R: Radio>(&mut self, now: u64, packet: &Packet, radio: &mut R)
         requires host { hosts self.old.node.core.tune ≡ false }
         requires now { now < 2 ^ 46 }
-        requires room { 2 ≤ R.room radio.old }
-        ensures { Follows self.old self.new (R.given radio.old) (R.given radio.new) (R.room radio.old) (R.room radio.new) (scanner_hears self.old.setup self.old.node now packet.now (message_of packet.now)) }
+        requires room { 2 ≤ (R.told radio.old).room }
+        ensures { Follows self.old self.new (R.told radio.old) (R.told radio.new) (scanner_hears self.old.setup self.old.node now packet.now (message_of packet.now)) }
     {
         match message_in(packet) {
             Some(Heard::Schedule(schedule)) => {
-                if schedule.host == rank_of(self.member.tune()) {
+                if schedule.host == self.member.rank() {
                     self.join(now, packet, &schedule, radio);
                 }
             }
@@ -58,38 +59,38 @@ impl Node {
         requires now { now < 2 ^ 46 }
         requires contend { schedule.now.plan.contend ≤ 4 }
         requires place { slot_fits schedule.now.gap schedule.now.plan.contend (slot_of packet.now) ≡ true }
-        requires room { 2 ≤ R.room radio.old }
+        requires room { 2 ≤ (R.told radio.old).room }
         ensures node { self.new ≡ record self.old { node = (joins self.old.setup self.old.node now packet.now schedule.now).node; delivery = None } }
-        ensures orders { Gives (R.given radio.old) (R.given radio.new) (R.room radio.old) (R.room radio.new) (joins self.old.setup self.old.node now packet.now schedule.now).orders }
+        ensures orders { Gives (R.told radio.old) (R.told radio.new) (joins self.old.setup self.old.node now packet.now schedule.now).orders }
     {
-        let profile = self.member.profile;
+        let profile = self.member.profile();
         let slot = packet.slot();
-        let mut flood = Flood::listen(Kind::Schedule, slot, self.member.sends);
+        let mut flood = Flood::listen(Kind::Schedule, slot, self.member.sends());
         let reply = flood.heard(packet);
-        let zero = heard_zero(&profile, now, packet);
-        self.zero = zero;
+        let reference = heard_reference(&profile, now, packet);
+        self.reference = reference;
         self.stage = Stage::InWindow(
             slot,
             Window {
                 part: part_by(schedule),
                 last: last_by(schedule, slot),
                 flood,
-                reference: Some(zero),
+                reference: Some(reference.zero()),
             },
         );
         self.delivery = None;
         relay(&profile, now, reply, radio);
-        radio.alarm(closes_at(&profile, zero, slot));
+        radio.alarm(closes_at(&profile, &reference, slot));
     }
 
     // Heard in a window.
     pub(crate) fn hear_in_window<R: Radio>(&mut self, now: u64, packet: &Packet, radio: &mut R)
         requires now { now < 2 ^ 46 }
-        requires room { 1 ≤ R.room radio.old }
-        ensures { Follows self.old self.new (R.given radio.old) (R.given radio.new) (R.room radio.old) (R.room radio.new) (in_window self.old.setup self.old.node now packet.now self.old.node.stage) }
+        requires room { 1 ≤ (R.told radio.old).room }
+        ensures { Follows self.old self.new (R.told radio.old) (R.told radio.new) (in_window self.old.setup self.old.node now packet.now self.old.node.stage) }
     {
-        let profile = self.member.profile;
-        let rank = rank_of(self.member.tune());
+        let profile = self.member.profile();
+        let rank = self.member.rank();
         match mem::replace(&mut self.stage, Stage::Idle) {
             Stage::InWindow(slot, mut window) => {
                 let reply = window.hear(&profile, rank, now, packet);
@@ -119,7 +120,7 @@ fn last_by(schedule: &Schedule, slot: u8) -> u8
     ensures { result ≡ last_slot_by schedule.now slot }
 {
     if schedule.gap == 0 {
-        schedule.owners.count() + schedule.contend.max(1) + 1
+        last_slot(schedule)
     } else {
         slot
     }

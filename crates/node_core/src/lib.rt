@@ -3,16 +3,10 @@
 
 mod call;
 mod closes;
-mod closing;
 mod follow;
 mod hearing;
-mod kept;
-mod member;
-mod message;
 mod node;
-mod opening;
 mod opens;
-mod planning;
 mod rows;
 mod stage;
 mod step;

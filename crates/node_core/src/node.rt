@@ -1,19 +1,22 @@
 ghost use Rattle.std.specs.Prelude.{◌≡◌, ◌≤◌, ◌<◌, Some, None, IfOk, IfSome, if◌then◌else◌, length};
 ghost use Rattle.bus_rules.specs.Cores.{own_rank};
+ghost use Rattle.bus_rules.specs.declared.tune.Tune.TheVariants.{Scan};
 ghost use Rattle.bus_rules.specs.Streams as rule;
 ghost use Rattle.stream_source.specs.declared.stream.Put.TheVariants.{Queued, Dropped};
-ghost use Rattle.node_core.specs.Members.{IsBoot};
+ghost use Rattle.lwb_member.specs.Members.{IsBoot};
+ghost use Rattle.node_core.specs.declared.node.Place.TheVariants.{Off};
 ghost use Rattle.node_core.specs.Nodes.{rebooted};
 ghost use Rattle.node_core.specs.Runs.{with_streams};
 ghost use Rattle.node_core.specs.Standing.{place_of};
 
-use crate::member::Member;
 use crate::stage::Stage;
 use bus_rules::{Delivery, Tune};
 use lwb_base::{Memory, NodeId, Payload, Profile, Rank};
+use lwb_member::Member;
 use std::alloc::Global;
 use std::marker::Model;
 use stream_source::Put;
+use time_reference::Reference;
 
 /// Where a node is in its frame.
 #[derive(Clone, Copy, Debug, PartialEq, Eq)]
@@ -35,7 +38,7 @@ pub enum Place {
 pub struct Node {
     pub(crate) member: Member,
     pub(crate) frame: u32,
-    pub(crate) zero: u64,
+    pub(crate) reference: Reference,
     pub(crate) stage: Stage,
     pub(crate) delivery: Option<Delivery>,
 }
@@ -46,9 +49,9 @@ impl Model for Node {
 
     ghost Value = { NodeState };
 
-    ghost view = { λ n. record { setup = n.member.setup; node = record { core = n.member.core; frame = n.frame; zero = n.zero; stage = n.stage }; delivery = n.delivery } };
+    ghost view = { λ n. record { setup = n.member.setup; node = record { core = n.member.core; frame = n.frame; zero = n.reference.zero; stage = n.stage }; delivery = n.delivery } };
 
-    ghost invariant = { λ n. IsNode n.member.core n.frame n.zero n.stage };
+    ghost invariant = { λ n. IsNode n.member.setup.profile n.member.core n.frame n.reference n.stage };
 }
 
 impl Node {
@@ -69,7 +72,7 @@ impl Node {
         Ok(Node {
             member: Member::new(alloc, profile, id, own, hosts.len() as u8, n)?,
             frame: 0,
-            zero: 0,
+            reference: Reference::new(profile),
             stage: Stage::Idle,
             delivery: None,
         })
@@ -83,7 +86,7 @@ impl Node {
         self.stage = Stage::Idle;
         self.member.reboot(boot);
         self.frame = 0;
-        self.zero = 0;
+        self.reference = Reference::new(&self.member.profile());
         self.delivery = None;
     }
 
@@ -115,16 +118,20 @@ impl Node {
         self.member.put(stream, payload)
     }
 
-    /// What it scans, holds or hosts.
+    /// What it scans, holds or hosts. At the place `Off` it is to scan rank 0.
+    #[tactic(auto, using(crate::proofs::OffNodes::off_scans))]
     pub fn tune(&self) -> Tune
-        ensures { result ≡ self.now.node.core.tune }
+        ensures value { result ≡ self.now.node.core.tune }
+        ensures off { place_of self.now.node.stage ≡ Off → result ≡ Scan 0 0 }
     {
         self.member.tune()
     }
 
     /// Where it is in its frame.
+    #[tactic(auto, using(crate::proofs::OffNodes::off_scans))]
     pub fn place(&self) -> Place
-        ensures { result ≡ place_of self.now.node.stage }
+        ensures value { result ≡ place_of self.now.node.stage }
+        ensures off { result ≡ Off → self.now.node.core.tune ≡ Scan 0 0 }
     {
         match self.stage {
             Stage::Idle => Place::Off,

@@ -3,37 +3,43 @@
 ghost use Rattle.std.specs.Prelude.{◌≡◌, ◌≤◌, [], ◌∷◌, ◌++◌, None, IfSome};
 ghost use Rattle.lwb_base.specs.declared.order.Order.TheVariants.{Listen, Alarm};
 ghost use Rattle.node_core.specs.declared.stage.Stage.TheVariants.{AwaitSlot};
-ghost use Rattle.node_core.specs.Rows.{window_opens, kind_for};
-ghost use Rattle.node_core.specs.Said.{IsSaid};
+ghost use Rattle.lwb_member.specs.Places.{kind_for};
+ghost use Rattle.node_core.specs.Rows.{window_opens};
+ghost use Rattle.lwb_member.specs.Said.{IsSaid};
 ghost use Rattle.node_core.specs.Openings.{flood_with, sent_first};
-ghost use Rattle.node_core.specs.Standing.{Gives};
+ghost use Rattle.lwb_base.specs.Orders.{Gives};
 
 use crate::node::Node;
-use crate::rows::rank_of;
 use crate::stage::Stage;
 use crate::window::Window;
 use bus_rules::Part;
 use glossy_relay::Flood;
 use lwb_base::{Packet, Radio, Rank};
 use lwb_packets::Kind;
+use round_runner::Round;
 
 impl Node {
     // Window opens, with host plans in the last slot of a host.
     pub(crate) fn open_window<R: Radio>(&mut self, slot: u8, radio: &mut R)
         requires stage { self.old.node.stage ≡ AwaitSlot slot }
-        requires room { 3 ≤ R.room radio.old }
+        requires room { 3 ≤ (R.told radio.old).room }
         ensures node { self.new ≡ record self.old { node = (window_opens self.old.setup self.old.node slot).node; delivery = None } }
-        ensures orders { Gives (R.given radio.old) (R.given radio.new) (R.room radio.old) (R.room radio.new) (window_opens self.old.setup self.old.node slot).orders }
+        ensures orders { Gives (R.told radio.old) (R.told radio.new) (window_opens self.old.setup self.old.node slot).orders }
     {
         let frame = self.frame;
-        let zero = self.zero;
+        let profile = self.member.profile();
         let sends = self.member.sends();
-        let round = self.member.round(zero);
-        let last = round.last();
+        let last = self.member.last_slot();
+        let round = Round::new(
+            &profile,
+            self.reference,
+            self.member.owners(),
+            self.member.contend(),
+        );
         let times = round.window(slot);
-        let part = self.member.part(&round, slot);
+        let part = self.member.part(slot);
         let kind = kind_in(&part);
-        let rank = rank_of(self.member.tune());
+        let rank = self.member.rank();
         let packet = self.member.speak(&part, slot, frame);
         let flood = begin(&packet, kind, slot, sends);
         order(rank, &packet, times.start, times.until, radio);
@@ -64,8 +70,8 @@ fn begin(packet: &Option<Packet>, kind: Kind, slot: u8, sends: u8) -> Flood
 
 // The orders of a window: its radio is on, this packet starts, and the window closes.
 fn order<R: Radio>(rank: Rank, packet: &Option<Packet>, start: u64, until: u64, radio: &mut R)
-    requires { 3 ≤ R.room radio.old }
-    ensures { Gives (R.given radio.old) (R.given radio.new) (R.room radio.old) (R.room radio.new) (Listen rank ∷ sent_first start packet.now ++ Alarm until ∷ []) }
+    requires { 3 ≤ (R.told radio.old).room }
+    ensures { Gives (R.told radio.old) (R.told radio.new) (Listen rank ∷ sent_first start packet.now ++ Alarm until ∷ []) }
 {
     radio.listen(rank);
     match packet {

@@ -3,25 +3,26 @@
 ghost use Rattle.std.specs.Prelude.{◌≡◌, ◌≤◌, ◌<◌, ◌^◌, ◌==◌, None, if◌then◌else◌};
 ghost use Rattle.node_core.specs.declared.stage.Stage.TheVariants.{AwaitFrame, AwaitSlot};
 ghost use Rattle.node_core.specs.Rows.{boots, frame_alarms, waits, at_sent, in_window, relaying};
-ghost use Rattle.bus_rules.specs.Tuning.{rank_of as rank_in};
-ghost use Rattle.node_core.specs.Standing.{Gives, Follows, IsDue};
+ghost use Rattle.node_core.specs.Standing.{Follows, IsDue};
+ghost use Rattle.lwb_base.specs.Orders.{Gives};
 
 use crate::node::Node;
 use crate::stage::Stage;
-use crate::times::{frame_alarm, frame_at, host_zero, next_frame};
+use crate::times::{frame_alarm, frame_at, next_frame};
 use bus_rules::Tune;
 use glossy_relay::{After, Reply};
-use lwb_base::{Packet, Profile, Radio, Rank};
+use lwb_base::{Profile, Radio, Rank};
+use time_reference::Reference;
 
 impl Node {
     // Boot.
     pub(crate) fn boot<R: Radio>(&mut self, now: u64, radio: &mut R)
         requires now { now < 2 ^ 46 }
-        requires room { 2 ≤ R.room radio.old }
+        requires room { 2 ≤ (R.told radio.old).room }
         ensures node { self.new ≡ record self.old { node = (boots self.old.setup self.old.node now).node; delivery = None } }
-        ensures orders { Gives (R.given radio.old) (R.given radio.new) (R.room radio.old) (R.room radio.new) (boots self.old.setup self.old.node now).orders }
+        ensures orders { Gives (R.told radio.old) (R.told radio.new) (boots self.old.setup self.old.node now).orders }
     {
-        let profile = self.member.profile;
+        let profile = self.member.profile();
         let boot = self.member.boot();
         self.reboot(boot);
         self.frame = frame_at(&profile, now);
@@ -32,11 +33,11 @@ impl Node {
 
     // Frame alarm, and quiet ends where the node begins to host.
     pub(crate) fn end_frame<R: Radio>(&mut self, radio: &mut R)
-        requires { 2 ≤ R.room radio.old }
+        requires { 2 ≤ (R.told radio.old).room }
         ensures node { self.new ≡ record self.old { node = (frame_alarms self.old.setup self.old.node).node; delivery = None } }
-        ensures orders { Gives (R.given radio.old) (R.given radio.new) (R.room radio.old) (R.room radio.new) (frame_alarms self.old.setup self.old.node).orders }
+        ensures orders { Gives (R.told radio.old) (R.told radio.new) (frame_alarms self.old.setup self.old.node).orders }
     {
-        let profile = self.member.profile;
+        let profile = self.member.profile();
         self.stage = Stage::AwaitFrame;
         self.delivery = None;
         let begins = self.member.frame_ended(self.frame);
@@ -50,7 +51,7 @@ impl Node {
             Tune::Hold(_, due) => self.wait_for(due, radio),
             Tune::Host(_, due) => {
                 if begins {
-                    self.zero = host_zero(&profile, due);
+                    self.reference = Reference::of_host(&profile, due);
                 }
                 self.wait_for(due, radio);
             }
@@ -59,25 +60,25 @@ impl Node {
 
     // It waits for slot 0 where the round is due in this frame, else for the end of the frame.
     fn wait_for<R: Radio>(&mut self, due: u32, radio: &mut R)
-        requires room { 2 ≤ R.room radio.old }
+        requires room { 2 ≤ (R.told radio.old).room }
         requires due { IsDue due self.old.node.core.tune }
         ensures node { self.new ≡ record self.old { node = record self.old.node { stage = if due == self.old.node.frame then AwaitSlot 0 else AwaitFrame } } }
-        ensures orders { Gives (R.given radio.old) (R.given radio.new) (R.room radio.old) (R.room radio.new) (waits self.old.setup.profile due self.old.node.frame self.old.node.zero) }
+        ensures orders { Gives (R.told radio.old) (R.told radio.new) (waits self.old.setup.profile due self.old.node.frame self.old.node.zero) }
     {
         radio.off();
         if due == self.frame {
             self.stage = Stage::AwaitSlot(0);
-            radio.alarm(self.zero);
+            radio.alarm(self.reference.zero());
         } else {
             self.stage = Stage::AwaitFrame;
-            radio.alarm(frame_alarm(&self.member.profile, self.frame));
+            radio.alarm(frame_alarm(&self.member.profile(), self.frame));
         }
     }
 
     // Sent, where the flood of a window waits for it.
     pub(crate) fn end_sending<R: Radio>(&mut self, radio: &mut R)
-        requires { 1 ≤ R.room radio.old }
-        ensures { Follows self.old self.new (R.given radio.old) (R.given radio.new) (R.room radio.old) (R.room radio.new) (at_sent self.old.node self.old.node.stage) }
+        requires { 1 ≤ (R.told radio.old).room }
+        ensures { Follows self.old self.new (R.told radio.old) (R.told radio.new) (at_sent self.old.node self.old.node.stage) }
     {
         let Stage::InWindow(_, window) = &mut self.stage else {
             return;
@@ -97,22 +98,11 @@ impl Node {
 // A relay begins a turnaround after the end of the hearing.
 pub(crate) fn relay<R: Radio>(profile: &Profile, now: u64, reply: Reply, radio: &mut R)
     requires now { now < 2 ^ 46 }
-    requires room { 1 ≤ R.room radio.old }
-    ensures { Gives (R.given radio.old) (R.given radio.new) (R.room radio.old) (R.room radio.new) (relaying profile.now now reply) }
+    requires room { 1 ≤ (R.told radio.old).room }
+    ensures { Gives (R.told radio.old) (R.told radio.new) (relaying profile.now now reply) }
 {
-    let _contend = profile.contend();
     match reply {
         Reply::Relay(packet) => radio.send_at(now + profile.turn(), &packet),
         Reply::Keep | Reply::Ignore => {}
-    }
-}
-
-pub(crate) fn rank_of(tune: Tune) -> Rank
-    ensures { result ≡ rank_in tune }
-{
-    match tune {
-        Tune::Scan(rank, _) => rank,
-        Tune::Hold(rank, _) => rank,
-        Tune::Host(rank, _) => rank,
     }
 }

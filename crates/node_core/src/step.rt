@@ -13,8 +13,8 @@ impl Node {
     /// gives its orders to the radio, which has room for at least 4. An event that fits no row changes nothing and gives no
     /// order.
     pub fn step<C: LocalClock, R: Radio>(&mut self, clock: &C, radio: &mut R, event: Event)
-        requires { 4 ≤ R.room radio.old }
-        ensures row { Follows self.old self.new (R.given radio.old) (R.given radio.new) (R.room radio.old) (R.room radio.new) (row self.old.setup self.old.node (C.time clock.now) event) }
+        requires { 4 ≤ (R.told radio.old).room }
+        ensures row { Follows self.old self.new (R.told radio.old) (R.told radio.new) (row self.old.setup self.old.node (C.time clock.now) event) }
         ensures setup { self.new.setup ≡ self.old.setup }
     {
         self.go_through(clock.now(), radio, event);
@@ -23,8 +23,8 @@ impl Node {
     // The event happens at this reading.
     fn go_through<R: Radio>(&mut self, now: u64, radio: &mut R, event: Event)
         requires now { now < 2 ^ 46 }
-        requires room { 4 ≤ R.room radio.old }
-        ensures { Follows self.old self.new (R.given radio.old) (R.given radio.new) (R.room radio.old) (R.room radio.new) (row self.old.setup self.old.node now event) }
+        requires room { 4 ≤ (R.told radio.old).room }
+        ensures { Follows self.old self.new (R.told radio.old) (R.told radio.new) (row self.old.setup self.old.node now event) }
     {
         match event {
             Event::Boot => self.boot(now, radio),
@@ -36,8 +36,8 @@ impl Node {
 
     // The alarm is due.
     fn alarm<R: Radio>(&mut self, radio: &mut R)
-        requires { 3 ≤ R.room radio.old }
-        ensures { Follows self.old self.new (R.given radio.old) (R.given radio.new) (R.room radio.old) (R.room radio.new) (at_alarm self.old.setup self.old.node self.old.node.stage) }
+        requires { 3 ≤ (R.told radio.old).room }
+        ensures { Follows self.old self.new (R.told radio.old) (R.told radio.new) (at_alarm self.old.setup self.old.node self.old.node.stage) }
     {
         match self.stage {
             Stage::Idle => {}

@@ -1,56 +1,36 @@
 ghost use Rattle.std.specs.Prelude.{◌≡◌, ◌≤◌, ◌<◌, ◌^◌, ◌+◌, ◌/◌};
-ghost use Rattle.node_core.specs.Nodes.{frame_alarm as alarm_of_frame, zero_of_host, zero_from, opens_at as opening_of_slot, closes_at as closing_of_slot, stopped_frame};
+ghost use Rattle.time_reference.specs.Reference.{times_of};
+ghost use Rattle.node_core.specs.Nodes.{frame_alarm as alarm_of_frame, zero_from, closes_at as closing_of_slot, stopped_frame};
 
 use lwb_base::{Packet, Profile};
-use time_reference::Reference;
+use time_reference::{Reference, stopped};
 
-// Times stop here, and so do frame numbers.
-const LAST_TIME: u64 = (1 << 47) - 1;
-
+// Frame numbers stop here.
 const LAST_FRAME: u32 = 16_777_215;
 
 // The alarm at the end of a frame.
 pub(crate) fn frame_alarm(profile: &Profile, frame: u32) -> u64
     ensures { result ≡ alarm_of_frame profile.now frame }
 {
-    let _contend = profile.contend();
-    LAST_TIME.min(u64::from(frame) * profile.frame() + profile.end())
+    stopped(u64::from(frame) * profile.frame() + profile.end())
 }
 
-// The zero of a host for its round in a frame.
-pub(crate) fn host_zero(profile: &Profile, frame: u32) -> u64
-    ensures value { result ≡ zero_of_host profile.now frame }
-    ensures range { result < 2 ^ 47 }
-{
-    Reference::of_host(profile, frame).zero()
-}
-
-// The zero by a schedule whose hearing ended at this reading.
-pub(crate) fn heard_zero(profile: &Profile, now: u64, schedule: &Packet) -> u64
+// The reference by a schedule whose hearing ended at this reading.
+pub(crate) fn heard_reference(profile: &Profile, now: u64, schedule: &Packet) -> Reference
     requires { now < 2 ^ 46 }
-    ensures value { result ≡ zero_from profile.now now schedule.now }
-    ensures range { result < 2 ^ 47 }
+    ensures { result ≡ times_of profile.now (zero_from profile.now now schedule.now) }
 {
     let length = schedule.length();
     let start = now.saturating_sub(profile.airtime(length));
-    Reference::from_heard(profile, start, schedule.counter(), length, schedule.slot()).zero()
+    Reference::from_heard(profile, start, schedule.counter(), length, schedule.slot())
 }
 
-// When the window of a slot opens, in a round whose slot 0 begins at this zero.
-pub(crate) fn opens_at(profile: &Profile, zero: u64, slot: u8) -> u64
-    requires { zero < 2 ^ 47 }
-    ensures { result ≡ opening_of_slot profile.now zero slot }
+// When the window of a slot closes.
+pub(crate) fn closes_at(profile: &Profile, reference: &Reference, slot: u8) -> u64
+    requires { reference.now ≡ times_of profile.now reference.now.zero }
+    ensures { result ≡ closing_of_slot profile.now reference.now.zero slot }
 {
-    Reference::with_zero(profile, zero).slot_start(slot)
-}
-
-// When it closes.
-pub(crate) fn closes_at(profile: &Profile, zero: u64, slot: u8) -> u64
-    requires { zero < 2 ^ 47 }
-    ensures { result ≡ closing_of_slot profile.now zero slot }
-{
-    let _contend = profile.contend();
-    LAST_TIME.min(zero + u64::from(slot) * profile.slot() + profile.close())
+    stopped(reference.slot_start(slot) + profile.close())
 }
 
 // The frame at this reading: one that begins within a lead counts.
@@ -59,7 +39,6 @@ pub(crate) fn frame_at(profile: &Profile, now: u64) -> u32
     ensures value { result ≡ stopped_frame ((now + profile.now.lead) / profile.now.frame) }
     ensures range { result ≤ 16777215 }
 {
-    let _contend = profile.contend();
     ((now + profile.lead()) / profile.frame()).min(u64::from(LAST_FRAME)) as u32
 }
 

@@ -2,14 +2,15 @@ ghost use Rattle.std.specs.Prelude.{◌≡◌, ◌≤◌, ◌<◌, ◌^◌, true
 ghost use Rattle.lwb_packets.specs.declared.kind.Kind as Kind;
 ghost use Rattle.glossy_relay.specs.FloodState.{listening};
 ghost use Rattle.glossy_relay.specs.Relaying.{after_sent, after_ending};
-ghost use Rattle.node_core.specs.Said.{meaning, message_of};
-ghost use Rattle.node_core.specs.Rows.{is_foreign as foreign, is_schedule_part, hearing, reply_by};
+ghost use Rattle.bus_rules.specs.Slots.{is_schedule_part};
+ghost use Rattle.lwb_member.specs.Said.{meaning, message_of};
+ghost use Rattle.node_core.specs.Rows.{is_foreign as foreign, hearing, reply_by};
 
-use crate::message::{Heard, message_in};
-use crate::times::heard_zero;
+use crate::times::heard_reference;
 use bus_rules::Part;
 use glossy_relay::{After, Flood, Reply};
 use lwb_base::{Packet, Profile, Rank};
+use lwb_member::{Heard, message_in};
 use std::marker::Model;
 
 // The window of a slot, while it is open.
@@ -44,7 +45,7 @@ impl Window {
         let first = is_end(self.part) && !self.flood.initiated() && self.flood.accepted().is_none();
         let reply = self.flood.heard(p);
         if first && !matches!(reply, Reply::Ignore) {
-            self.reference = Some(heard_zero(profile, now, p));
+            self.reference = Some(heard_reference(profile, now, p).zero());
         }
         reply
     }

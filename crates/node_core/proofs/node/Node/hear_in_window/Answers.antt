@@ -13,14 +13,14 @@ invariant_of-self g c =
     let window = c.in-InWindow.window in
     let frame = c.self.inside.frame in
     let new_is = sym c.hear-reply.ensures.after in
-    let profile = c.self-inside.inside.0.0.profile in
-    let rank = c.rank_of-rank.result in
+    let profile = c.profile-profile.result in
+    let rank = c.rank-rank.result in
     let heard = c.args.packet.now in
     let hosted : HostsIn frame core (InWindow slot window) = subst (λ (x : Stage). HostsIn frame core x) (sym c.in-InWindow.ensures.value) c.self.invariant.hosted in
     let stood : IsWindow core slot window = subst (λ (x : Stage). IsStage core x) (sym c.in-InWindow.ensures.value) c.self.invariant.stands in
     record {
       few = c.self.invariant.few;
-      early = c.self.invariant.early;
+      timed = c.self.invariant.timed;
       stands = subst (λ (w : Window). IsWindow core slot w) new_is (hearing_stands profile rank c.args.now slot core window heard c.requires.now stood);
       accepted = c.self.invariant.accepted;
       hosted = subst (λ (w : Window). HostsIn frame core (InWindow slot w)) new_is (hearing_hosted profile rank c.args.now frame slot core window heard hosted);

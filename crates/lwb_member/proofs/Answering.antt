@@ -1,0 +1,216 @@
+-- Requests that are put to a table, one after another, and acknowledgements in their places by code.
+use Rattle.std.proofs.Common.{◌≡◌, ◌≢◌, ℕ, zero, suc, ◌+◌, ◌-◌, ◌<◌, ◌≤◌, List, [], ◌∷◌, ◌++◌, Bool, true, false, not, ◌==◌, nat_lt, nat_le, cond, if◌then◌else◌, Some, None, length, get_or, set, take, fold, refl, sym, ◌∙◌, ap, subst, arith, eq-eqb, one-add}
+use Rattle.std.specs.Option.{unwrap_or}
+use Rattle.std.specs.List.{All, insert, list_all, position, position_or_len, slice_get}
+use Rattle.std.proofs.lemmas.List.{take_more, length-take}
+use Rattle.std.proofs.lemmas.List.Sums.{fold_more, prefix_len-le-length}
+use Rattle.std.proofs.lemmas.Bool.{ne_eqb, eqb-true, eqb-false, lt-ltb, le-ltb, ltb-false, leb-true, leb-false, and_parts, cond_both}
+use Rattle.std.proofs.lemmas.List.Elements.{All-cons, All-head, All-tail, All-filter}
+use Rattle.lwb_base.specs.Messages.{Ask, code, code_of, node_of, stream_of}
+use Rattle.schedule_codec.specs.AckLists.{are_acks, strictly_ascend, ask_in_range, may_follow, takes_ack}
+use Rattle.bus_rules.specs.Streams.{Streams}
+use Rattle.bus_rules.specs.Tables.{Entry, Table, new_entry, with_entry, without, is_full, has_code, after_request}
+use Rattle.bus_rules.specs.HostPlans.{Answered, Served, with_ack, answer, answered, serve}
+use Rattle.lwb_member.specs.Planning.{AreAnswers, from_code, IsEarly}
+
+-- an acknowledgement in its place
+replaced_by_test : (a b : Ask) (bs : List Ask) (t : Bool) → from_code (code_of a) b ≡ t
+    → cond (not t) (1 + position_or_len (from_code (code_of a)) bs) 0 < suc (length bs)
+    → code_of (get_or (b ∷ bs) (cond (not t) (1 + position_or_len (from_code (code_of a)) bs) 0) a) ≡ code_of a
+    → (position_or_len (from_code (code_of a)) bs < length bs → code_of (get_or bs (position_or_len (from_code (code_of a)) bs) a) ≡ code_of a → with_ack a bs ≡ set bs (position_or_len (from_code (code_of a)) bs) a)
+    → with_ack a (b ∷ bs) ≡ set (b ∷ bs) (cond (not t) (1 + position_or_len (from_code (code_of a)) bs) 0) a
+replaced_by_test a b bs true is within same rest = rw (eq-eqb (code_of a) (code_of b) (sym same)) refl
+replaced_by_test a b bs false is within same rest =
+    let below = leb-false (code_of a) (code_of b) is in
+    let apart : code_of a ≢ code_of b = omega arith in
+    rw (ne_eqb (code_of a) (code_of b) apart, le-ltb (code_of a) (code_of b) (omega arith), one-add) (ap (λ (l : List Ask). b ∷ l) (rest (omega arith) (subst (λ (n : ℕ). code_of (get_or (b ∷ bs) n a) ≡ code_of a) (one-add (position_or_len (from_code (code_of a)) bs)) same)))
+
+pub replaced : (a : Ask) (bs : List Ask) → position_or_len (from_code (code_of a)) bs < length bs → code_of (get_or bs (position_or_len (from_code (code_of a)) bs) a) ≡ code_of a
+    → with_ack a bs ≡ set bs (position_or_len (from_code (code_of a)) bs) a
+replaced a [] within same = absurd (omega arith)
+replaced a (b ∷ bs) within same = replaced_by_test a b bs (from_code (code_of a) b) refl within same (replaced a bs)
+
+inserted_by_test : (a b : Ask) (bs : List Ask) (t : Bool) → from_code (code_of a) b ≡ t
+    → (cond (not t) (1 + position_or_len (from_code (code_of a)) bs) 0 < suc (length bs) → code_of (get_or (b ∷ bs) (cond (not t) (1 + position_or_len (from_code (code_of a)) bs) 0) a) ≢ code_of a)
+    → ((position_or_len (from_code (code_of a)) bs < length bs → code_of (get_or bs (position_or_len (from_code (code_of a)) bs) a) ≢ code_of a) → with_ack a bs ≡ insert bs (position_or_len (from_code (code_of a)) bs) a)
+    → with_ack a (b ∷ bs) ≡ insert (b ∷ bs) (cond (not t) (1 + position_or_len (from_code (code_of a)) bs) 0) a
+inserted_by_test a b bs true is apart rest =
+    let from = leb-true (code_of a) (code_of b) is in
+    let other : code_of b ≢ code_of a = apart (omega arith) in
+    let turned : code_of a ≢ code_of b = omega arith in
+    rw (ne_eqb (code_of a) (code_of b) turned, lt-ltb (code_of a) (code_of b) (omega arith)) refl
+inserted_by_test a b bs false is apart rest =
+    let below = leb-false (code_of a) (code_of b) is in
+    let other : code_of a ≢ code_of b = omega arith in
+    rw (ne_eqb (code_of a) (code_of b) other, le-ltb (code_of a) (code_of b) (omega arith), one-add) (ap (λ (l : List Ask). b ∷ l) (rest (λ within. subst (λ (n : ℕ). code_of (get_or (b ∷ bs) n a) ≢ code_of a) (one-add (position_or_len (from_code (code_of a)) bs)) (apart (omega arith)))))
+
+pub inserted : (a : Ask) (bs : List Ask) → (position_or_len (from_code (code_of a)) bs < length bs → code_of (get_or bs (position_or_len (from_code (code_of a)) bs) a) ≢ code_of a)
+    → with_ack a bs ≡ insert bs (position_or_len (from_code (code_of a)) bs) a
+inserted a [] apart = refl
+inserted a (b ∷ bs) apart = inserted_by_test a b bs (from_code (code_of a) b) refl apart (inserted a bs)
+
+-- the order by codes stays
+abbrev leads : Ask → List Ask → Bool
+leads b [] = true
+leads b (x ∷ xs) = nat_lt (code_of b) (code_of x)
+
+led : (b : Ask) (xs : List Ask) → leads b xs ≡ true → strictly_ascend xs ≡ true → strictly_ascend (b ∷ xs) ≡ true
+led b [] first up = refl
+led b (x ∷ xs) first up = rw first up
+
+leading : (b : Ask) (xs : List Ask) → strictly_ascend (b ∷ xs) ≡ true → (leads b xs ≡ true) × (strictly_ascend xs ≡ true)
+leading b [] up = (refl, refl)
+leading b (x ∷ xs) up = and_parts (nat_lt (code_of b) (code_of x)) (strictly_ascend (x ∷ xs)) up
+
+leads_with : (b a : Ask) (xs : List Ask) → nat_lt (code_of b) (code_of a) ≡ true → leads b xs ≡ true → leads b (with_ack a xs) ≡ true
+leads_with b a [] below first = below
+leads_with b a (x ∷ xs) below first =
+    cond_both (code_of a == code_of x) (a ∷ xs) (if nat_lt (code_of a) (code_of x) then a ∷ x ∷ xs else x ∷ with_ack a xs) (λ (l : List Ask). leads b l ≡ true) (λ same. below)
+    (λ other. cond_both (nat_lt (code_of a) (code_of x)) (a ∷ x ∷ xs) (x ∷ with_ack a xs) (λ (l : List Ask). leads b l ≡ true) (λ less. below) (λ more. first))
+
+same_leads : (a x : Ask) (xs : List Ask) → code_of a ≡ code_of x → leads x xs ≡ true → leads a xs ≡ true
+same_leads a x [] same first = refl
+same_leads a x (y ∷ ys) same first = rw same first
+
+pub with_ascends : (a : Ask) (xs : List Ask) → strictly_ascend xs ≡ true → strictly_ascend (with_ack a xs) ≡ true
+with_ascends a [] up = refl
+with_ascends a (x ∷ xs) up =
+    let parts = leading x xs up in
+    let rest = with_ascends a xs parts.1 in
+    cond_both (code_of a == code_of x) (a ∷ xs) (if nat_lt (code_of a) (code_of x) then a ∷ x ∷ xs else x ∷ with_ack a xs) (λ (l : List Ask). strictly_ascend l ≡ true)
+    (λ same. led a xs (same_leads a x xs (eqb-true (code_of a) (code_of x) same) parts.0) parts.1)
+    (λ other. cond_both (nat_lt (code_of a) (code_of x)) (a ∷ x ∷ xs) (x ∷ with_ack a xs) (λ (l : List Ask). strictly_ascend l ≡ true)
+    (λ less. led a (x ∷ xs) less up)
+    (λ more.
+    let apart = eqb-false (code_of a) (code_of x) other in
+    let from = ltb-false (code_of a) (code_of x) more in
+    led x (with_ack a xs) (leads_with x a xs (lt-ltb (code_of x) (code_of a) (omega arith)) parts.0) rest))
+
+-- each is in its ranges
+pub with_ranges : (a : Ask) (xs : List Ask) → ask_in_range a ≡ true → list_all ask_in_range xs ≡ true → list_all ask_in_range (with_ack a xs) ≡ true
+with_ranges a [] this all = rw this refl
+with_ranges a (x ∷ xs) this all =
+    let parts = and_parts (ask_in_range x) (list_all ask_in_range xs) all in
+    cond_both (code_of a == code_of x) (a ∷ xs) (if nat_lt (code_of a) (code_of x) then a ∷ x ∷ xs else x ∷ with_ack a xs) (λ (l : List Ask). list_all ask_in_range l ≡ true)
+    (λ same. rw this parts.1)
+    (λ other. cond_both (nat_lt (code_of a) (code_of x)) (a ∷ x ∷ xs) (x ∷ with_ack a xs) (λ (l : List Ask). list_all ask_in_range l ≡ true)
+    (λ less. rw this all)
+    (λ more. rw parts.0 (with_ranges a xs this parts.1)))
+
+-- nothing that a request leaves was accepted later
+abbrev Early : ℕ → Entry → Type 0
+Early frame e = e.accepted ≤ frame
+
+with_early : (frame : ℕ) (e : Entry) (es : List Entry) → Early frame e → All (Early frame) es → All (Early frame) (with_entry e es)
+with_early frame e [] this all = All-cons (Early frame) e [] this all
+with_early frame e (x ∷ es) this all =
+    let first = All-head (Early frame) x es all in
+    let rest = All-tail (Early frame) x es all in
+    cond_both (e.code == x.code) (e ∷ es) (if nat_lt e.code x.code then e ∷ x ∷ es else x ∷ with_entry e es) (All (Early frame)) (λ same. All-cons (Early frame) e es this rest)
+    (λ other. cond_both (nat_lt e.code x.code) (e ∷ x ∷ es) (x ∷ with_entry e es) (All (Early frame)) (λ less. All-cons (Early frame) e (x ∷ es) this all)
+    (λ more. All-cons (Early frame) x (with_entry e es) first (with_early frame e es this rest)))
+
+pub request_early : (frame : ℕ) (t : Table) (a : Ask) → IsEarly frame t → IsEarly frame (after_request frame t a)
+request_early frame t a all =
+    cond_both (is_full a t) t.entries (if a.interval == 0 then without (code_of a) t.entries else with_entry (new_entry a frame) t.entries) (All (Early frame)) (λ full. all)
+    (λ room. cond_both (a.interval == 0) (without (code_of a) t.entries) (with_entry (new_entry a frame) t.entries) (All (Early frame))
+    (λ ends. All-filter (λ (e : Entry). not (has_code (code_of a) e)) (Early frame) t.entries all)
+    (λ asks. with_early frame (new_entry a frame) t.entries (omega arith) all))
+
+-- the place that was found, or the length
+pub place_or_end : (p : Ask → Bool) (xs : List Ask) → unwrap_or (position p xs) (length xs) ≡ position_or_len p xs
+place_or_end p xs = of_test (nat_lt (position_or_len p xs) (length xs)) refl
+  where
+    of_test : (b : Bool) → nat_lt (position_or_len p xs) (length xs) ≡ b → unwrap_or (if b then Some (position_or_len p xs) else None) (length xs) ≡ position_or_len p xs
+    of_test true is = refl
+    of_test false is = omega (arith, ltb-false (position_or_len p xs) (length xs) is, prefix_len-le-length (λ (a : Ask). not (p a)) xs)
+
+module _ (a : Ask) (bs xs after : List Ask) (n c : ℕ) (same : xs ≡ bs) (coded : c ≡ code_of a) (placed : n ≡ position_or_len (from_code c) xs) where
+  at : n ≡ position_or_len (from_code (code_of a)) bs
+  at = placed ∙ ap (λ (d : ℕ). position_or_len (from_code d) xs) coded ∙ ap (λ (l : List Ask). position_or_len (from_code (code_of a)) l) same
+
+  pub replaced_at : n < length xs → code_of (get_or xs n a) ≡ c → after ≡ set bs n a → after ≡ with_ack a bs
+  replaced_at within here is =
+      let k = position_or_len (from_code (code_of a)) bs in
+      let less : k < length bs = omega (arith, sym at, within, ap length same) in
+      let code : code_of (get_or bs k a) ≡ code_of a = ap (λ (m : ℕ). code_of (get_or bs m a)) (sym at) ∙ ap (λ (l : List Ask). code_of (get_or l n a)) (sym same) ∙ here ∙ coded in
+      is ∙ ap (λ (m : ℕ). set bs m a) at ∙ sym (replaced a bs less code)
+
+  pub inserted_at : (n < length xs → code_of (get_or xs n a) ≢ c) → after ≡ insert bs n a → after ≡ with_ack a bs
+  inserted_at apart is =
+      let k = position_or_len (from_code (code_of a)) bs in
+      let other : k < length bs → code_of (get_or bs k a) ≢ code_of a = λ less here.
+      apart (omega (arith, at, less, ap length same)) (ap (λ (l : List Ask). code_of (get_or l n a)) same ∙ ap (λ (m : ℕ). code_of (get_or bs m a)) at ∙ here ∙ sym coded) in
+      is ∙ ap (λ (m : ℕ). insert bs m a) at ∙ sym (inserted a bs other)
+
+-- each may follow those before it
+follows_at : (xs : List Ask) (i n : ℕ) (a : Ask) → strictly_ascend xs ≡ true → suc n ≡ i → i < length xs → a ≡ get_or xs i a → may_follow (slice_get (take i xs) n) a ≡ true
+follows_at [] i n a up next within is = absurd (omega arith)
+follows_at (x ∷ xs) zero n a up next within is = absurd (omega arith)
+follows_at (x ∷ []) (suc i) n a up next within is = absurd (omega arith)
+follows_at (x ∷ y ∷ ys) (suc zero) zero a up next within is =
+    let parts = and_parts (nat_lt (code_of x) (code_of y)) (strictly_ascend (y ∷ ys)) up in
+    subst (λ (z : Ask). nat_lt (code_of x) (code_of z) ≡ true) (sym is) parts.0
+follows_at (x ∷ y ∷ ys) (suc zero) (suc n) a up next within is = absurd (omega arith)
+follows_at (x ∷ y ∷ ys) (suc (suc i)) zero a up next within is = absurd (omega arith)
+follows_at (x ∷ y ∷ ys) (suc (suc i)) (suc n) a up next within is =
+    let parts = and_parts (nat_lt (code_of x) (code_of y)) (strictly_ascend (y ∷ ys)) up in
+    follows_at (y ∷ ys) (suc i) n a parts.1 (omega arith) (omega arith) is
+
+follows_next : (xs : List Ask) (i : ℕ) (a : Ask) → strictly_ascend xs ≡ true → i < length xs → a ≡ get_or xs i a → may_follow (slice_get (take i xs) (length (take i xs) - 1)) a ≡ true
+follows_next xs zero a up within is = refl
+follows_next xs (suc i) a up within is =
+    let long = length-take (suc i) xs in
+    subst (λ (n : ℕ). may_follow (slice_get (take (suc i) xs) n) a ≡ true) (omega arith) (follows_at xs (suc i) i a up refl within is)
+
+pub takes_next : (xs : List Ask) (i : ℕ) (a : Ask) → are_acks xs ≡ true → i < length xs → a ≡ get_or xs i a → takes_ack (take i xs) a ≡ true
+takes_next xs i a are within is =
+    let parts = and_parts (nat_le (length xs) 4) (strictly_ascend xs) are in
+    let few = leb-true (length xs) 4 parts.0 in
+    let long = length-take i xs in
+    rw (lt-ltb (length (take i xs)) 4 (omega arith)) (follows_next xs i a parts.1 within is)
+
+pub added_next : (xs acks new : List Ask) (i : ℕ) (a : Ask) (b : Bool) → are_acks xs ≡ true → i < length xs → a ≡ get_or xs i a → acks ≡ take i xs → b ≡ takes_ack acks a → new ≡ (if b then acks ++ a ∷ [] else acks)
+    → new ≡ take (i + 1) xs
+added_next xs acks new i a b are within is before answer now =
+    let takes : b ≡ true = answer ∙ ap (λ (l : List Ask). takes_ack l a) before ∙ takes_next xs i a are within is in
+    now ∙ ap (λ (t : Bool). if t then acks ++ a ∷ [] else acks) takes ∙ ap (λ (l : List Ask). l ++ a ∷ []) before ∙ ap (λ (x : Ask). take i xs ++ x ∷ []) is ∙ sym (take_more xs i a within)
+
+-- one after another
+abbrev pub collected : Table → List Ask → Answered
+collected t acks = record { table = t; acks = acks }
+
+pub answered_more : (frame : ℕ) (kept : List Ask) (i : ℕ) (a : Ask) (start t t' : Table) (acks acks' : List Ask) → i < length kept → a ≡ get_or kept i a
+    → collected t acks ≡ answered frame (take i kept) start → t' ≡ after_request frame t a → acks' ≡ (answer frame (collected t acks) a).acks → collected t' acks' ≡ answered frame (take (i + 1) kept) start
+answered_more frame kept i a start t t' acks acks' within is before table acked =
+    let now : collected t' acks' ≡ answer frame (collected t acks) a = cc (table, acked) in
+    now ∙ ap (λ (x : Answered). answer frame x a) before ∙ ap (λ (x : Ask). answer frame (answered frame (take i kept) start) x) is ∙ sym (fold_more (answer frame) (collected start []) kept i a within)
+
+abbrev pub four : List ℕ
+four = 0 ∷ 1 ∷ 2 ∷ 3 ∷ []
+
+four_at : (i : ℕ) → i < 4 → get_or four i i ≡ i
+four_at zero within = refl
+four_at (suc zero) within = refl
+four_at (suc (suc zero)) within = refl
+four_at (suc (suc (suc zero))) within = refl
+four_at (suc (suc (suc (suc i)))) within = absurd (omega arith)
+
+abbrev pub serving : Table → Streams → Served
+serving t s = record { table = t; streams = s }
+
+-- after the streams below this one
+abbrev pub served_to : ℕ → ℕ → ℕ → Table → Streams → ℕ → Served
+served_to frame node boot t s i = fold (serve frame node boot) (serving t s) (take i four)
+
+pub served_more : (frame node boot i owner : ℕ) (start t t' : Table) (first s s' : Streams) → i < 4 → owner ≡ code node i → serving t s ≡ served_to frame node boot start first i
+    → t' ≡ (serve frame (node_of owner) boot (serving t s) (stream_of owner)).table → s' ≡ (serve frame (node_of owner) boot (serving t s) (stream_of owner)).streams → serving t' s' ≡ served_to frame node boot start first (i + 1)
+served_more frame node boot i owner start t t' first s s' within is before table streams =
+    let its : node_of owner ≡ node = omega arith in
+    let this : stream_of owner ≡ i = omega arith in
+    let now : serving t' s' ≡ serve frame (node_of owner) boot (serving t s) (stream_of owner) = cc (table, streams) in
+    now ∙ ap (λ (n : ℕ). serve frame n boot (serving t s) (stream_of owner)) its ∙ ap (λ (n : ℕ). serve frame node boot (serving t s) n) this ∙ ap (λ (x : Served). serve frame node boot x i) before
+    ∙ ap (λ (n : ℕ). serve frame node boot (served_to frame node boot start first i) n) (sym (four_at i within)) ∙ sym (fold_more (serve frame node boot) (serving start first) four i i within)
+
+pub with_are : (a : Ask) (bs : List Ask) → ask_in_range a ≡ true → AreAnswers bs → AreAnswers (with_ack a bs)
+with_are a bs this are = record { ascend = with_ascends a bs are.ascend; ranges = with_ranges a bs this are.ranges }

@@ -1,0 +1,9 @@
+pub mod Meanings
+pub mod Spoken
+pub mod Lengths
+pub mod Told
+pub mod Beginning
+pub mod Accepting
+pub mod Answering
+pub mod HostPlanned
+pub mod KeptTables

@@ -1,0 +1,4 @@
+pub mod Said
+pub mod Places
+pub mod Members
+pub mod Planning

@@ -1,0 +1,19 @@
+-- The slots of a round: where each part stands, and what packets it is for.
+use Rattle.std.specs.Prelude.{◌≡◌, ℕ, ◌≤◌}
+use Rattle.lwb_base.specs.Messages.{Plan}
+use Rattle.lwb_packets.specs.declared.kind.Kind as Kind
+use Rattle.bus_rules.specs.declared.part.Part.{Part}
+use Rattle.bus_rules.specs.declared.part.Part.TheVariants.{Opening, Data, Contention, Closing}
+use Rattle.bus_rules.specs.Plans.{last_slot}
+
+abbrev pub IsPlaced : Plan → ℕ → Part → Type 0
+IsPlaced p j Opening = j ≡ 0
+IsPlaced p j (Data owner) = (1 ≤ j) × (j ≤ 40)
+IsPlaced p j (Contention i) = (1 ≤ j) × (j ≤ 44)
+IsPlaced p j Closing = j ≡ last_slot p
+
+abbrev pub kind_for : Part → Kind.Kind
+kind_for Opening = Kind.TheVariants.Schedule
+kind_for (Data owner) = Kind.TheVariants.Payload
+kind_for (Contention i) = Kind.TheVariants.Request
+kind_for Closing = Kind.TheVariants.Schedule

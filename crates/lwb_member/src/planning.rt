@@ -1,0 +1,225 @@
+//! What a host plans before it closes its round.
+
+ghost use Rattle.std.specs.Prelude.{◌≡◌, ◌≢◌, ◌+◌, ◌≤◌, ◌<◌, true, false, Some, IfSome, length, position, get_or, slice_set};
+ghost use Rattle.std.specs.List.{list_all, position_or_len};
+ghost use Rattle.std.specs.Option.{option_map};
+ghost use Rattle.lwb_base.specs.Messages.{Ask, code_of, node_of, stream_of};
+ghost use Rattle.lwb_packets.specs.declared.kind.Kind.TheVariants.{Schedule as OfSchedule};
+ghost use Rattle.schedule_codec.specs.AckLists.{are_acks, ask_in_range};
+ghost use Rattle.bus_rules.specs.Plans.{last_slot as last_slot_of};
+ghost use Rattle.bus_rules.specs.Tuning.{hosts};
+ghost use Rattle.bus_rules.specs.Tables.{after_request};
+ghost use Rattle.bus_rules.specs.HostPlans.{with_ack, answer, answered, serve, served};
+ghost use Rattle.bus_rules.specs.Slots.{host_closes};
+ghost use Rattle.lwb_member.specs.Members.{IsBoot};
+ghost use Rattle.lwb_member.specs.Said.{said_in, IsSaid};
+ghost use Rattle.lwb_member.specs.Planning.{AreAnswers, AreKept, IsEarly, from_code};
+
+use crate::kept::Kept;
+use crate::member::Member;
+use crate::slots::last_slot;
+use arrayvec::ArrayVec;
+use host_scheduler::plan_round;
+use lwb_base::{NodeId, Owner, Packet};
+use lwb_packets::Request;
+use schedule_codec::{Ack, Acks, Schedule, write};
+use stream_source::Streams;
+use stream_table::{Answer, Table};
+
+// The requests that were kept are put to the table, in their order. What is acknowledged of them.
+pub(crate) fn answer_kept(table: &mut Table, kept: &[Kept], frame: u32) -> Acks
+    requires kept { AreKept kept.now }
+    requires early { IsEarly frame table.old }
+    ensures table { table.new ≡ (answered frame kept.now table.old).table }
+    ensures acks { result ≡ (answered frame kept.now table.old).acks }
+    ensures few { length result ≤ length kept.now }
+    ensures ranges { list_all ask_in_range result ≡ true }
+    ensures early { IsEarly frame table.new }
+{
+    let answers = answer_each(table, kept, frame);
+    as_acks(answers.as_slice())
+}
+
+fn answer_each(table: &mut Table, kept: &[Kept], frame: u32) -> ArrayVec<Kept, 4>
+    requires kept { AreKept kept.now }
+    requires early { IsEarly frame table.old }
+    ensures table { table.new ≡ (answered frame kept.now table.old).table }
+    ensures acks { result.items ≡ (answered frame kept.now table.old).acks }
+    ensures few { length result.items ≤ length kept.now }
+    ensures are { AreAnswers result.items }
+    ensures early { IsEarly frame table.new }
+{
+    let mut answers = ArrayVec::new();
+    for asked in kept {
+        answer_one(table, &mut answers, asked.ask, frame);
+    }
+    answers
+}
+
+// One request is put to the table, and acknowledged unless it finds no room.
+#[tactic(auto, using(crate::proofs::Answering::request_early))]
+fn answer_one(table: &mut Table, answers: &mut ArrayVec<Kept, 4>, ask: Ack, frame: u32)
+    requires ask { ask_in_range ask ≡ true }
+    requires early { IsEarly frame table.old }
+    requires few { length answers.old.items < 4 }
+    requires are { AreAnswers answers.old.items }
+    ensures table { table.new ≡ after_request frame table.old ask }
+    ensures acks { answers.new.items ≡ (answer frame (record { table = table.old; acks = answers.old.items }) ask).acks }
+    ensures few { length answers.new.items ≤ length answers.old.items + 1 }
+    ensures are { AreAnswers answers.new.items }
+    ensures early { IsEarly frame table.new }
+{
+    let request = Request {
+        slot: 1,
+        counter: 0,
+        node: ask.node,
+        boot: ask.boot,
+        stream: ask.stream,
+        interval: ask.interval,
+    };
+    match table.request(&request, frame) {
+        Answer::Full => {}
+        Answer::Accepted | Answer::Replaced | Answer::Removed => put_answer(answers, ask),
+    }
+}
+
+// By ascending code, and instead of one of the same code.
+#[tactic(auto, using(crate::proofs::Answering::with_ascends, crate::proofs::Answering::with_ranges))]
+fn put_answer(answers: &mut ArrayVec<Kept, 4>, ask: Ack)
+    requires few { length answers.old.items < 4 }
+    requires ask { ask_in_range ask ≡ true }
+    requires are { AreAnswers answers.old.items }
+    ensures after { answers.new.items ≡ with_ack ask answers.old.items }
+    ensures few { length answers.new.items ≤ length answers.old.items + 1 }
+    ensures are { AreAnswers answers.new.items }
+{
+    let kept = Kept { ask };
+    let code = kept.code();
+    let list = answers.as_slice();
+    let place = place_for(list, code);
+    if stands_at(list, place, code) {
+        set(answers, place, kept);
+    } else {
+        answers.insert(place, kept);
+    }
+}
+
+// The place of the first whose code is not below this one, or their number.
+#[tactic(auto, using(crate::proofs::Answering::place_or_end))]
+fn place_for(answers: &[Kept], code: u16) -> usize
+    ensures value { result ≡ position_or_len (from_code code) answers.now }
+    ensures within { result ≤ length answers.now }
+{
+    first_from(answers, code).unwrap_or(answers.len())
+}
+
+fn first_from(answers: &[Kept], code: u16) -> Option<usize>
+    ensures value { result ≡ position (from_code code) answers.now }
+    ensures within { IfSome result (λ i. i < length answers.now) }
+{
+    answers.iter().position(|kept| kept.code() >= code)
+}
+
+fn stands_at(answers: &[Kept], place: usize, code: u16) -> bool
+    ensures stands { result ≡ true → (place < length answers.now) × ((d : Ask) → code_of (get_or answers.now place d) ≡ code) }
+    ensures apart { result ≡ false → place < length answers.now → (d : Ask) → code_of (get_or answers.now place d) ≢ code }
+{
+    place < answers.len() && answers[place].code() == code
+}
+
+fn set(answers: &mut ArrayVec<Kept, 4>, place: usize, kept: Kept)
+    requires { place < length answers.old.items }
+    ensures { answers.new.items ≡ slice_set answers.old.items place kept }
+{
+    answers[place] = kept;
+}
+
+fn as_acks(answers: &[Kept]) -> Acks
+    requires { are_acks answers.now ≡ true }
+    ensures { result ≡ answers.now }
+{
+    let mut acks = Acks::new();
+    for answer in answers {
+        acks.add(answer.ask);
+    }
+    acks
+}
+
+// The host's own streams, ascending: what is agreed is what the table has, and a request that is then due is put to it.
+pub(crate) fn serve_own(
+    table: &mut Table,
+    streams: &mut Streams,
+    node: NodeId,
+    boot: u8,
+    frame: u32,
+)
+    requires boot { IsBoot boot }
+    requires early { IsEarly frame table.old }
+    ensures table { table.new ≡ (served frame node boot table.old streams.old).table }
+    ensures streams { streams.new ≡ (served frame node boot table.old streams.old).streams }
+    ensures early { IsEarly frame table.new }
+{
+    for stream in 0..4_u8 {
+        serve_one(table, streams, Owner::new(node, stream), boot, frame);
+    }
+}
+
+// One stream of the host.
+#[tactic(auto, using(crate::proofs::Answering::request_early))]
+fn serve_one(table: &mut Table, streams: &mut Streams, owner: Owner, boot: u8, frame: u32)
+    requires boot { IsBoot boot }
+    requires early { IsEarly frame table.old }
+    ensures table { table.new ≡ (serve frame (node_of owner) boot (record { table = table.old; streams = streams.old }) (stream_of owner)).table }
+    ensures streams { streams.new ≡ (serve frame (node_of owner) boot (record { table = table.old; streams = streams.old }) (stream_of owner)).streams }
+    ensures early { IsEarly frame table.new }
+{
+    let stream = owner.stream();
+    streams.set_agreed(stream, table.interval(owner));
+    if let Some(interval) = streams.due_of(stream) {
+        let ask = Request {
+            slot: 1,
+            counter: 0,
+            node: owner.node(),
+            boot,
+            stream,
+            interval,
+        };
+        table.request(&ask, frame);
+    }
+}
+
+impl Member {
+    // The last slot of its round: a host plans its next round, and closes this one by the new plan.
+    pub(crate) fn plan_next(&mut self, frame: u32) -> Packet
+        requires host { hosts self.old.core.tune ≡ true }
+        requires frame { frame ≤ 16777215 }
+        requires early { IsEarly frame self.old.core.table }
+        ensures packet { Some result ≡ option_map (said_in (last_slot_of self.old.core.plan)) (host_closes self.old.setup frame self.old.core).message }
+        ensures said { IsSaid OfSchedule result }
+        ensures core { self.new ≡ record self.old { core = (host_closes self.old.setup frame self.old.core).core } }
+        ensures early { IsEarly frame self.new.core.table }
+    {
+        let slot = last_slot(&self.plan);
+        let rank = self.rank();
+        let acks = answer_kept(&mut self.table, self.kept.as_slice(), frame);
+        self.kept = ArrayVec::new();
+        serve_own(
+            &mut self.table,
+            &mut self.streams,
+            self.id,
+            self.boot,
+            frame,
+        );
+        let plan = plan_round(&mut self.table, &self.profile, frame);
+        self.tuner.planned(frame + u32::from(plan.gap));
+        self.plan = Schedule {
+            host: rank,
+            host_boot: self.boot,
+            gap: plan.gap,
+            contend: self.profile.contend(),
+            acks,
+            owners: plan.owners,
+        };
+        write(&self.plan, slot)
+    }
+}

@@ -1,0 +1,116 @@
+//! What a member says in the slots of its round.
+
+ghost use Rattle.std.specs.Prelude.{◌≡◌, ◌≤◌, IfSome};
+ghost use Rattle.std.specs.Option.{option_map};
+ghost use Rattle.lwb_packets.specs.declared.kind.Kind.TheVariants.{Schedule as OfSchedule, Payload as OfData, Request as OfRequest};
+ghost use Rattle.bus_rules.specs.Slots.{opened, data_opened, contention_opened};
+ghost use Rattle.bus_rules.specs.declared.part.Part.TheVariants.{Opening, Closing};
+ghost use Rattle.lwb_member.specs.Said.{said_in, IsSaid};
+ghost use Rattle.lwb_member.specs.Planning.{IsEarly};
+ghost use Rattle.lwb_member.specs.Places.{IsPlaced, kind_for};
+
+use crate::member::Member;
+use bus_rules::Part;
+use lwb_base::{Owner, Packet};
+use lwb_packets::{DataPacket, Request, encode_payload, encode_request};
+use schedule_codec::write;
+
+impl Member {
+    /// The slot of this part opens in its round, in this frame, which is at most 16,777,215. What it says in the slot, if it
+    /// says something: the packet with counter 0. A host plans its next round where it closes one.
+    pub fn speak(&mut self, part: &Part, slot: u8, frame: u32) -> Option<Packet>
+        requires placed { IsPlaced self.old.core.plan slot part.now }
+        requires frame { frame ≤ 16777215 }
+        requires early { IsEarly frame self.old.core.table }
+        ensures packet { result ≡ option_map (said_in slot) (opened self.old.setup frame part.now self.old.core).message }
+        ensures said { IfSome result (IsSaid (kind_for part.now)) }
+        ensures core { self.new ≡ record self.old { core = (opened self.old.setup frame part.now self.old.core).core } }
+        ensures early { IsEarly frame self.new.core.table }
+    {
+        match part {
+            Part::Opening => self.open_round(frame),
+            Part::Data(owner) => self.send_data(*owner, slot),
+            Part::Contention(own) => self.request(*own, slot),
+            Part::Closing => self.close_round(frame, slot),
+        }
+    }
+
+    // The last slot: a host plans, and closes its round.
+    fn close_round(&mut self, frame: u32, slot: u8) -> Option<Packet>
+        requires slot { IsPlaced self.old.core.plan slot Closing }
+        requires frame { frame ≤ 16777215 }
+        requires early { IsEarly frame self.old.core.table }
+        ensures packet { result ≡ option_map (said_in slot) (opened self.old.setup frame Closing self.old.core).message }
+        ensures said { IfSome result (IsSaid OfSchedule) }
+        ensures core { self.new ≡ record self.old { core = (opened self.old.setup frame Closing self.old.core).core } }
+        ensures early { IsEarly frame self.new.core.table }
+    {
+        if !self.hosts_now(frame) {
+            return None;
+        }
+        Some(self.plan_next(frame))
+    }
+
+    // Slot 0: a host opens its round.
+    #[tactic(auto, using(crate::proofs::Spoken::schedule_spoken))]
+    fn open_round(&mut self, frame: u32) -> Option<Packet>
+        ensures packet { result ≡ option_map (said_in 0) (opened self.old.setup frame Opening self.old.core).message }
+        ensures said { IfSome result (IsSaid OfSchedule) }
+        ensures core { self.new ≡ self.old }
+    {
+        if !self.hosts_now(frame) {
+            return None;
+        }
+        self.plan.gap = 0;
+        Some(write(&self.plan, 0))
+    }
+
+    // A data slot: of its own stream the node sends the packet that waits longest.
+    #[tactic(auto, using(crate::proofs::Spoken::data_spoken))]
+    fn send_data(&mut self, owner: Owner, slot: u8) -> Option<Packet>
+        requires { (1 ≤ slot) × (slot ≤ 40) }
+        ensures packet { result ≡ option_map (said_in slot) (data_opened self.old.setup.id owner self.old.core).message }
+        ensures said { IfSome result (IsSaid OfData) }
+        ensures core { self.new ≡ record self.old { core = (data_opened self.old.setup.id owner self.old.core).core } }
+    {
+        if owner.node() != self.id {
+            return None;
+        }
+        match self.streams.take(owner.stream()) {
+            Some(waiting) => Some(encode_payload(&DataPacket {
+                slot,
+                counter: 0,
+                node: self.id,
+                boot: self.boot,
+                stream: owner.stream(),
+                seq: waiting.seq,
+                payload: waiting.payload,
+            })),
+            None => None,
+        }
+    }
+
+    // A contention slot, counted from 1: a fresh node whose own it is may request.
+    #[tactic(auto, using(crate::proofs::Spoken::request_spoken))]
+    fn request(&mut self, own: u8, slot: u8) -> Option<Packet>
+        requires { (1 ≤ slot) × (slot ≤ 44) }
+        ensures packet { result ≡ option_map (said_in slot) (contention_opened self.old.setup.id own self.old.core).message }
+        ensures said { IfSome result (IsSaid OfRequest) }
+        ensures core { self.new ≡ record self.old { core = (contention_opened self.old.setup.id own self.old.core).core } }
+    {
+        if self.own_slot != Some(own) {
+            return None;
+        }
+        match self.streams.request_now(self.id) {
+            Some((stream, interval)) => Some(encode_request(&Request {
+                slot,
+                counter: 0,
+                node: self.id,
+                boot: self.boot,
+                stream,
+                interval,
+            })),
+            None => None,
+        }
+    }
+}
