@@ -14,10 +14,10 @@ Follows None x = ⊤
 Follows (Some y) None = ⊥
 Follows (Some y) (Some x) = IsNotAfter x y
 
-before_is_not_after : (x y : Order) → is_before x y ≡ true → IsNotAfter x y
+pub before_is_not_after : (x y : Order) → is_before x y ≡ true → IsNotAfter x y
 before_is_not_after x y is = grind (arith, nat_tests)
 
-not_before_is_not_after : (x y : Order) → is_before y x ≡ false → IsNotAfter x y
+pub not_before_is_not_after : (x y : Order) → is_before y x ≡ false → IsNotAfter x y
 not_before_is_not_after x y is = grind (arith, nat_tests)
 
 pub follows_itself : (o : Option Order) → Follows o o

@@ -1,5 +1,5 @@
 -- What a change of one order does to a map, and that a map has one least order.
-use Rattle.std.proofs.Common.{◌≡◌, ◌≢◌, ◌⊎◌, ℕ, ◌<◌, List, None, Some, length, replicate, refl, sym, ◌∙◌, ap, inl, inr, arith}
+use Rattle.std.proofs.Common.{◌≡◌, ◌≢◌, ◌⊎◌, ℕ, ◌<◌, Bool, true, false, if◌then◌else◌, List, None, Some, length, replicate, refl, sym, ◌∙◌, ap, inl, inr, arith}
 use Rattle.std.specs.declared.option.Option.{Option}
 use Rattle.std.specs.Option.{IfSome}
 use Rattle.std.proofs.Math.ListN.{length-replicate, length-set}
@@ -9,6 +9,8 @@ use Rattle.std.proofs.lemmas.Grind.{get_or-set_at}
 use Rattle.event_calendar.specs.declared.class.Class.{Class}
 use Rattle.event_calendar.specs.declared.class.Class.TheVariants.{SendingEnd, Alarm, SendingStart}
 use Rattle.event_calendar.specs.Orders.{Due, Order, Stands, IsNext, IsNotAfter, at, changed, due_at, nothing_due, rank, tick_of, with_tick}
+use Rattle.event_calendar.specs.Winners.{first, is_before}
+use Rattle.event_calendar.proofs.FirstOrders.{before_is_not_after, not_before_is_not_after}
 use Rattle.event_calendar.proofs.NextOrders.{nothing_past, ticks_of_nothing}
 
 pub new_tick : (class : Class) (tick : Option ℕ) (d : Due) → tick_of class (with_tick class tick d) ≡ tick
@@ -91,3 +93,16 @@ one_next map None None first second = refl
 one_next map None (Some y) first second = let none = first y.2 y.1 in let some = second.0 in absurd (cc)
 one_next map (Some x) None first second = let none = second x.2 x.1 in let some = first.0 in absurd (cc)
 one_next map (Some x) (Some y) first second = ap Some (same_order x y (first.1 y second.0) (second.1 x first.0))
+
+-- the first of two does not hang on which is named first
+pub first_turned : (a b : Option Order) → first a b ≡ first b a
+first_turned None None = refl
+first_turned None (Some y) = refl
+first_turned (Some x) None = refl
+first_turned (Some x) (Some y) = by_tests (is_before y x) (is_before x y) refl refl
+  where
+    by_tests : (s t : Bool) → is_before y x ≡ s → is_before x y ≡ t → ◌≡◌ {A = Option Order} (if s then Some y else Some x) (if t then Some x else Some y)
+    by_tests true true before after = ap Some (same_order y x (before_is_not_after y x before) (before_is_not_after x y after))
+    by_tests true false before after = refl
+    by_tests false true before after = refl
+    by_tests false false before after = ap Some (same_order x y (not_before_is_not_after x y before) (not_before_is_not_after y x after))

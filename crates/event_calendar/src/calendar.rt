@@ -33,12 +33,8 @@ impl Calendar {
         requires { (1 ≤ places) × (places ≤ 64) }
         ensures { IfOk result (λ c. c ≡ replicate places nothing_due) }
     {
-        let Ok(due) = vec![in alloc; Due::nothing(); usize::from(places)] else {
-            return Err(Memory);
-        };
-        let Ok(tree) = vec![in alloc; None; 128] else {
-            return Err(Memory);
-        };
+        let due = vec![in alloc; Due::nothing(); usize::from(places)]?;
+        let tree = vec![in alloc; None; 128]?;
         Ok(Calendar { due, tree })
     }
 
@@ -71,8 +67,9 @@ impl Calendar {
         ensures { self.new ≡ changed self.old place class tick }
     {
         let index = usize::from(place);
-        let due = self.due[index].with_tick(class, tick);
-        self.due[index] = due;
-        replay(&mut self.tree, 64 + index, due.first(place));
+        let due = &mut self.due[index];
+        due.set(class, tick);
+        let order = due.first(place);
+        replay(&mut self.tree, 64 + index, order);
     }
 }

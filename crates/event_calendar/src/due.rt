@@ -26,6 +26,7 @@ impl Model for Due {
 }
 
 impl Due {
+    /// No orders at all.
     pub fn nothing() -> Due
         ensures { result ≡ nothing_due }
     {
@@ -36,22 +37,20 @@ impl Due {
         }
     }
 
-    /// The same orders but for this class.
-    pub fn with_tick(self, class: Class, tick: Option<u64>) -> Due
-        ensures { result ≡ with_tick class tick self }
+    /// The class has that tick, or none, and the others stay.
+    pub fn set(&mut self, class: Class, tick: Option<u64>)
+        ensures { self.new ≡ with_tick class tick self.old }
     {
-        let mut due = self;
         match class {
-            Class::SendingEnd => due.sending_end = tick,
-            Class::Alarm => due.alarm = tick,
-            Class::SendingStart => due.sending_start = tick,
+            Class::SendingEnd => self.sending_end = tick,
+            Class::Alarm => self.alarm = tick,
+            Class::SendingStart => self.sending_start = tick,
         }
-        due
     }
 
     /// The first of these orders, as those of that place.
-    pub fn first(self, place: u8) -> Option<(u64, Class, u8)>
-        ensures { result ≡ first_due place self }
+    pub fn first(&self, place: u8) -> Option<(u64, Class, u8)>
+        ensures { result ≡ first_due place self.now }
     {
         let end = order(place, Class::SendingEnd, self.sending_end);
         let alarm = order(place, Class::Alarm, self.alarm);

@@ -21,3 +21,10 @@ pub fn changes_one_order()
 pub fn one_order_is_next()
     ensures { (map : List Due) (x y : Option Order) → IsNext map x → IsNext map y → x ≡ y }
 {}
+
+/// A map has None as its next order exactly where it is empty: nothing stands at any place and class.
+pub fn none_is_next_in_an_empty_map()
+    ensures empty { (map : List Due) → IsNext map None → (place : ℕ) (class : Class) → at map place class ≡ None }
+    ensures none { (map : List Due) (x : Option Order) → ((place : ℕ) (class : Class) → at map place class ≡ None)
+        → IsNext map x → x ≡ None }
+{}

@@ -1,4 +1,4 @@
-ghost use Rattle.std.specs.Prelude.{◌≡◌, ◌≢◌, ◌<◌, ◌≤◌, ℕ};
+ghost use Rattle.std.specs.Prelude.{◌≡◌, ◌≢◌, ◌<◌, ◌≤◌, ℕ, true};
 ghost use Rattle.event_calendar.specs.Winners as winners;
 ghost use Rattle.event_calendar.specs.Winners.{is_before, node, HasWinnersBut};
 
@@ -29,7 +29,8 @@ fn is_before(x: (u64, Class, u8), y: (u64, Class, u8)) -> bool
     place < other_place
 }
 
-/// Replaces a leaf, counted as a node from 64 to 127, and plays the matches from there to the root again.
+/// Replaces a leaf, counted as a node from 64 to 127, and plays the matches from there towards the root again. A match
+/// that ends as it did before leaves all above it as they are.
 pub fn replay(tree: &mut [Option<(u64, Class, u8)>], leaf: usize, order: Option<(u64, Class, u8)>)
     requires leaf { (64 ≤ leaf) × (leaf < 128) }
     requires winners { HasWinnersBut 0 tree.old }
@@ -37,10 +38,30 @@ pub fn replay(tree: &mut [Option<(u64, Class, u8)>], leaf: usize, order: Option<
     ensures leaf { node tree.new leaf ≡ order }
     ensures others { (i : ℕ) → 64 ≤ i → i ≢ leaf → node tree.new i ≡ node tree.old i }
 {
-    tree[leaf] = order;
-    let mut parent = leaf / 2;
-    while parent > 0 {
-        tree[parent] = first(tree[2 * parent], tree[2 * parent + 1]);
-        parent /= 2;
+    let mut at = leaf;
+    let mut winner = order;
+    while at > 1 {
+        if is_same(tree[at], winner) {
+            return;
+        }
+        tree[at] = winner;
+        let parent = at / 2;
+        // its children are 2 * parent and 2 * parent + 1
+        let opponent = 4 * parent + 1 - at;
+        winner = first(winner, tree[opponent]);
+        at = parent;
+    }
+    tree[1] = winner;
+}
+
+fn is_same(a: Option<(u64, Class, u8)>, b: Option<(u64, Class, u8)>) -> bool
+    ensures { result ≡ true → a ≡ b }
+{
+    match (a, b) {
+        (None, None) => true,
+        (Some((tick, class, place)), Some((other_tick, other_class, other_place))) => {
+            tick == other_tick && class == other_class && place == other_place
+        }
+        _ => false,
     }
 }
