@@ -1,6 +1,6 @@
 -- Whom the medium names hears, and who hears it names.
-use Rattle.std.proofs.Common.{◌≡◌, ℕ, ◌+◌, ◌*◌, ◌/◌, ◌<◌, ◌≤◌, ◌↔◌, ◌⊎◌, inl, inr, List, length, Bool, true, false, not, ◌&&◌, ◌==◌, if◌then◌else◌, Option, Some, None, refl, sym, ◌∙◌, ap, subst, arith, eq-eqb, Contains}
-use Rattle.std.proofs.lemmas.Bool.{and_parts, and_from, eqb-true, cases_Bool, both_ways, not-true, not_from_false, false_from_ne_true, false≢true, true≢false}
+use Rattle.std.proofs.Common.{◌≡◌, ℕ, ◌+◌, ◌*◌, ◌/◌, ◌<◌, ◌≤◌, ◌↔◌, ◌⊎◌, inl, inr, List, length, Bool, true, false, not, ◌&&◌, ◌||◌, ◌==◌, if◌then◌else◌, Option, Some, None, refl, sym, ◌∙◌, ap, subst, arith, eq-eqb, Contains}
+use Rattle.std.proofs.lemmas.Bool.{and_parts, and_from, or_cases, or_left, or_right, eqb-true, cases_Bool, both_ways, not-true, not_from_false, false_from_ne_true, false≢true, true≢false}
 use Rattle.std.proofs.Math.Nat.{mul-le-mul_right}
 use Rattle.std.specs.List.{list_any}
 use Rattle.lwb_base.specs.Profile.{Numbers, IsProfile}
@@ -8,17 +8,16 @@ use Rattle.link_trace.specs.Passes.{Lines, passes, captured}
 use Rattle.radio_model.specs.OnAir.{Sending}
 use Rattle.radio_model.specs.Hearing.{Scene, Hears, Rival as RivalIn, Arrives, Meets, Before, slot_of, counter_of}
 use Rattle.radio_model.specs.Stations.{MediumState, IsMedium, node_of, nodes_of, on_air, overlaps, covers}
-use Rattle.radio_model.specs.Meetings.{key_of, rivals_to, reaches, spoils, differs, comes_from, crowd_of, is_chosen, is_clear, is_heard, heard_by, hearers_to, passes_at}
+use Rattle.radio_model.specs.Meetings.{key_of, rivals_to, reaches, spoils, differs, comes_from, is_chosen, is_heard, heard_by, hearers_to, passes_at}
 use Rattle.radio_model.specs.Holding.{Holds, IsKept, IsOwn, as_it_stands, longest}
 use Rattle.radio_model.specs.declared.rivals.Key.{Key}
 use Rattle.radio_model.specs.declared.rivals.Rival.{Rival}
-use Rattle.radio_model.specs.declared.rivals.Crowd.TheVariants.{Alone, Mixed, Spoiled}
 use Rattle.radio_model.specs.declared.station.Station.{Station}
 use Rattle.radio_model.proofs.Members.{in_map, from_map, in_filter, from_filter, any_of, some_of}
 use Rattle.radio_model.proofs.Places.{one_station}
 use Rattle.radio_model.proofs.RivalFacts.{meets_true, meets_from, same_true, same_from, before_true, before_from, rival, in_rivals, from_rivals, Comes}
 
-byte_is : (p : Numbers) → IsProfile p → p.byte ≡ 2048
+pub byte_is : (p : Numbers) → IsProfile p → p.byte ≡ 2048
 byte_is p (inl is) = ap (λ (q : Numbers). q.byte) is
 byte_is p (inr is) = ap (λ (q : Numbers). q.byte) is.0
 
@@ -38,19 +37,6 @@ lasts_some p v y profile own =
 
 none_any : {X : Type 0} (test : X → Bool) (xs : List X) (x : X) → list_any test xs ≡ false → Contains xs x → test x ≡ false
 none_any test xs x none there = false_from_ne_true (test x) (λ is. both_ways (list_any test xs) none (any_of test xs x there is))
-
-clear_parts : (lines : Lines) (v : ℕ) (k : Key) (rs : List Rival) (s d : Bool) → is_clear lines v k rs (if s then Spoiled else (if d then Mixed else Alone)) ≡ true
-    → (s ≡ false) × ((d ≡ false) ⊎ (is_chosen lines v rs (captured lines k.frame k.slot k.counter v) ≡ true))
-clear_parts lines v k rs true d is = absurd (false≢true is)
-clear_parts lines v k rs false true is = (refl, inr is)
-clear_parts lines v k rs false false is = (refl, inl refl)
-
-clear_from : (lines : Lines) (v : ℕ) (k : Key) (rs : List Rival) (s d : Bool) → s ≡ false → (d ≡ false) ⊎ (is_chosen lines v rs (captured lines k.frame k.slot k.counter v) ≡ true)
-    → is_clear lines v k rs (if s then Spoiled else (if d then Mixed else Alone)) ≡ true
-clear_from lines v k rs true d is either = absurd (true≢false is)
-clear_from lines v k rs false true is (inl no_other) = absurd (true≢false no_other)
-clear_from lines v k rs false true is (inr chosen) = chosen
-clear_from lines v k rs false false is either = refl
 
 chosen_parts : (lines : Lines) (v : ℕ) (rs : List Rival) (o : Option ℕ) → is_chosen lines v rs o ≡ true → (w : ℕ) × (o ≡ Some w) × (list_any (comes_from lines v w) rs ≡ true)
 chosen_parts lines v rs None is = absurd (false≢true is)
@@ -139,20 +125,45 @@ module _ (m : MediumState) (is : IsMedium m) (a : Scene) (h : Holds m a) (u : �
       clean : list_any (spoils a.lines v) rs ≡ false
       chosen : (list_any (differs a.lines v) rs ≡ false) ⊎ (is_chosen a.lines v rs (captured a.lines key.frame key.slot key.counter v) ≡ true)
 
+    abbrev reached : Bool
+    reached = passes_at a.lines key u v
+
+    abbrev spoiled : Bool
+    spoiled = list_any (spoils a.lines v) rs
+
+    abbrev mixed : Bool
+    mixed = list_any (differs a.lines v) rs
+
+    abbrev is_tuned : Bool
+    is_tuned = covers st x.rank x.start x.end
+
+    abbrev sends : Bool
+    sends = list_any (overlaps x) (on_air st)
+
+    abbrev named : Bool
+    named = is_chosen a.lines v rs (captured a.lines key.frame key.slot key.counter v)
+
     parts : heard ≡ true → Parts
     parts so =
-        let three = and_parts (covers st x.rank x.start x.end && not (list_any (overlaps x) (on_air st)) && passes_at a.lines key u v) (is_clear a.lines v key rs (crowd_of a.lines v rs)) so in
-        let two = and_parts (covers st x.rank x.start x.end && not (list_any (overlaps x) (on_air st))) (passes_at a.lines key u v) three.0 in
-        let first = and_parts (covers st x.rank x.start x.end) (not (list_any (overlaps x) (on_air st))) two.0 in
-        let clear = clear_parts a.lines v key rs (list_any (spoils a.lines v) rs) (list_any (differs a.lines v) rs) three.1 in
-        record { tuned = first.0; quiet = not-true (list_any (overlaps x) (on_air st)) first.1; arrives = two.1; clean = clear.0; chosen = clear.1 }
+        let four = and_parts (reached && not spoiled && is_tuned && not sends) (not mixed || named) so in
+        let three = and_parts (reached && not spoiled && is_tuned) (not sends) four.0 in
+        let two = and_parts (reached && not spoiled) is_tuned three.0 in
+        let one = and_parts reached (not spoiled) two.0 in
+        record {
+          tuned = two.1;
+          quiet = not-true sends three.1;
+          arrives = one.0;
+          clean = not-true spoiled one.1;
+          chosen = elim (or_cases (not mixed) named four.1) [ inl none ↦ inl (not-true mixed none) | inr so ↦ inr so ];
+        }
 
     whole : Parts → heard ≡ true
     whole q =
-        and_from (covers st x.rank x.start x.end && not (list_any (overlaps x) (on_air st)) && passes_at a.lines key u v) (is_clear a.lines v key rs (crowd_of a.lines v rs))
-        (and_from (covers st x.rank x.start x.end && not (list_any (overlaps x) (on_air st))) (passes_at a.lines key u v)
-        (and_from (covers st x.rank x.start x.end) (not (list_any (overlaps x) (on_air st))) q.tuned (not_from_false (list_any (overlaps x) (on_air st)) q.quiet)) q.arrives)
-        (clear_from a.lines v key rs (list_any (spoils a.lines v) rs) (list_any (differs a.lines v) rs) q.clean q.chosen)
+        and_from (reached && not spoiled && is_tuned && not sends) (not mixed || named)
+        (and_from (reached && not spoiled && is_tuned) (not sends)
+        (and_from (reached && not spoiled) is_tuned (and_from reached (not spoiled) q.arrives (not_from_false spoiled q.clean)) q.tuned)
+        (not_from_false sends q.quiet))
+        (elim q.chosen [ inl none ↦ or_left (not mixed) named (not_from_false mixed none) | inr so ↦ or_right (not mixed) named so ])
 
     early : x.start < x.end
     early = lasts_some p su.node x is.profile own_x

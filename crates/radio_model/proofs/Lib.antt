@@ -3,6 +3,8 @@ pub mod OneStation
 pub mod Places
 pub mod Changes
 pub mod PlacedRivals
+pub mod EndedSendings
+pub mod Reaching
 pub mod Ending
 pub mod Agreement
 pub mod Settled
@@ -22,3 +24,4 @@ pub mod AtFirst
 pub mod SameHistory
 pub mod Named
 pub mod WorkedHearings
+pub mod ChangedStations

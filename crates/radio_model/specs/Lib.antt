@@ -1,6 +1,7 @@
 pub mod OnAir
 pub mod Hearing
 pub mod Stations
+pub mod Ages
 pub mod Pairs
 pub mod Meetings
 pub mod Holding

@@ -4,15 +4,12 @@ use Rattle.std.specs.List.{list_any, flat_map}
 use Rattle.std.specs.Str.{bytes_eq}
 use Rattle.lwb_base.specs.Profile.{Numbers}
 use Rattle.link_trace.specs.Passes.{Lines, passes}
-use Rattle.link_trace.specs.Masks.{IsMask}
 use Rattle.link_trace.specs.Passes.{captured}
 use Rattle.radio_model.specs.Stations.{on_air, overlaps, covers}
 use Rattle.radio_model.specs.declared.sending.Sending.{Sending}
 use Rattle.radio_model.specs.declared.station.Station.{Station}
 use Rattle.radio_model.specs.declared.rivals.Key.{Key}
 use Rattle.radio_model.specs.declared.rivals.Rival.{Rival}
-use Rattle.radio_model.specs.declared.rivals.Crowd.{Crowd}
-use Rattle.radio_model.specs.declared.rivals.Crowd.TheVariants.{Alone, Mixed, Spoiled}
 
 abbrev pub key_of : Numbers → Sending → Key
 key_of p y = record { frame = y.start / p.frame; slot = slice_index y.packet 1; counter = slice_index y.packet 2 }
@@ -53,23 +50,21 @@ differs lines v r = reaches lines v r && not r.same
 abbrev pub comes_from : Lines → ℕ → ℕ → Rival → Bool
 comes_from lines v u r = reaches lines v r && r.same && (r.node == u)
 
-abbrev pub crowd_of : Lines → ℕ → List Rival → Crowd
-crowd_of lines v rs = if list_any (spoils lines v) rs then Spoiled else (if list_any (differs lines v) rs then Mixed else Alone)
-
 abbrev pub is_chosen : Lines → ℕ → List Rival → Option ℕ → Bool
 is_chosen lines v rs None = false
 is_chosen lines v rs (Some u) = list_any (comes_from lines v u) rs
 
-abbrev pub is_clear : Lines → ℕ → Key → List Rival → Crowd → Bool
-is_clear lines v k rs Alone = true
-is_clear lines v k rs Mixed = is_chosen lines v rs (captured lines k.frame k.slot k.counter v)
-is_clear lines v k rs Spoiled = false
+-- whether the node of this station hears x, which has this key and ends now: by whether x reaches it, whether the same
+-- packet spoils it, and whether another packet comes to it
+abbrev pub hears_by : Bool → Bool → Bool → Lines → Sending → Key → List Rival → Station → Bool
+hears_by reached spoiled mixed lines x k rs st =
+    reached && not spoiled && covers st x.rank x.start x.end && not (list_any (overlaps x) (on_air st))
+    && (not mixed || is_chosen lines st.node rs (captured lines k.frame k.slot k.counter st.node))
 
 -- the node of this station hears x, which has this key and ends now, from node u
 abbrev pub is_heard : Lines → ℕ → Sending → Key → List Rival → Station → Bool
 is_heard lines u x k rs st =
-    covers st x.rank x.start x.end && not (list_any (overlaps x) (on_air st)) && passes_at lines k u st.node
-    && is_clear lines st.node k rs (crowd_of lines st.node rs)
+    hears_by (passes_at lines k u st.node) (list_any (spoils lines st.node) rs) (list_any (differs lines st.node) rs) lines x k rs st
 
 abbrev pub heard_by : Lines → ℕ → Sending → Key → List Rival → Station → Option (ℕ × ℕ)
 heard_by lines u x k rs st = if is_heard lines u x k rs st then Some (st.node, u) else None
@@ -82,7 +77,3 @@ hearers_to p lines u x sts = filter_map (heard_by lines u x (key_of p x) (rivals
 pub record IsPlaced (nodes : List ℕ) (place node : ℕ) : Type 0 where
   pub below : place < length nodes
   pub there : slice_index nodes place ≡ node
-
--- the mask of the nodes from which a link to v passes at the key
-abbrev pub IsMaskOf : Lines → List ℕ → Key → ℕ → ℕ → Type 0
-IsMaskOf lines nodes k v mask = IsMask (λ u. passes_at lines k u v) nodes mask

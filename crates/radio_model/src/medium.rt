@@ -6,6 +6,7 @@ ghost use Rattle.link_trace.specs.Passes.{Lines};
 ghost use Rattle.radio_model.specs.Hearing.{Scene, Hears};
 ghost use Rattle.radio_model.specs.Holding.{Holds, nothing_yet, after_tuning, after_starting, as_it_stands};
 ghost use Rattle.radio_model.specs.Stations.{MediumState, node_of, nodes_of, station_of, can_send, sending_of, retuned, started, finished, after, first_state, stations_from, IsTime, IsMedium, Ends};
+ghost use Rattle.radio_model.specs.Ages.{IsAged};
 ghost use Rattle.radio_model.specs.Meetings.{hearers_to, IsPlaced};
 ghost use Rattle.radio_model.specs.declared.sending.Sending.{Sending};
 ghost use Rattle.radio_model.specs.declared.station.Station.{Station};
@@ -33,14 +34,16 @@ pub struct Medium {
 }
 
 impl Model for Medium {
-    ghost use Rattle.std.specs.Prelude.{◌≤◌, vec_capacity};
+    ghost use Rattle.std.specs.Prelude.{◌≤◌, vec_capacity, All};
     ghost use Rattle.radio_model.specs.Stations.{MediumState, IsMedium};
+    ghost use Rattle.radio_model.specs.Ages.{IsAged};
 
     ghost Value = { MediumState };
 
     ghost view = { λ m. record { numbers = m.profile; now = m.time; stations = m.stations.items } };
 
-    ghost invariant = { λ m. IsMedium (record { numbers = m.profile; now = m.time; stations = m.stations.items }) × (896 ≤ vec_capacity m.rivals) };
+    ghost invariant = { λ m. IsMedium (record { numbers = m.profile; now = m.time; stations = m.stations.items }) × (896 ≤ vec_capacity m.rivals)
+        × All (λ st. IsAged m.time st.ended.items) m.stations.items };
 }
 
 impl Medium {
@@ -53,9 +56,7 @@ impl Medium {
     {
         let _made = profile.contend();
         let stations = new_stations(alloc, nodes)?;
-        let Ok(rivals) = Vec::with_capacity(alloc, MOST_RIVALS) else {
-            return Err(Memory);
-        };
+        let rivals = Vec::with_capacity(alloc, MOST_RIVALS)?;
         Ok(Medium {
             profile: *profile,
             time: 0,
@@ -87,10 +88,10 @@ impl Medium {
         ensures holds { (a : Scene) → Holds self.old a
             → Holds self.new (after_starting self.old node t packet.now a) }
     {
-        let _length = packet.length();
         let place = place_of(&self.stations, node);
+        let end = t + self.profile.airtime(packet.length());
         let station = &mut self.stations[place];
-        let starts = station.start(&self.profile, t, packet);
+        let starts = station.start(t, end, packet);
         self.time = t;
         starts
     }
@@ -122,6 +123,7 @@ impl Medium {
     fn hearers<M: Links>(&mut self, links: &M, node: NodeId, t: u64) -> Hearers
         requires node { Contains (nodes_of self.old) node }
         requires small { t ≤ 2 ^ 46 }
+        requires later { self.old.now ≤ t }
         requires sends { Ends self.old node t }
         requires seal { M.nodes links.now ≡ nodes_of self.old }
         ensures list { IfSome (sending_of (station_of self.old node)) (λ x. result
@@ -149,7 +151,8 @@ fn listeners_at<M: Links>(
     place: usize,
 ) -> Hearers
     requires place { place < length stations.now }
-    requires sends { (d : Station) → IsSomeAnd (slice_index_or stations.now place d).sending (λ x. (x.start ≤ 2 ^ 46) × (x.end ≤ 2 ^ 46)) }
+    requires sends { (d : Station) → IsSomeAnd (slice_index_or stations.now place d).sending (λ x. (x.start ≤ 2 ^ 46) × (x.end ≤ 2 ^ 46)
+        × All (λ st. IsAged x.end st.ended.items) stations.now) }
     requires few { length stations.now ≤ 64 }
     requires kept { All (λ st. st.ended.capacity ≡ 13) stations.now }
     requires seal { M.nodes links.now ≡ map node_of stations.now }
@@ -175,9 +178,7 @@ fn new_stations(alloc: Global, nodes: &[NodeId]) -> Result<Vec<Station>, Memory>
     let mut stations = Vec::new(alloc);
     for (i, node) in nodes.iter().enumerate() {
         let station = Station::new(alloc, *node, i as u8)?;
-        if stations.push(station).is_err() {
-            return Err(Memory);
-        }
+        stations.push(station)?;
     }
     Ok(stations)
 }

@@ -3,10 +3,11 @@ ghost use Rattle.std.specs.List.{list_any};
 ghost use Rattle.circular_buffer.specs.Buffer.{buffer};
 ghost use Rattle.lwb_base.specs.Profile.{airtime, Numbers};
 ghost use Rattle.radio_model.specs.Stations.{tuned_in, tuned_out, retuned, is_tuned_to, started, finished, on_air, covers, overlaps};
+ghost use Rattle.radio_model.specs.Ages.{IsAged};
 
 use crate::sending::Sending;
 use circular_buffer::HeapCircularBuffer;
-use lwb_base::{Memory, NodeId, Packet, Profile, Rank};
+use lwb_base::{Memory, NodeId, Packet, Rank};
 use std::alloc::Global;
 
 /// So many ended sendings of one node are kept. The longest packet is on the air for less than 13 of the shortest, so
@@ -45,9 +46,7 @@ impl Station {
     pub(crate) fn new(alloc: Global, node: NodeId, place: u8) -> Result<Station, Memory>
         ensures { IfOk result (λ st. st ≡ record { node = node; place = place; tuned = None; last = None; sending = None; ended = buffer [] 13 }) }
     {
-        let Ok(ended) = HeapCircularBuffer::with_capacity(alloc, KEPT) else {
-            return Err(Memory);
-        };
+        let ended = HeapCircularBuffer::with_capacity(alloc, KEPT)?;
         Ok(Station {
             node,
             place,
@@ -111,12 +110,11 @@ impl Station {
         self.tuned = Some(Tuned { rank, since });
     }
 
-    /// It begins to send, until `end`. False comes exactly where it is not tuned or already sends, and then nothing
+    /// It begins to send at t, until `end`. False comes exactly where it is not tuned or already sends, and then nothing
     /// changes.
-    pub(crate) fn start(&mut self, profile: &Profile, t: u64, packet: &Packet) -> bool
-        requires { t ≤ 2 ^ 46 }
+    pub(crate) fn start(&mut self, t: u64, end: u64, packet: &Packet) -> bool
         ensures value { result ≡ (is_some self.old.tuned && is_none self.old.sending) }
-        ensures state { self.new ≡ started profile.now t packet.now self.old }
+        ensures state { (p : Numbers) → end ≡ t + airtime p (length packet.now) → self.new ≡ started p t packet.now self.old }
     {
         let Some(tuned) = self.tuned else {
             return false;
@@ -124,15 +122,12 @@ impl Station {
         if self.sending.is_some() {
             return false;
         }
-        let _made = profile.contend();
-        let end = t + profile.airtime(packet.length());
-        let packet = Packet::new(packet.bytes()).unwrap();
         self.sending = Some(Sending {
             rank: tuned.rank,
             node: self.node,
             start: t,
             end,
-            packet,
+            packet: packet.copy(),
         });
         true
     }
@@ -142,7 +137,7 @@ impl Station {
         ensures { self.new ≡ finished self.old }
     {
         if let Some(x) = self.sending.take() {
-            let _forgotten = self.ended.push_back(x);
+            self.ended.push_back(x);
         }
     }
 
@@ -161,14 +156,20 @@ impl Station {
         goes_on || went_until_now
     }
 
+    // All that ended is over by the end of x, and the newest ended last, so this one tells.
     fn sent_over(&self, x: &Sending) -> bool
+        requires { IsAged x.now.end self.now.ended.items }
         ensures { result ≡ list_any (overlaps x.now) self.now.ended.items }
     {
-        self.ended.iter().any(|y| overlap(x, y))
+        match self.ended.back() {
+            Some(y) => x.start < y.end,
+            None => false,
+        }
     }
 
     /// Whether no sending of its own overlaps x.
     pub(crate) fn is_quiet(&self, x: &Sending) -> bool
+        requires { IsAged x.now.end self.now.ended.items }
         ensures { result ≡ not (list_any (overlaps x.now) (on_air self.now)) }
     {
         let sends = match &self.sending {

@@ -1,7 +1,23 @@
-use Rattle.std.proofs.Common.{◌∙◌, ◌++◌, ap, arith, option_to_list, filter_map, sym}
+use Rattle.std.proofs.Common.{◌∙◌, ◌++◌, ap, arith, option_to_list, filter_map, take, append-nil, sym}
 use Rattle.radio_model.specs.Meetings.{rival_to}
+use Rattle.radio_model.proofs.EndedSendings.{no_rivals}
 use Rattle.radio_model.proofs.RivalLists.{adds_kept, kept_all}
 use Rattle.radio_model.proofs.rivals.add_rivals.Goals as goal
+
+pub loop-i-init : goal.loop-i-init
+loop-i-init c =
+    let ys = c.args.station.now.ended.items in
+    let room = c.requires.kept in
+    let most = c.len-i-end.ensures.within in
+    let long = c.len-i-end.ensures.len in
+    record {
+      items = sym (append-nil c.args.rivals.now.items)
+          ∙ ap (λ (l : _). c.args.rivals.now.items ++ l) (sym (no_rivals c.args.profile.now c.args.x.now c.args.station.now (take c.first_after-i.result ys) c.first_after-i.ensures.before));
+      few = omega arith;
+      capacity = omega arith;
+      within = long;
+      room = omega arith;
+    }
 
 pub loop-i-preserved : goal.loop-i-preserved
 loop-i-preserved c =

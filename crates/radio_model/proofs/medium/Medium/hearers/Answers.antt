@@ -1,5 +1,6 @@
-use Rattle.std.proofs.Common.{List, ◌≡◌, ap, subst, sym, arith, length, get_or, IfSome, IsSomeAnd, ◌≤◌, ◌<◌, ◌^◌}
+use Rattle.std.proofs.Common.{List, ◌≡◌, ap, subst, sym, arith, length, get_or, IfSome, IsSomeAnd, All, ◌≤◌, ◌<◌, ◌^◌}
 use Rattle.radio_model.specs.Stations.{MediumState, fresh, station_of, sending_of, Ends}
+use Rattle.radio_model.specs.Ages.{IsAged}
 use Rattle.radio_model.specs.Meetings.{hearers_to}
 use Rattle.radio_model.specs.declared.station.Station.{Station}
 use Rattle.radio_model.proofs.Places.{placed, same_at}
@@ -14,8 +15,9 @@ listeners_at-requires-clause-sends g c =
     let at = placed m.stations c.deref.result.now i c.args.node (get_or m.stations i d) c.deref.ensures.value c.place_of-place.ensures.below c.place_of-place.ensures.there
     (same_at m.stations i d (get_or m.stations i d) (omega (arith, ap length c.deref.ensures.value, c.place_of-place.ensures.below))) in
     let ends : Ends m c.args.node c.args.t = subst (λ (s : MediumState). Ends s c.args.node c.args.t) (sym c.self.view_is) c.requires.sends in
-    subst (λ (l : List Station). IsSomeAnd (get_or l i d).sending (λ x. (x.start ≤ 2 ^ 46) × (x.end ≤ 2 ^ 46))) (sym c.deref-2.ensures.value)
-    (runs_there m c.self.invariant.0.nodes.ascending c.args.node i d at.0 at.1 c.args.t c.requires.small ends)
+    let later : m.now ≤ c.args.t = subst (λ (s : MediumState). s.now ≤ c.args.t) (sym c.self.view_is) c.requires.later in
+    subst (λ (l : List Station). IsSomeAnd (get_or l i d).sending (λ x. (x.start ≤ 2 ^ 46) × (x.end ≤ 2 ^ 46) × All (λ (st : Station). IsAged x.end st.ended.items) l)) (sym c.deref-2.ensures.value)
+    (runs_there m c.self.invariant.0.nodes.ascending c.args.node i d at.0 at.1 c.args.t c.requires.small later c.self.invariant.2 ends)
 
 pub returns-clause-list : goal.returns-clause-list
 returns-clause-list g c =
