@@ -1,6 +1,6 @@
 -- How often each node boots along a script.
-use Rattle.std.proofs.Common.{◌≡◌, ℕ, ◌+◌, ◌<◌, ◌≤◌, List, [], ◌∷◌, Bool, true, false, if◌then◌else◌, ◌==◌, nat_lt, length, set, get_or, refl, sym, ◌∙◌, ap, arith, inl, inr}
-use Rattle.std.proofs.lemmas.Bool.{cond_both, cases_lt, or_cases, eqb-true, eqb-false, ltb-true, both_ways}
+use Rattle.std.proofs.Common.{◌≡◌, ℕ, ◌+◌, ◌<◌, ◌≤◌, List, [], ◌∷◌, Bool, true, false, if◌then◌else◌, ◌==◌, nat_lt, length, set, get_or, refl, sym, ◌∙◌, ap, subst, arith, inl, inr}
+use Rattle.std.proofs.lemmas.Bool.{cond_both, cond-true, cases_lt, or_cases, or_left, or_right, eq-eqb, eqb-true, eqb-false, lt-ltb, ltb-true, both_ways}
 use Rattle.std.proofs.lemmas.List.{get_or-set_same, get_or-set_other, length-set, get_or-replicate, get_or_past}
 use Rattle.std.specs.Prelude.{replicate}
 use Rattle.std.specs.List.{AllByRecursion, slice_index, slice_index_or}
@@ -99,3 +99,48 @@ none_first v = record { on = either_way (replicate 201 false) false v (λ i. get
 -- no node boots more than 200 times
 pub few_boots : (v : ℕ) (ls : List ScriptLine) → AllByRecursion (λ l. l.node ≤ 200) ls → Boots no_power ls → (turned v (false, 0) ls).1 ≤ 200
 few_boots v ls small boots = few_along no_power v (false, 0) ls (record { on = refl; boots = refl }) (none_first v) (omega arith) small boots
+
+-- and where none does, each line of the script may boot its node
+more_turned : (a : Act) (s : Bool × ℕ) → s.1 ≤ (turned_by a s).1
+more_turned On s = cond_both s.0 s.1 (s.1 + 1) (λ (n : ℕ). s.1 ≤ n) (λ is. omega arith) (λ not. omega arith)
+more_turned Off s = omega arith
+more_turned (Declare x y) s = omega arith
+more_turned (Leave x) s = omega arith
+more_turned (Put x b) s = omega arith
+
+never_less : (v : ℕ) (s : Bool × ℕ) (ls : List ScriptLine) → s.1 ≤ (turned v s ls).1
+never_less v s [] = omega arith
+never_less v s (l ∷ ls) =
+    let here : s.1 ≤ (if l.node == v then turned_by l.act s else s).1 =
+    cond_both (l.node == v) (turned_by l.act s) s (λ (t : Bool × ℕ). s.1 ≤ t.1) (λ is. more_turned l.act s) (λ not. omega arith) in
+    omega (arith, here, never_less v (if l.node == v then turned_by l.act s else s) ls)
+
+may_boot : (w : Power) (i : ℕ) (a : Act) (s : Bool × ℕ) → Tells w i s → (turned_by a s).1 ≤ 200 → can_boot w i a ≡ true
+may_boot w i On s tells few = by_power s.0 refl
+  where
+    by_power : (b : Bool) → s.0 ≡ b → can_boot w i On ≡ true
+    by_power true on = or_left (slice_index_or w.on i false) (nat_lt (slice_index w.boots i) 200) (tells.on ∙ on)
+    by_power false off =
+        let below : (if s.0 then s.1 else s.1 + 1) ≡ s.1 + 1 = ap (λ (b : Bool). if b then s.1 else s.1 + 1) off in
+        let boots = tells.boots in
+        or_right (slice_index_or w.on i false) (nat_lt (slice_index w.boots i) 200) (lt-ltb (slice_index w.boots i) 200 (omega (arith, below, boots, few)))
+may_boot w i Off s tells few = refl
+may_boot w i (Declare x y) s tells few = refl
+may_boot w i (Leave x) s tells few = refl
+may_boot w i (Put x b) s tells few = refl
+
+boots_along : (w : Power) (s : ℕ → Bool × ℕ) (ls : List ScriptLine) → IsLong w → ((v : ℕ) → Tells w v (s v)) → AllByRecursion (λ l. l.node ≤ 200) ls
+    → ((v : ℕ) → (turned v (s v) ls).1 ≤ 200) → Boots w ls
+boots_along w s [] long tells small few = tt
+boots_along w s (l ∷ ls) long tells small few =
+    let i : ℕ = l.node in
+    let here : (if i == i then turned_by l.act (s i) else s i) ≡ turned_by l.act (s i) = cond-true (i == i) (turned_by l.act (s i)) (s i) (eq-eqb i i refl) in
+    let all : (turned_by l.act (s i)).1 ≤ (turned i (turned_by l.act (s i)) ls).1 = never_less i (turned_by l.act (s i)) ls in
+    let whole : (turned i (turned_by l.act (s i)) ls).1 ≤ 200 = subst (λ (t : Bool × ℕ). (turned i t ls).1 ≤ 200) here (few i) in (
+      may_boot w i l.act (s i) (tells i) (omega (arith, all, whole)),
+      boots_along (after_act w i l.act) (λ v. if i == v then turned_by l.act (s v) else s v) ls (long_after w i l.act long)
+          (λ v. tells_after w v i l.act (s v) long small.0 (tells v)) small.1 few,
+    )
+
+pub boots_from : (ls : List ScriptLine) → AllByRecursion (λ l. l.node ≤ 200) ls → ((v : ℕ) → (turned v (false, 0) ls).1 ≤ 200) → Boots no_power ls
+boots_from ls small few = boots_along no_power (λ v. (false, 0)) ls (record { on = refl; boots = refl }) none_first small few

@@ -1,5 +1,5 @@
 -- The canonical text says what it was made of.
-use Rattle.std.proofs.Common.{◌≡◌, ℕ, zero, suc, ◌+◌, ◌*◌, ◌≤◌, List, [], ◌∷◌, ◌++◌, Bool, true, false, ◌==◌, nat_le, Option, Some, None, Ok, map, length, codes, refl, sym, ◌∙◌, ap, subst, arith, inl, inr}
+use Rattle.std.proofs.Common.{◌≡◌, ℕ, zero, suc, ◌+◌, ◌*◌, ◌≤◌, List, [], ◌∷◌, ◌++◌, Bool, true, false, ◌==◌, nat_le, Option, Some, None, Ok, map, length, codes, refl, sym, ◌∙◌, ap, subst, arith, inl, inr, Err, Result}
 use Rattle.std.proofs.lemmas.Bool.{cond-true, cond-false, and_from, le-leb, ne_eqb}
 use Rattle.lwb_base.specs.Profile.{Numbers, IsProfile, one, contended}
 use Rattle.link_trace.specs.Passes.{Lines}
@@ -14,7 +14,6 @@ use Rattle.scenario_text.proofs.LinesSaid.{says_profile, says_contend, says_fram
 use Rattle.scenario_text.proofs.LineRuns.{Step, step, goes_words, goes_after, Goes, goes_append}
 use Rattle.scenario_text.proofs.CanonicalFacts.{Power, no_power, power_after, mid, KeepsRules}
 use Rattle.std.specs.Str.Lines.{lines}
-use Rattle.std.proofs.Common.{Err, Result}
 use Rattle.scenario_text.specs.Network.{Parts, network_parts, rates_by_node}
 use Rattle.scenario_text.specs.Faults.{after_lines, in_line, ◌>>=◌}
 use Rattle.scenario_text.specs.declared.fault.FaultKind.{FaultKind}

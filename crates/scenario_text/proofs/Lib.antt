@@ -24,4 +24,8 @@ pub mod DraftKept
 pub mod RatesInTurn
 pub mod SaidParts
 pub mod BootsCounted
+pub mod EachPair
 pub mod SoundScenarios
+pub mod RatesInOrder
+pub mod OrderedParts
+pub mod OrderedExample

@@ -28,7 +28,7 @@ pub in_turn_again : (ns : List NodeLine) (rs : List RateLine) → Rises ns → r
 in_turn_again ns rs rises = same_again ns ns rs rises (all_known ns)
 
 -- they are no more
-unknown_rate : (ns : List NodeLine) (r : RateLine) (rs : List RateLine) → knows ns r.node ≡ false → rates_by_node ns (r ∷ rs) ≡ rates_by_node ns rs
+pub unknown_rate : (ns : List NodeLine) (r : RateLine) (rs : List RateLine) → knows ns r.node ≡ false → rates_by_node ns (r ∷ rs) ≡ rates_by_node ns rs
 unknown_rate [] r rs unknown = refl
 unknown_rate (n ∷ ns) r rs unknown =
     let p = or_parts (n.node == r.node) (knows ns r.node) unknown in
@@ -49,7 +49,7 @@ one_more (n ∷ ns) r rs rises =
     omega (arith, before, after, rest))
     (λ other. let after = length-append fs (rates_by_node ns (r ∷ rs)) in omega (arith, before, after, one_more ns r rs rises.1))
 
-none_left : (ns : List NodeLine) → rates_by_node ns [] ≡ []
+pub none_left : (ns : List NodeLine) → rates_by_node ns [] ≡ []
 none_left [] = refl
 none_left (n ∷ ns) = none_left ns
 
@@ -58,21 +58,21 @@ no_more ns [] rises = let none : length (rates_by_node ns []) ≡ 0 = ap length 
 no_more ns (r ∷ rs) rises = omega (arith, one_more ns r rs rises, no_more ns rs rises)
 
 -- and those of one node still begin one after another
-climbs_filter : {A : Type 0} (R : A → A → Type 0) (p : A → Bool) (xs : List A) → Climbs R xs → Climbs R (filter p xs)
+pub climbs_filter : {A : Type 0} (R : A → A → Type 0) (p : A → Bool) (xs : List A) → Climbs R xs → Climbs R (filter p xs)
 climbs_filter R p [] climbs = tt
 climbs_filter R p (x ∷ xs) climbs =
     cond_both (p x) (x ∷ filter p xs) (filter p xs) (Climbs R) (λ is. (all_filter (R x) p xs climbs.0, climbs_filter R p xs climbs.1)) (λ not. climbs_filter R p xs climbs.1)
 
-climbs_append : {A : Type 0} (R : A → A → Type 0) (xs ys : List A) → Climbs R xs → Climbs R ys → AllByRecursion (λ x. AllByRecursion (R x) ys) xs → Climbs R (xs ++ ys)
+pub climbs_append : {A : Type 0} (R : A → A → Type 0) (xs ys : List A) → Climbs R xs → Climbs R ys → AllByRecursion (λ x. AllByRecursion (R x) ys) xs → Climbs R (xs ++ ys)
 climbs_append R [] ys climbs others across = others
 climbs_append R (x ∷ xs) ys climbs others across = (all_append (R x) xs ys climbs.0 across.0, climbs_append R xs ys climbs.1 others across.1)
 
-of_that_node : (i : ℕ) (rs : List RateLine) → AllByRecursion (λ r. r.node ≡ i) (filter (is_of i) rs)
+pub of_that_node : (i : ℕ) (rs : List RateLine) → AllByRecursion (λ r. r.node ≡ i) (filter (is_of i) rs)
 of_that_node i [] = tt
 of_that_node i (r ∷ rs) =
     cond_both (is_of i r) (r ∷ filter (is_of i) rs) (filter (is_of i) rs) (AllByRecursion (λ r. r.node ≡ i)) (λ is. (eqb-true r.node i is, of_that_node i rs)) (λ not. of_that_node i rs)
 
-above : (i : ℕ) (ns : List NodeLine) (rs : List RateLine) → AllByRecursion (λ n. i < n.node) ns → AllByRecursion (λ r. i < r.node) (rates_by_node ns rs)
+pub above : (i : ℕ) (ns : List NodeLine) (rs : List RateLine) → AllByRecursion (λ n. i < n.node) ns → AllByRecursion (λ r. i < r.node) (rates_by_node ns rs)
 above i [] rs all = tt
 above i (n ∷ ns) rs all =
     let first = all.0 in

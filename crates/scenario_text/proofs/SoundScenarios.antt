@@ -1,15 +1,15 @@
 -- What is true of each scenario, by the rules that it keeps.
-use Rattle.std.proofs.Common.{◌≡◌, ℕ, ◌^◌, ◌<◌, ◌≤◌, List, [], ◌∷◌, true, false, ◌&&◌, ◌==◌, nat_lt, nat_le, length, All, arith}
+use Rattle.std.proofs.Common.{◌≡◌, ℕ, ◌^◌, ◌<◌, ◌≤◌, List, true, false, ◌&&◌, ◌==◌, nat_lt, nat_le, length, All, arith}
 use Rattle.std.proofs.lemmas.Bool.{and_parts, leb-true, ltb-true, eqb-false}
 use Rattle.std.proofs.lemmas.List.Elements.{All-from_recursion}
-use Rattle.std.proofs.lemmas.List.Kept.{AllPairs-cons}
 use Rattle.std.specs.Int.RustNames.{unsigned_abs}
-use Rattle.std.specs.List.{AllByRecursion, AllPairs}
+use Rattle.std.specs.List.{AllByRecursion}
+use Rattle.std.specs.declared.cmp.Ordering.TheVariants.{Less}
+use Rattle.link_trace.specs.Order.{by_link, by_loss, by_cut, by_capture}
 use Rattle.link_trace.specs.declared.lines.LoseLine.{LoseLine}
 use Rattle.link_trace.specs.declared.lines.CutLine.{CutLine}
 use Rattle.link_trace.specs.declared.lines.CaptureLine.{CaptureLine}
 use Rattle.scenario_text.specs.FloodParts.{knows}
-use Rattle.scenario_text.specs.FloodDrafts.{Climbs}
 use Rattle.scenario_text.specs.Network.{is_id, are_ends}
 use Rattle.scenario_text.specs.ScenarioFacts.{AreEnds, IsStepOf, IsScriptLine, IsSoundScenario}
 use Rattle.scenario_text.specs.ScenarioGrammar.{last_tick, last_slot, is_step, IsScenario}
@@ -20,17 +20,14 @@ use Rattle.scenario_text.proofs.CanonicalFacts.{IsNode, IsRateOf, IsHost, Fits, 
 use Rattle.scenario_text.proofs.CanonicalGoes.{frame_bound}
 use Rattle.scenario_text.proofs.DraftKept.{ends_differ}
 use Rattle.scenario_text.proofs.RatesKept.{map_all, one_ascends}
+use Rattle.scenario_text.proofs.EachPair.{climbs_pairs}
 use Rattle.scenario_text.proofs.SaidParts.{known_id, said_is}
 use Rattle.scenario_text.proofs.BootsCounted.{few_boots}
 
-climbs_pairs : {A : Type 0} (R : A → A → Type 0) (xs : List A) → Climbs R xs → AllPairs R xs
-climbs_pairs R [] climbs i j d before within = absurd (omega arith)
-climbs_pairs R (x ∷ xs) climbs i j d before within = AllPairs-cons R x xs (All-from_recursion (R x) xs climbs.0) (climbs_pairs R xs climbs.1) i j d before within
-
-all_of : {A : Type 0} (P Q : A → Type 0) (xs : List A) → ((x : A) → P x → Q x) → AllByRecursion P xs → All Q xs
+pub all_of : {A : Type 0} (P Q : A → Type 0) (xs : List A) → ((x : A) → P x → Q x) → AllByRecursion P xs → All Q xs
 all_of P Q xs f all = All-from_recursion Q xs (map_all P Q xs f all)
 
-id_range : (i : ℕ) → is_id i ≡ true → (1 ≤ i) × (i ≤ 200)
+pub id_range : (i : ℕ) → is_id i ≡ true → (1 ≤ i) × (i ≤ 200)
 id_range i is = let p = and_parts (nat_le 1 i) (nat_le i 200) is in (leb-true 1 i p.0, leb-true i 200 p.1)
 
 ends_are : (s : ScenarioParts) (u v : ℕ) → are_ends u v ≡ true → (knows s.nodes u && knows s.nodes v) ≡ true → AreEnds s.nodes u v
@@ -74,7 +71,7 @@ act_is s f i (Put x b) fits =
 small_node : (s : ScenarioParts) (i : ℕ) → KeepsRules s → knows s.nodes i ≡ true → i ≤ 200
 small_node s i is known = (id_range i (known_id s.nodes i (map_all IsNode (λ n. is_id n.node ≡ true) s.nodes (λ n node. node.id) is.nodes) known)).1
 
-rules_sound : (s : ScenarioParts) → KeepsRules s → IsSoundScenario s
+pub rules_sound : (s : ScenarioParts) → KeepsRules s → IsSoundScenario s
 rules_sound s is =
     let bound = frame_bound s.profile is.profile in
     record {
@@ -99,9 +96,13 @@ rules_sound s is =
       hosts_known = all_of (IsHost s.nodes) (λ h. knows s.nodes h ≡ true) s.hosts (λ h host. host.known) is.hosts;
       hosts_differ = λ i j d before within. eqb-false _ _ (climbs_pairs (λ g h. (g == h) ≡ false) s.hosts is.distinct i j d before within);
       links = all_of (λ l. Fits (judge s) (said_link l)) (λ l. AreEnds s.nodes l.from l.to) s.trace.links (λ l fits. ends_are s l.from l.to fits.range fits.known) is.links;
+      links_ascend = climbs_pairs (λ a b. by_link a b ≡ Less) s.trace.links is.links_climb;
       losses = all_of (λ l. Fits (judge s) (said_loss l)) (λ l. IsStepOf s l.frame l.slot l.step × AreEnds s.nodes l.from l.to) s.trace.losses (loss_is s) is.losses;
+      losses_ascend = climbs_pairs (λ a b. by_loss a b ≡ Less) s.trace.losses is.losses_climb;
       cuts = all_of (λ l. Fits (judge s) (said_cut l)) (λ l. IsStepOf s l.frame l.slot l.step × (knows s.nodes l.node ≡ true)) s.trace.cuts (cut_is s) is.cuts;
+      cuts_ascend = climbs_pairs (λ a b. by_cut a b ≡ Less) s.trace.cuts is.cuts_climb;
       captures = all_of (λ l. Fits (judge s) (said_capture l)) (λ l. IsStepOf s l.frame l.slot l.step × AreEnds s.nodes l.at l.from) s.trace.captures (capture_is s) is.captures;
+      captures_ascend = climbs_pairs (λ a b. by_capture a b ≡ Less) s.trace.captures is.captures_climb;
       script = all_of (FitsAct (judge s)) (IsScriptLine s) s.script (λ l at. act_is s l.frame l.node l.act at.fits) is.script;
       script_ascends = climbs_pairs (λ a b. a.frame ≤ b.frame) s.script is.script_climbs;
       few_boots = λ v. few_boots v s.script (map_all (FitsAct (judge s)) (λ l. l.node ≤ 200) s.script (λ l at. small_node s l.node is (act_is s l.frame l.node l.act at.fits).known) is.script) is.boots;

@@ -1,6 +1,8 @@
 -- Refusals: which fault comes first, and in which line.
 use Rattle.std.specs.Prelude.{◌≡◌, ℕ, ◌+◌, List, [], ◌∷◌, Bool, if◌then◌else◌, Some, None, Option, Ok, Err, Result}
 use Rattle.scenario_text.specs.declared.fault.FaultKind.{FaultKind}
+use Rattle.scenario_text.specs.declared.fault.Refusal.{Refusal}
+use Rattle.scenario_text.specs.declared.fault.Refusal.TheVariants.{Fault, NoMemory}
 use Rattle.scenario_text.specs.declared.fault.ParseFault.{ParseFault}
 use Rattle.scenario_text.specs.declared.fault.ParseFault.TheVariants.{Line, Memory}
 
@@ -35,3 +37,24 @@ abbrev pub Gives : {A : Type 0} → Result A ParseFault → Result A (ℕ × Fau
 Gives (Ok x) said = said ≡ Ok x
 Gives (Err Memory) said = Unit {0}
 Gives (Err (Line n k)) said = said ≡ Err (n, k)
+
+-- what is refused is what this fault refuses, unless memory ran out
+abbrev pub Refuses : {A : Type 0} → Result A Refusal → Option FaultKind → Type 0
+Refuses (Ok x) fault = fault ≡ None
+Refuses (Err (Fault k)) fault = fault ≡ Some k
+Refuses (Err NoMemory) fault = Unit {0}
+
+-- likewise where no memory is asked for
+abbrev pub RefusesBy : {A : Type 0} → Result A FaultKind → Option FaultKind → Type 0
+RefusesBy (Ok x) fault = fault ≡ None
+RefusesBy (Err k) fault = fault ≡ Some k
+
+abbrev pub at_line : ℕ → Refusal → ParseFault
+at_line n (Fault k) = Line n k
+at_line n NoMemory = Memory
+
+-- what was made at the end is what the definition says, unless memory ran out
+abbrev pub Finishes : {A : Type 0} → Result A Refusal → Result A FaultKind → Type 0
+Finishes (Ok x) said = said ≡ Ok x
+Finishes (Err (Fault k)) said = said ≡ Err k
+Finishes (Err NoMemory) said = Unit {0}

@@ -9,6 +9,8 @@ use Rattle.scenario_text.specs.Faults.{first_fault, unless_fault, in_line, ◌>>
 use Rattle.scenario_text.specs.Words.{words, word, is_skipped, is_number, number_at, counted}
 use Rattle.scenario_text.specs.Network.{Drafted, Parts, network_parts, network_line, network_numbers, no_network, is_id, are_ends, network_fault, has_loss, has_script_room, with_line, with_loss, with_script_line}
 use Rattle.scenario_text.specs.declared.fault.FaultKind.{FaultKind}
+use Rattle.scenario_text.specs.declared.fault.Refusal.{Refusal}
+use Rattle.scenario_text.specs.declared.fault.Refusal.TheVariants.{Fault, NoMemory}
 use Rattle.scenario_text.specs.declared.fault.FaultKind.TheVariants.{NotUtf8, BadWord, BadNumber, Range, UnknownNode, Twice, TooMany, Missing}
 use Rattle.scenario_text.specs.declared.flood_line.FloodLine.{FloodLine}
 use Rattle.scenario_text.specs.declared.flood_line.FloodLine.TheVariants.{InNetwork, Lose, Start}
@@ -65,9 +67,10 @@ after_line f line =
     if is_skipped ws then Ok f else if is_utf8 line then after_words f ws (flood_line ws) else Err NotUtf8
 
 -- what was read of a line, seen by the draft behind it
-abbrev pub Reads : Option FaultKind → Flood → Result Flood FaultKind → Type 0
-Reads None new after = after ≡ Ok new
-Reads (Some k) new after = after ≡ Err k
+abbrev pub Reads : Result (Unit {0}) Refusal → Flood → Result Flood FaultKind → Type 0
+Reads (Ok x) new after = after ≡ Ok new
+Reads (Err (Fault k)) new after = after ≡ Err k
+Reads (Err NoMemory) new after = Unit {0}
 
 -- what a whole text says, which has sendings, two nodes at least, and a start
 abbrev pub parts_of : Option Parts → Option ℕ → Option FloodParts

@@ -11,3 +11,4 @@ pub mod ScenarioGrammar
 pub mod Canonical
 pub mod ScenarioDrafts
 pub mod ScenarioFacts
+pub mod PartsInOrder

@@ -3,6 +3,7 @@ use Rattle.std.specs.Prelude.{◌≡◌, ◌≢◌, ◌+◌, ◌*◌, ◌^◌, �
 use Rattle.std.specs.Int.RustNames.{unsigned_abs}
 use Rattle.std.specs.List.{AllPairs}
 use Rattle.lwb_base.specs.Profile.{Numbers, IsProfile}
+use Rattle.link_trace.specs.Order.{Ascends, by_link, by_loss, by_cut, by_capture}
 use Rattle.scenario_text.specs.FloodParts.{knows}
 use Rattle.scenario_text.specs.ScenarioGrammar.{last_tick, last_slot}
 use Rattle.scenario_text.specs.ScenarioParts.{ScenarioParts}
@@ -71,9 +72,13 @@ pub record IsSoundScenario (s : ScenarioParts) : Type 0 where
   pub hosts_known : All (λ h. knows s.nodes h ≡ true) s.hosts
   pub hosts_differ : AllPairs (λ a b. a ≢ b) s.hosts
   pub links : All (λ l. AreEnds s.nodes l.from l.to) s.trace.links
+  pub links_ascend : Ascends by_link s.trace.links
   pub losses : All (λ l. IsStepOf s l.frame l.slot l.step × AreEnds s.nodes l.from l.to) s.trace.losses
+  pub losses_ascend : Ascends by_loss s.trace.losses
   pub cuts : All (λ l. IsStepOf s l.frame l.slot l.step × (knows s.nodes l.node ≡ true)) s.trace.cuts
+  pub cuts_ascend : Ascends by_cut s.trace.cuts
   pub captures : All (λ l. IsStepOf s l.frame l.slot l.step × AreEnds s.nodes l.at l.from) s.trace.captures
+  pub captures_ascend : Ascends by_capture s.trace.captures
   pub script : All (IsScriptLine s) s.script
   pub script_ascends : AllPairs (λ a b. a.frame ≤ b.frame) s.script
   pub few_boots : (v : ℕ) → (turned v (false, 0) s.script).1 ≤ 200

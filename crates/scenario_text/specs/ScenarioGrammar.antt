@@ -13,6 +13,8 @@ use Rattle.scenario_text.specs.Payloads.{is_payload, payload}
 use Rattle.scenario_text.specs.Words.{words, word, is_skipped, is_number, number_at, counted}
 use Rattle.scenario_text.specs.Network.{Drafted, Parts, network_parts, network_line, network_numbers, no_network, is_id, are_ends, has_loss, has_cut, has_capture, has_script_room, with_line, with_loss, with_cut, with_capture, with_script_line, in_range, knows_ids, in_order, is_new, has_room}
 use Rattle.scenario_text.specs.declared.fault.FaultKind.{FaultKind}
+use Rattle.scenario_text.specs.declared.fault.Refusal.{Refusal}
+use Rattle.scenario_text.specs.declared.fault.Refusal.TheVariants.{Fault, NoMemory}
 use Rattle.scenario_text.specs.declared.fault.FaultKind.TheVariants.{NotUtf8, BadWord, BadNumber, Range, UnknownNode, Order, Twice, TooMany, Missing, TooBig}
 use Rattle.scenario_text.specs.declared.scenario_line.ScenarioLine.{ScenarioLine}
 use Rattle.scenario_text.specs.declared.scenario_line.ScenarioLine.TheVariants.{InNetwork, Profile, Contend, Frames, Host, On, Off, Stream, Leave, Put, Lose, Cut, Capture}
@@ -241,9 +243,10 @@ after_line d line =
     if is_skipped ws then Ok d else if is_utf8 line then after_words d ws (scenario_line ws) else Err NotUtf8
 
 -- what was read of a line, seen by the draft behind it
-abbrev pub Reads : Option FaultKind → Scenario → Result Scenario FaultKind → Type 0
-Reads None new after = after ≡ Ok new
-Reads (Some k) new after = after ≡ Err k
+abbrev pub Reads : Result (Unit {0}) Refusal → Scenario → Result Scenario FaultKind → Type 0
+Reads (Ok x) new after = after ≡ Ok new
+Reads (Err (Fault k)) new after = after ≡ Err k
+Reads (Err NoMemory) new after = Unit {0}
 
 -- there are not too many nodes for the frames
 abbrev pub if_small : ScenarioParts → Result ScenarioParts FaultKind

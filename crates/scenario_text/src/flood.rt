@@ -9,7 +9,8 @@ use crate::words::first_line;
 use crate::{FaultKind, FloodText, ParseFault};
 use std::alloc::Global;
 
-/// Reads a flood text.
+/// Reads a flood text of fewer than 2^31 bytes. `Line` names the first line that is refused and why, or, with the number
+/// of lines plus 1, what is missing at the end.
 pub fn parse_flood(alloc: Global, bytes: &[u8]) -> Result<FloodText, ParseFault>
     requires { length bytes.now < 2 ^ 31 }
     ensures { Gives result (flood_of bytes.now) }
@@ -35,9 +36,8 @@ fn read_lines(alloc: Global, bytes: &[u8]) -> Result<(FloodDraft, u32), ParseFau
     while !rest.is_empty() {
         let (line, others) = first_line(rest);
         match draft.read(alloc, line) {
-            Ok(None) => {}
-            Ok(Some(kind)) => return Err(ParseFault::Line(count + 1, kind)),
-            Err(_) => return Err(ParseFault::Memory),
+            Ok(()) => {}
+            Err(refusal) => return Err(refusal.in_line(count + 1)),
         }
         rest = others;
         count += 1;

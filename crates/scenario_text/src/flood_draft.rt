@@ -1,11 +1,13 @@
-ghost use Rattle.std.specs.Prelude.{◌≡◌, Ok, None, IfOk};
+ghost use Rattle.std.specs.Prelude.{◌≡◌, IfOk, OnOk};
+ghost use Rattle.scenario_text.specs.Faults.{Refuses, RefusesBy};
 ghost use Rattle.scenario_text.specs.FloodGrammar.{no_flood, rule_fault, with_flood_line, after_line, Reads, parts_of};
 ghost use Rattle.scenario_text.specs.FloodDrafts.{IsFlood};
 ghost use Rattle.scenario_text.specs.Network.{network_parts};
 ghost use Rattle.scenario_text.specs.declared.flood_line.FloodLine.TheVariants.{Lose, Start};
 
+use crate::fault::{Refusal, refuse_unless};
 use crate::flood_line::FloodLine;
-use crate::network_draft::{NetworkDraft, are_two_ids, node_id};
+use crate::network_draft::{NetworkDraft, are_two_ids, is_id};
 use crate::words::{is_skipped, is_text, words};
 use crate::{FaultKind, FloodText};
 use lwb_base::{Memory, NodeId};
@@ -40,64 +42,51 @@ impl FloodDraft {
 
     /// Goes on by one line, unless it is refused.
     #[tactic(auto, unfolding(crate::specs::FloodGrammar::after_line))]
-    pub fn read(&mut self, alloc: Global, line: &[u8]) -> Result<Option<FaultKind>, Memory>
-        ensures { IfOk result (λ k. Reads k self.new (after_line self.old line.now)) }
+    pub fn read(&mut self, alloc: Global, line: &[u8]) -> Result<(), Refusal>
+        ensures { Reads result self.new (after_line self.old line.now) }
     {
         let words = words(alloc, line)?;
         if is_skipped(&words) {
-            return Ok(None);
+            return Ok(());
         }
-        if !is_text(line) {
-            return Ok(Some(FaultKind::NotUtf8));
-        }
-        let Some(said) = FloodLine::new(&words) else {
-            return Ok(Some(FaultKind::BadWord));
-        };
-        if !said.spells_numbers(&words) {
-            return Ok(Some(FaultKind::BadNumber));
-        }
+        refuse_unless(is_text(line), FaultKind::NotUtf8)?;
+        let said = FloodLine::new(&words).ok_or(FaultKind::BadWord)?;
+        refuse_unless(said.spells_numbers(&words), FaultKind::BadNumber)?;
         self.add(said)
     }
 
-    fn add(&mut self, line: FloodLine) -> Result<Option<FaultKind>, Memory>
-        ensures fault { IfOk result (λ k. k ≡ rule_fault self.old line) }
-        ensures added { result ≡ Ok None → self.new ≡ with_flood_line self.old line }
+    fn add(&mut self, line: FloodLine) -> Result<(), Refusal>
+        ensures fault { Refuses result (rule_fault self.old line) }
+        ensures added { OnOk result (self.new ≡ with_flood_line self.old line) }
     {
         match line {
             FloodLine::InNetwork(line) => self.network.add(1_048_576_000_000, line),
             FloodLine::Lose(step, from, to) => self.add_loss(step, from, to),
-            FloodLine::Start(id) => Ok(self.add_start(id)),
+            FloodLine::Start(id) => Ok(self.add_start(id)?),
         }
     }
 
-    fn add_loss(&mut self, step: u64, from: u64, to: u64) -> Result<Option<FaultKind>, Memory>
-        ensures fault { IfOk result (λ k. k ≡ rule_fault self.old (Lose step from to)) }
-        ensures added { result ≡ Ok None → self.new ≡ with_flood_line self.old (Lose step from to) }
+    fn add_loss(&mut self, step: u64, from: u64, to: u64) -> Result<(), Refusal>
+        ensures fault { Refuses result (rule_fault self.old (Lose step from to)) }
+        ensures added { OnOk result (self.new ≡ with_flood_line self.old (Lose step from to)) }
     {
-        if step > 11 || !are_two_ids(from, to) {
-            return Ok(Some(FaultKind::Range));
-        }
-        let Some((from, to)) = self.network.two_nodes(from, to) else {
-            return Ok(Some(FaultKind::UnknownNode));
-        };
+        refuse_unless(step <= 11 && are_two_ids(from, to), FaultKind::Range)?;
+        let (from, to) = self
+            .network
+            .two_nodes(from, to)
+            .ok_or(FaultKind::UnknownNode)?;
         self.network.lose(5, 1, step as u8, from, to)
     }
 
-    fn add_start(&mut self, id: u64) -> Option<FaultKind>
-        ensures fault { result ≡ rule_fault self.old (Start id) }
-        ensures added { result ≡ None → self.new ≡ with_flood_line self.old (Start id) }
+    fn add_start(&mut self, id: u64) -> Result<(), FaultKind>
+        ensures fault { RefusesBy result (rule_fault self.old (Start id)) }
+        ensures added { OnOk result (self.new ≡ with_flood_line self.old (Start id)) }
     {
-        if node_id(id).is_none() {
-            return Some(FaultKind::Range);
-        }
-        let Some(node) = self.network.node(id) else {
-            return Some(FaultKind::UnknownNode);
-        };
-        if self.start.is_some() {
-            return Some(FaultKind::Twice);
-        }
+        refuse_unless(is_id(id), FaultKind::Range)?;
+        let node = self.network.node(id).ok_or(FaultKind::UnknownNode)?;
+        refuse_unless(self.start.is_none(), FaultKind::Twice)?;
         self.start = Some(node);
-        None
+        Ok(())
     }
 
     /// What the text says. None comes exactly where sendings, a second node or the start is missing.

@@ -36,4 +36,6 @@ pub use script::{Act, ScriptLine};
 pub use script_writers::write_payload;
 
 #[cfg(test)]
+mod limit_tests;
+#[cfg(test)]
 mod tests;

@@ -1,13 +1,14 @@
-ghost use Rattle.std.specs.Prelude.{◌≡◌, ◌≢◌, ◌≤◌, ◌<◌, ◌&&◌, ◌==◌, not, nat_lt, nat_le, if◌then◌else◌, [], ◌∷◌, Ok, Some, None, true, false, ℕ, List, IfOk, count_by, reverse, map, length};
+ghost use Rattle.std.specs.Prelude.{◌≡◌, ◌≢◌, ◌≤◌, ◌<◌, ◌&&◌, ◌==◌, not, nat_lt, nat_le, if◌then◌else◌, [], ◌∷◌, Ok, Some, None, true, false, ℕ, List, IfOk, OnOk, count_by, reverse, map, length};
 ghost use Rattle.std.specs.List.{find, list_any};
 ghost use Rattle.std.specs.Option.{option_copied, option_map_or};
 ghost use Rattle.scenario_text.specs.FloodDrafts.{IsNetwork};
 ghost use Rattle.scenario_text.specs.FloodParts.{knows as knows_of};
-ghost use Rattle.scenario_text.specs.Network.{no_network, network_parts, network_fault, with_line, with_node, with_link, has_link, has_loss, with_loss, has_cut, with_cut, has_capture, with_capture, with_script_line, has_script_room, are_ends, last_rate as last_rate_of, ppm as ppm_of, is_id};
-ghost use Rattle.scenario_text.specs.Faults.{first_fault};
+ghost use Rattle.scenario_text.specs.Network.{no_network, network_parts, network_fault, with_line, with_node, with_link, has_link, has_loss, with_loss, has_cut, with_cut, has_capture, with_capture, with_script_line, has_script_room, are_ends, last_rate as last_rate_of, ppm as ppm_of, is_id as is_id_of};
+ghost use Rattle.scenario_text.specs.Faults.{first_fault, Refuses, RefusesBy};
 ghost use Rattle.scenario_text.specs.declared.fault.FaultKind.TheVariants.{Twice, TooMany};
 ghost use Rattle.scenario_text.specs.declared.network_line.NetworkLine.TheVariants.{Sends, Node, Rate, Link, Pair};
 
+use crate::fault::{Refusal, refuse_unless};
 use crate::network::Network;
 use crate::network_line::NetworkLine;
 use crate::rates::by_node;
@@ -50,12 +51,12 @@ impl NetworkDraft {
     }
 
     /// Goes on by one line, unless it is refused. No tick may be above the last tick.
-    pub fn add(&mut self, last_tick: u64, line: NetworkLine) -> Result<Option<FaultKind>, Memory>
-        ensures fault { IfOk result (λ k. k ≡ network_fault last_tick self.old line) }
-        ensures added { result ≡ Ok None → self.new ≡ with_line self.old line }
+    pub fn add(&mut self, last_tick: u64, line: NetworkLine) -> Result<(), Refusal>
+        ensures fault { Refuses result (network_fault last_tick self.old line) }
+        ensures added { OnOk result (self.new ≡ with_line self.old line) }
     {
         match line {
-            NetworkLine::Sends(count) => Ok(self.add_sends(count)),
+            NetworkLine::Sends(count) => Ok(self.add_sends(count)?),
             NetworkLine::Node(id, offset) => self.add_node(id, offset),
             NetworkLine::Rate(id, tick, slow, parts) => self.add_rate(
                 last_tick, id, tick, slow, parts,
@@ -116,31 +117,25 @@ impl NetworkDraft {
         step: u8,
         from: NodeId,
         to: NodeId,
-    ) -> Result<Option<FaultKind>, Memory>
-        ensures fault { IfOk result (λ k. k ≡ first_fault ((not (has_loss self.old.trace frame slot step from to), Twice) ∷ (has_script_room self.old, TooMany) ∷ [])) }
-        ensures added { result ≡ Ok None → self.new ≡ with_script_line self.old (with_loss frame slot step from to self.old.trace) }
+    ) -> Result<(), Refusal>
+        ensures fault { Refuses result (first_fault ((not (has_loss self.old.trace frame slot step from to), Twice)
+            ∷ (has_script_room self.old, TooMany) ∷ [])) }
+        ensures added { OnOk result (self.new ≡ with_script_line self.old (with_loss frame slot step from to self.old.trace)) }
     {
-        if !lose(&mut self.trace, frame, slot, step, from, to)? {
-            return Ok(Some(FaultKind::Twice));
-        }
-        Ok(self.count_script_line())
+        let is_new = lose(&mut self.trace, frame, slot, step, from, to)?;
+        refuse_unless(is_new, FaultKind::Twice)?;
+        Ok(self.count_script_line()?)
     }
 
     /// Goes on by a script line that cuts a node off from one step on.
-    pub fn cut(
-        &mut self,
-        frame: u32,
-        slot: u8,
-        step: u8,
-        node: NodeId,
-    ) -> Result<Option<FaultKind>, Memory>
-        ensures fault { IfOk result (λ k. k ≡ first_fault ((not (has_cut self.old.trace frame slot step node), Twice) ∷ (has_script_room self.old, TooMany) ∷ [])) }
-        ensures added { result ≡ Ok None → self.new ≡ with_script_line self.old (with_cut frame slot step node self.old.trace) }
+    pub fn cut(&mut self, frame: u32, slot: u8, step: u8, node: NodeId) -> Result<(), Refusal>
+        ensures fault { Refuses result (first_fault ((not (has_cut self.old.trace frame slot step node), Twice)
+            ∷ (has_script_room self.old, TooMany) ∷ [])) }
+        ensures added { OnOk result (self.new ≡ with_script_line self.old (with_cut frame slot step node self.old.trace)) }
     {
-        if !cut(&mut self.trace, frame, slot, step, node)? {
-            return Ok(Some(FaultKind::Twice));
-        }
-        Ok(self.count_script_line())
+        let is_new = cut(&mut self.trace, frame, slot, step, node)?;
+        refuse_unless(is_new, FaultKind::Twice)?;
+        Ok(self.count_script_line()?)
     }
 
     /// Goes on by a script line that names the sender that a node hears in one step where several meet.
@@ -151,63 +146,47 @@ impl NetworkDraft {
         step: u8,
         at: NodeId,
         from: NodeId,
-    ) -> Result<Option<FaultKind>, Memory>
-        ensures fault { IfOk result (λ k. k ≡ first_fault ((not (has_capture self.old.trace frame slot step at), Twice) ∷ (has_script_room self.old, TooMany) ∷ [])) }
-        ensures added { result ≡ Ok None → self.new ≡ with_script_line self.old (with_capture frame slot step at from self.old.trace) }
+    ) -> Result<(), Refusal>
+        ensures fault { Refuses result (first_fault ((not (has_capture self.old.trace frame slot step at), Twice)
+            ∷ (has_script_room self.old, TooMany) ∷ [])) }
+        ensures added { OnOk result (self.new ≡ with_script_line self.old (with_capture frame slot step at from self.old.trace)) }
     {
-        if !capture(&mut self.trace, frame, slot, step, at, from)? {
-            return Ok(Some(FaultKind::Twice));
-        }
-        Ok(self.count_script_line())
+        let is_new = capture(&mut self.trace, frame, slot, step, at, from)?;
+        refuse_unless(is_new, FaultKind::Twice)?;
+        Ok(self.count_script_line()?)
     }
 
     /// One script line more, if there is room.
-    pub fn count_script_line(&mut self) -> Option<FaultKind>
-        ensures fault { result ≡ first_fault ((has_script_room self.old, TooMany) ∷ []) }
-        ensures added { result ≡ None → self.new ≡ with_script_line self.old self.old.trace }
+    pub fn count_script_line(&mut self) -> Result<(), FaultKind>
+        ensures fault { RefusesBy result (first_fault ((has_script_room self.old, TooMany) ∷ [])) }
+        ensures added { OnOk result (self.new ≡ with_script_line self.old self.old.trace) }
     {
-        if self.scripted >= 20_000 {
-            return Some(FaultKind::TooMany);
-        }
+        refuse_unless(self.scripted < 20_000, FaultKind::TooMany)?;
         self.scripted += 1;
-        None
+        Ok(())
     }
 
-    fn add_sends(&mut self, count: u64) -> Option<FaultKind>
-        ensures fault { result ≡ network_fault 0 self.old (Sends count) }
-        ensures added { result ≡ None → self.new ≡ with_line self.old (Sends count) }
+    fn add_sends(&mut self, count: u64) -> Result<(), FaultKind>
+        ensures fault { RefusesBy result (network_fault 0 self.old (Sends count)) }
+        ensures added { OnOk result (self.new ≡ with_line self.old (Sends count)) }
     {
-        if count < 1 || count > 4 {
-            return Some(FaultKind::Range);
-        }
-        if self.sends.is_some() {
-            return Some(FaultKind::Twice);
-        }
+        refuse_unless(1 <= count && count <= 4, FaultKind::Range)?;
+        refuse_unless(self.sends.is_none(), FaultKind::Twice)?;
         self.sends = Some(count as u8);
-        None
+        Ok(())
     }
 
-    fn add_node(&mut self, id: u64, offset: u64) -> Result<Option<FaultKind>, Memory>
-        ensures fault { IfOk result (λ k. k ≡ network_fault 0 self.old (Node id offset)) }
-        ensures added { result ≡ Ok None → self.new ≡ with_line self.old (Node id offset) }
+    fn add_node(&mut self, id: u64, offset: u64) -> Result<(), Refusal>
+        ensures fault { Refuses result (network_fault 0 self.old (Node id offset)) }
+        ensures added { OnOk result (self.new ≡ with_line self.old (Node id offset)) }
     {
-        let Some(node) = node_id(id) else {
-            return Ok(Some(FaultKind::Range));
-        };
-        if offset > 256_000 {
-            return Ok(Some(FaultKind::Range));
-        }
-        if known(&self.nodes, id).is_some() {
-            return Ok(Some(FaultKind::Twice));
-        }
-        if self.nodes.len() >= 64 {
-            return Ok(Some(FaultKind::TooMany));
-        }
+        let node = node_id(id).ok_or(FaultKind::Range)?;
+        refuse_unless(offset <= 256_000, FaultKind::Range)?;
+        refuse_unless(known(&self.nodes, id).is_none(), FaultKind::Twice)?;
+        refuse_unless(self.nodes.len() < 64, FaultKind::TooMany)?;
         let place = count_below(&self.nodes, node);
-        match self.nodes.insert(place, NodeLine { node, offset }) {
-            Ok(()) => Ok(None),
-            Err(_) => Err(Memory),
-        }
+        self.nodes.insert(place, NodeLine { node, offset })?;
+        Ok(())
     }
 
     fn add_rate(
@@ -217,79 +196,65 @@ impl NetworkDraft {
         tick: u64,
         slow: bool,
         parts: u64,
-    ) -> Result<Option<FaultKind>, Memory>
-        ensures fault { IfOk result (λ k. k ≡ network_fault last_tick self.old (Rate id tick slow parts)) }
-        ensures added { result ≡ Ok None → self.new ≡ with_line self.old (Rate id tick slow parts) }
+    ) -> Result<(), Refusal>
+        ensures fault { Refuses result (network_fault last_tick self.old (Rate id tick slow parts)) }
+        ensures added { OnOk result (self.new ≡ with_line self.old (Rate id tick slow parts)) }
     {
-        if node_id(id).is_none() || tick > last_tick || parts > 20 {
-            return Ok(Some(FaultKind::Range));
-        }
-        let Some(node) = known(&self.nodes, id) else {
-            return Ok(Some(FaultKind::UnknownNode));
-        };
-        if !is_later(&self.rates, node, tick) {
-            return Ok(Some(FaultKind::Order));
-        }
-        if self.scripted >= 20_000 {
-            return Ok(Some(FaultKind::TooMany));
-        }
-        self.scripted += 1;
+        refuse_unless(
+            is_id(id) && tick <= last_tick && parts <= 20,
+            FaultKind::Range,
+        )?;
+        let node = known(&self.nodes, id).ok_or(FaultKind::UnknownNode)?;
+        refuse_unless(is_later(&self.rates, node, tick), FaultKind::Order)?;
+        self.count_script_line()?;
         let ppm = ppm(slow, parts as u8);
-        match self.rates.push(RateLine {
+        self.rates.push(RateLine {
             node,
             from: tick,
             ppm,
-        }) {
-            Ok(()) => Ok(None),
-            Err(_) => Err(Memory),
-        }
+        })?;
+        Ok(())
     }
 
-    fn add_link(&mut self, from: u64, to: u64) -> Result<Option<FaultKind>, Memory>
-        ensures fault { IfOk result (λ k. k ≡ network_fault 0 self.old (Link from to)) }
-        ensures added { result ≡ Ok None → self.new ≡ with_line self.old (Link from to) }
+    fn add_link(&mut self, from: u64, to: u64) -> Result<(), Refusal>
+        ensures fault { Refuses result (network_fault 0 self.old (Link from to)) }
+        ensures added { OnOk result (self.new ≡ with_line self.old (Link from to)) }
     {
-        if !are_two_ids(from, to) {
-            return Ok(Some(FaultKind::Range));
-        }
-        let Some((from, to)) = two_nodes(&self.nodes, from, to) else {
-            return Ok(Some(FaultKind::UnknownNode));
-        };
-        if !link(&mut self.trace, from, to)? {
-            return Ok(Some(FaultKind::Twice));
-        }
-        Ok(None)
+        refuse_unless(are_two_ids(from, to), FaultKind::Range)?;
+        let (from, to) = two_nodes(&self.nodes, from, to).ok_or(FaultKind::UnknownNode)?;
+        let is_new = link(&mut self.trace, from, to)?;
+        Ok(refuse_unless(is_new, FaultKind::Twice)?)
     }
 
-    fn add_pair(&mut self, one_end: u64, other_end: u64) -> Result<Option<FaultKind>, Memory>
-        ensures fault { IfOk result (λ k. k ≡ network_fault 0 self.old (Pair one_end other_end)) }
-        ensures added { result ≡ Ok None → self.new ≡ with_line self.old (Pair one_end other_end) }
+    fn add_pair(&mut self, one_end: u64, other_end: u64) -> Result<(), Refusal>
+        ensures fault { Refuses result (network_fault 0 self.old (Pair one_end other_end)) }
+        ensures added { OnOk result (self.new ≡ with_line self.old (Pair one_end other_end)) }
     {
-        if !are_two_ids(one_end, other_end) {
-            return Ok(Some(FaultKind::Range));
-        }
-        let Some((one, other)) = two_nodes(&self.nodes, one_end, other_end) else {
-            return Ok(Some(FaultKind::UnknownNode));
-        };
-        if !pair(&mut self.trace, one, other)? {
-            return Ok(Some(FaultKind::Twice));
-        }
-        Ok(None)
+        refuse_unless(are_two_ids(one_end, other_end), FaultKind::Range)?;
+        let (one, other) = two_nodes(&self.nodes, one_end, other_end).ok_or(
+            FaultKind::UnknownNode,
+        )?;
+        let is_new = pair(&mut self.trace, one, other)?;
+        Ok(refuse_unless(is_new, FaultKind::Twice)?)
     }
 }
 
 fn ids(alloc: Global, nodes: &[NodeLine]) -> Result<Vec<NodeId>, Memory>
     ensures { IfOk result (λ v. v.items ≡ map (λ n. n.node) nodes.now) }
 {
-    match nodes.iter().map(|n| n.node).collect(alloc) {
-        Ok(ids) => Ok(ids),
-        Err(_) => Err(Memory),
-    }
+    Ok(nodes.iter().map(|n| n.node).collect(alloc)?)
+}
+
+/// Whether it is the id of a node.
+pub fn is_id(id: u64) -> bool
+    ensures { result ≡ is_id_of id }
+{
+    1 <= id && id <= 200
 }
 
 /// The node with that id.
-pub fn node_id(id: u64) -> Option<NodeId>
-    ensures { result ≡ (if is_id id then Some id else None) }
+fn node_id(id: u64) -> Option<NodeId>
+    ensures { result ≡ (if is_id_of id then Some id else None) }
 {
     NodeId::new(u8::try_from(id).ok()?)
 }
@@ -298,7 +263,7 @@ pub fn node_id(id: u64) -> Option<NodeId>
 pub fn are_two_ids(from: u64, to: u64) -> bool
     ensures { result ≡ are_ends from to }
 {
-    node_id(from).is_some() && node_id(to).is_some() && from != to
+    is_id(from) && is_id(to) && from != to
 }
 
 fn count_below(nodes: &[NodeLine], id: NodeId) -> usize

@@ -18,10 +18,7 @@ pub fn print(alloc: Global, s: &Scenario) -> Result<String, Memory>
     ensures text { IfOk result (λ text. string_bytes text ≡ canonical s.now) }
     ensures back { IfOk result (λ text. scenario_of (string_bytes text) ≡ Ok s.now) }
 {
-    match text_of(alloc, s) {
-        Ok(text) => Ok(text),
-        Err(_) => Err(Memory),
-    }
+    Ok(text_of(alloc, s)?)
 }
 
 #[tactic(auto, using(crate::proofs::CanonicalParts::in_turn))]

@@ -24,8 +24,8 @@ fn push_rates(sorted: &mut Vec<RateLine>, rates: &[RateLine], node: NodeId) -> R
     ensures { OnOk result (sorted.new.items ≡ sorted.old.items ++ filter (λ r. r.node == node) rates.now) }
 {
     for rate in rates {
-        if rate.node == node && sorted.push(*rate).is_err() {
-            return Err(Memory);
+        if rate.node == node {
+            sorted.push(*rate)?;
         }
     }
     Ok(())

@@ -10,16 +10,16 @@ use crate::scenario_draft::ScenarioDraft;
 use crate::words::first_line;
 use std::alloc::Global;
 
-/// Reads the text of a scenario.
+/// Reads the text of a scenario of fewer than 2^31 bytes. `Line` names the first line that is refused and why, or, with
+/// the number of lines plus 1, what is missing or too big at the end.
 pub fn parse(alloc: Global, bytes: &[u8]) -> Result<Scenario, ParseFault>
     requires { length bytes.now < 2 ^ 31 }
     ensures { Gives result (scenario_of bytes.now) }
 {
     let (draft, count) = read_lines(alloc, bytes)?;
     match draft.finish(alloc) {
-        Ok(Ok(scenario)) => Ok(scenario),
-        Ok(Err(kind)) => Err(ParseFault::Line(count + 1, kind)),
-        Err(_) => Err(ParseFault::Memory),
+        Ok(scenario) => Ok(scenario),
+        Err(refusal) => Err(refusal.in_line(count + 1)),
     }
 }
 
@@ -36,9 +36,8 @@ fn read_lines(alloc: Global, bytes: &[u8]) -> Result<(ScenarioDraft, u32), Parse
     while !rest.is_empty() {
         let (line, others) = first_line(rest);
         match draft.read(alloc, line) {
-            Ok(None) => {}
-            Ok(Some(kind)) => return Err(ParseFault::Line(count + 1, kind)),
-            Err(_) => return Err(ParseFault::Memory),
+            Ok(()) => {}
+            Err(refusal) => return Err(refusal.in_line(count + 1)),
         }
         rest = others;
         count += 1;

@@ -67,7 +67,8 @@ impl Scenario {
     }
 
     /// The scenario of these parts, each list in its order. Their canonical text is accepted and says them, and the
-    /// trace is sealed with the nodes.
+    /// trace is sealed with the nodes. By `laws::parts_in_order_are_said` it suffices that they are in range and in
+    /// order.
     pub fn of_parts(
         profile: &Profile,
         frames: u32,
@@ -94,6 +95,7 @@ impl Scenario {
         }
     }
 
+    /// The profile: the first, or the second with 0 to 4 contention slots.
     pub fn profile(&self) -> Profile
         ensures value { result ≡ self.now.profile }
         ensures said { IsScenario self.now }
@@ -122,7 +124,7 @@ impl Scenario {
         &self.nodes
     }
 
-    /// The changes of the clocks' rates, by node and tick.
+    /// The changes of the clocks' rates, by node and tick, each within -20 to 20 millionths.
     pub fn rates(&self) -> &[RateLine]
         ensures { result.now ≡ self.now.rates }
     {
@@ -136,8 +138,7 @@ impl Scenario {
         &self.hosts
     }
 
-    /// The links of the nodes, and where and when they are lost, cut or captured. It is sealed
-    /// with the nodes.
+    /// The links of the nodes, and in which steps they are lost, cut or captured. It is sealed with the nodes.
     pub fn trace(&self) -> &Trace
         ensures value { result.now.lines ≡ self.now.trace }
         ensures sealed { IsSealed result.now self.now.nodes }
@@ -145,7 +146,7 @@ impl Scenario {
         &self.trace
     }
 
-    /// What the nodes are told to do, by ascending frame.
+    /// What the nodes are told to do, by frame, in the order of the text.
     pub fn script(&self) -> &[ScriptLine]
         ensures { result.now ≡ self.now.script }
     {

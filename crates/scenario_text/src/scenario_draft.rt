@@ -1,20 +1,22 @@
-ghost use Rattle.std.specs.Prelude.{◌≡◌, ◌≤◌, ◌<◌, ◌&&◌, ◌||◌, ◌==◌, if◌then◌else◌, [], ◌∷◌, Ok, Err, Some, None, true, false, ℕ, List, IfOk, nat_lt, nat_le};
+ghost use Rattle.std.specs.Prelude.{◌≡◌, ◌≤◌, ◌<◌, ◌&&◌, ◌||◌, ◌==◌, if◌then◌else◌, [], ◌∷◌, Ok, Err, Some, None, true, false, ℕ, List, IfOk, OnOk, nat_lt, nat_le};
 ghost use Rattle.std.specs.List.{list_any};
 ghost use Rattle.std.specs.Option.{option_map_or};
-ghost use Rattle.scenario_text.specs.Faults.{first_fault};
+ghost use Rattle.scenario_text.specs.FloodParts.{knows};
+ghost use Rattle.scenario_text.specs.Faults.{first_fault, Refuses, RefusesBy, Finishes};
 ghost use Rattle.scenario_text.specs.ScenarioDrafts.{IsDraft};
-ghost use Rattle.scenario_text.specs.Network.{has_script_room};
+ghost use Rattle.scenario_text.specs.Network.{has_script_room, is_id as is_id_of};
 ghost use Rattle.scenario_text.specs.ScenarioGrammar.{no_scenario, line_fault, line_added, with_scenario_line, after_line, Reads, last_tick as last_tick_of, last_slot as last_slot_of, last_script_line, is_frame, is_step, in_script_order, with_act, with_boot, is_on, boots_of, finished, IsScenario};
 ghost use Rattle.scenario_text.specs.ScenarioParts.{ScenarioParts};
-ghost use Rattle.scenario_text.specs.declared.fault.FaultKind.TheVariants.{TooMany};
+ghost use Rattle.scenario_text.specs.declared.fault.FaultKind.TheVariants.{Range, UnknownNode, Order, TooMany};
 ghost use Rattle.scenario_text.specs.declared.scenario_line.ScenarioLine.TheVariants.{Profile as ProfileLine, Contend, Frames, Host, On, Off, Stream, Leave, Put, Lose, Cut, Capture};
 
-use crate::network_draft::{NetworkDraft, are_two_ids, node_id};
+use crate::fault::{Refusal, refuse_unless};
+use crate::network_draft::{NetworkDraft, are_two_ids, is_id};
 use crate::scenario::Scenario;
 use crate::scenario_line::ScenarioLine;
 use crate::words::{is_skipped, is_text, words};
 use crate::{Act, FaultKind, ScriptLine};
-use lwb_base::{Memory, NodeId, Payload, Profile};
+use lwb_base::{NodeId, Payload, Profile};
 use std::alloc::Global;
 use std::marker::Model;
 
@@ -62,45 +64,39 @@ impl ScenarioDraft {
 
     /// Goes on by one line, unless it is refused.
     #[tactic(auto, unfolding(crate::specs::ScenarioGrammar::after_line))]
-    pub fn read(&mut self, alloc: Global, line: &[u8]) -> Result<Option<FaultKind>, Memory>
-        ensures { IfOk result (λ k. Reads k self.new (after_line self.old line.now)) }
+    pub fn read(&mut self, alloc: Global, line: &[u8]) -> Result<(), Refusal>
+        ensures { Reads result self.new (after_line self.old line.now) }
     {
         let words = words(alloc, line)?;
         if is_skipped(&words) {
-            return Ok(None);
+            return Ok(());
         }
-        if !is_text(line) {
-            return Ok(Some(FaultKind::NotUtf8));
-        }
-        let Some(said) = ScenarioLine::new(&words) else {
-            return Ok(Some(FaultKind::BadWord));
-        };
-        if !said.spells_numbers(&words) {
-            return Ok(Some(FaultKind::BadNumber));
-        }
+        refuse_unless(is_text(line), FaultKind::NotUtf8)?;
+        let said = ScenarioLine::new(&words).ok_or(FaultKind::BadWord)?;
+        refuse_unless(said.spells_numbers(&words), FaultKind::BadNumber)?;
         self.add(said)
     }
 
-    fn add(&mut self, line: ScenarioLine) -> Result<Option<FaultKind>, Memory>
-        ensures fault { IfOk result (λ k. k ≡ line_fault self.old line) }
-        ensures added { result ≡ Ok None → self.new ≡ with_scenario_line self.old line }
+    fn add(&mut self, line: ScenarioLine) -> Result<(), Refusal>
+        ensures fault { Refuses result (line_fault self.old line) }
+        ensures added { OnOk result (self.new ≡ with_scenario_line self.old line) }
     {
         let is_two = line.is_profile_two();
-        let fault = self.add_line(line)?;
+        self.add_line(line)?;
         self.first = false;
         self.after_two = is_two;
-        Ok(fault)
+        Ok(())
     }
 
-    fn add_line(&mut self, line: ScenarioLine) -> Result<Option<FaultKind>, Memory>
-        ensures fault { IfOk result (λ k. k ≡ line_fault self.old line) }
-        ensures added { result ≡ Ok None → self.new ≡ line_added self.old line }
+    fn add_line(&mut self, line: ScenarioLine) -> Result<(), Refusal>
+        ensures fault { Refuses result (line_fault self.old line) }
+        ensures added { OnOk result (self.new ≡ line_added self.old line) }
     {
         match line {
             ScenarioLine::InNetwork(line) => self.network.add(last_tick(&self.profile), line),
-            ScenarioLine::Profile(profile) => Ok(self.add_profile(profile)),
-            ScenarioLine::Contend(slots) => Ok(self.add_contend(slots)),
-            ScenarioLine::Frames(frames) => Ok(self.add_frames(frames)),
+            ScenarioLine::Profile(profile) => Ok(self.add_profile(profile)?),
+            ScenarioLine::Contend(slots) => Ok(self.add_contend(slots)?),
+            ScenarioLine::Frames(frames) => Ok(self.add_frames(frames)?),
             ScenarioLine::Host(rank, id) => self.add_host(rank, id),
             ScenarioLine::On(frame, id) => self.add_on(frame, id),
             ScenarioLine::Off(frame, id) => self.add_off(frame, id),
@@ -122,10 +118,10 @@ impl ScenarioDraft {
     }
 
     /// What the text says, or what it misses at its end. The text is one whose lines say this.
-    pub fn finish(self, alloc: Global) -> Result<Result<Scenario, FaultKind>, Memory>
+    pub fn finish(self, alloc: Global) -> Result<Scenario, Refusal>
         requires said { (s : ScenarioParts) → finished self ≡ Ok s → IsScenario s }
         requires sound { IsDraft self }
-        ensures { IfOk result (λ r. r ≡ finished self) }
+        ensures { Finishes result (finished self) }
     {
         let ScenarioDraft {
             network,
@@ -136,174 +132,109 @@ impl ScenarioDraft {
             ..
         } = self;
         let Some(network) = network.finish(alloc)? else {
-            return Ok(Err(FaultKind::Missing));
+            return Err(Refusal::Fault(FaultKind::Missing));
         };
         let Some(frames) = frames else {
-            return Ok(Err(FaultKind::Missing));
+            return Err(Refusal::Fault(FaultKind::Missing));
         };
         if hosts.is_empty() {
-            return Ok(Err(FaultKind::Missing));
+            return Err(Refusal::Fault(FaultKind::Missing));
         }
         if network.nodes.len().saturating_mul(frames as usize) > 16_384 {
-            return Ok(Err(FaultKind::TooBig));
+            return Err(Refusal::Fault(FaultKind::TooBig));
         }
-        Ok(Ok(Scenario::of_network(profile, frames, network, hosts, script)))
+        Ok(Scenario::of_network(profile, frames, network, hosts, script))
     }
 
-    fn add_profile(&mut self, profile: u64) -> Option<FaultKind>
-        ensures fault { result ≡ line_fault self.old (ProfileLine profile) }
-        ensures added { result ≡ None → self.new ≡ line_added self.old (ProfileLine profile) }
+    fn add_profile(&mut self, profile: u64) -> Result<(), FaultKind>
+        ensures fault { RefusesBy result (line_fault self.old (ProfileLine profile)) }
+        ensures added { OnOk result (self.new ≡ line_added self.old (ProfileLine profile)) }
     {
-        if profile < 1 || profile > 2 {
-            return Some(FaultKind::Range);
-        }
-        if !self.first {
-            return Some(FaultKind::Order);
-        }
+        refuse_unless(1 <= profile && profile <= 2, FaultKind::Range)?;
+        refuse_unless(self.first, FaultKind::Order)?;
         self.profile = if profile == 2 {
             Profile::two()
         } else {
             Profile::one()
         };
-        None
+        Ok(())
     }
 
-    fn add_contend(&mut self, slots: u64) -> Option<FaultKind>
-        ensures fault { result ≡ line_fault self.old (Contend slots) }
-        ensures added { result ≡ None → self.new ≡ line_added self.old (Contend slots) }
+    fn add_contend(&mut self, slots: u64) -> Result<(), FaultKind>
+        ensures fault { RefusesBy result (line_fault self.old (Contend slots)) }
+        ensures added { OnOk result (self.new ≡ line_added self.old (Contend slots)) }
     {
-        if slots < 1 || slots > 4 {
-            return Some(FaultKind::Range);
-        }
-        if !self.after_two {
-            return Some(FaultKind::Order);
-        }
+        refuse_unless(1 <= slots && slots <= 4, FaultKind::Range)?;
+        refuse_unless(self.after_two, FaultKind::Order)?;
         self.profile = Profile::contended(slots as u8);
-        None
+        Ok(())
     }
 
-    fn add_frames(&mut self, frames: u64) -> Option<FaultKind>
-        ensures fault { result ≡ line_fault self.old (Frames frames) }
-        ensures added { result ≡ None → self.new ≡ line_added self.old (Frames frames) }
+    fn add_frames(&mut self, frames: u64) -> Result<(), FaultKind>
+        ensures fault { RefusesBy result (line_fault self.old (Frames frames)) }
+        ensures added { OnOk result (self.new ≡ line_added self.old (Frames frames)) }
     {
-        if frames < 1 || frames > 4_096 {
-            return Some(FaultKind::Range);
-        }
-        if self.frames.is_some() {
-            return Some(FaultKind::Twice);
-        }
+        refuse_unless(1 <= frames && frames <= 4_096, FaultKind::Range)?;
+        refuse_unless(self.frames.is_none(), FaultKind::Twice)?;
         self.frames = Some(frames as u32);
-        None
+        Ok(())
     }
 
-    fn add_host(&mut self, rank: u64, id: u64) -> Result<Option<FaultKind>, Memory>
-        ensures fault { IfOk result (λ k. k ≡ line_fault self.old (Host rank id)) }
-        ensures added { result ≡ Ok None → self.new ≡ line_added self.old (Host rank id) }
+    fn add_host(&mut self, rank: u64, id: u64) -> Result<(), Refusal>
+        ensures fault { Refuses result (line_fault self.old (Host rank id)) }
+        ensures added { OnOk result (self.new ≡ line_added self.old (Host rank id)) }
     {
-        if rank > 3 || node_id(id).is_none() {
-            return Ok(Some(FaultKind::Range));
-        }
-        let Some(node) = self.network.node(id) else {
-            return Ok(Some(FaultKind::UnknownNode));
-        };
-        if rank > self.hosts.len() as u64 {
-            return Ok(Some(FaultKind::Order));
-        }
-        if rank < self.hosts.len() as u64 || is_host(&self.hosts, node) {
-            return Ok(Some(FaultKind::Twice));
-        }
-        match self.hosts.push(node) {
-            Ok(()) => Ok(None),
-            Err(_) => Err(Memory),
-        }
+        refuse_unless(rank <= 3 && is_id(id), FaultKind::Range)?;
+        let node = self.network.node(id).ok_or(FaultKind::UnknownNode)?;
+        let count = self.hosts.len() as u64;
+        refuse_unless(rank <= count, FaultKind::Order)?;
+        refuse_unless(
+            rank == count && !is_host(&self.hosts, node),
+            FaultKind::Twice,
+        )?;
+        self.hosts.push(node)?;
+        Ok(())
     }
 
-    fn add_on(&mut self, frame: u64, id: u64) -> Result<Option<FaultKind>, Memory>
-        ensures fault { IfOk result (λ k. k ≡ line_fault self.old (On frame id)) }
-        ensures added { result ≡ Ok None → self.new ≡ line_added self.old (On frame id) }
+    fn add_on(&mut self, frame: u64, id: u64) -> Result<(), Refusal>
+        ensures fault { Refuses result (line_fault self.old (On frame id)) }
+        ensures added { OnOk result (self.new ≡ line_added self.old (On frame id)) }
     {
-        let Some(frame) = self.frame(frame) else {
-            return Ok(Some(FaultKind::Range));
-        };
-        if node_id(id).is_none() {
-            return Ok(Some(FaultKind::Range));
-        }
-        let Some(node) = self.network.node(id) else {
-            return Ok(Some(FaultKind::UnknownNode));
-        };
-        if !self.is_in_order(frame) {
-            return Ok(Some(FaultKind::Order));
-        }
-        if !self.can_boot(node) {
-            return Ok(Some(FaultKind::TooMany));
-        }
-        let fault = self.push_act(frame, node, Act::On)?;
+        let (frame, node) = self.told_node(frame, id)?;
+        refuse_unless(self.can_boot(node), FaultKind::TooMany)?;
+        self.push_act(frame, node, Act::On)?;
         self.boot(node);
-        Ok(fault)
+        Ok(())
     }
 
-    fn add_off(&mut self, frame: u64, id: u64) -> Result<Option<FaultKind>, Memory>
-        ensures fault { IfOk result (λ k. k ≡ line_fault self.old (Off frame id)) }
-        ensures added { result ≡ Ok None → self.new ≡ line_added self.old (Off frame id) }
+    fn add_off(&mut self, frame: u64, id: u64) -> Result<(), Refusal>
+        ensures fault { Refuses result (line_fault self.old (Off frame id)) }
+        ensures added { OnOk result (self.new ≡ line_added self.old (Off frame id)) }
     {
-        let Some(frame) = self.frame(frame) else {
-            return Ok(Some(FaultKind::Range));
-        };
-        if node_id(id).is_none() {
-            return Ok(Some(FaultKind::Range));
-        }
-        let Some(node) = self.network.node(id) else {
-            return Ok(Some(FaultKind::UnknownNode));
-        };
-        if !self.is_in_order(frame) {
-            return Ok(Some(FaultKind::Order));
-        }
-        let fault = self.push_act(frame, node, Act::Off)?;
+        let (frame, node) = self.told_node(frame, id)?;
+        self.push_act(frame, node, Act::Off)?;
         self.on[usize::from(node.number())] = false;
-        Ok(fault)
+        Ok(())
     }
 
-    fn add_stream(
-        &mut self,
-        frame: u64,
-        id: u64,
-        stream: u64,
-        interval: u64,
-    ) -> Result<Option<FaultKind>, Memory>
-        ensures fault { IfOk result (λ k. k ≡ line_fault self.old (Stream frame id stream interval)) }
-        ensures added { result ≡ Ok None → self.new ≡ line_added self.old (Stream frame id stream interval) }
+    fn add_stream(&mut self, frame: u64, id: u64, stream: u64, interval: u64) -> Result<(), Refusal>
+        ensures fault { Refuses result (line_fault self.old (Stream frame id stream interval)) }
+        ensures added { OnOk result (self.new ≡ line_added self.old (Stream frame id stream interval)) }
     {
-        let Some(frame) = self.frame(frame) else {
-            return Ok(Some(FaultKind::Range));
-        };
-        if node_id(id).is_none() || stream > 3 || interval < 1 || interval > 120 {
-            return Ok(Some(FaultKind::Range));
-        }
-        let Some(node) = self.network.node(id) else {
-            return Ok(Some(FaultKind::UnknownNode));
-        };
-        if !self.is_in_order(frame) {
-            return Ok(Some(FaultKind::Order));
-        }
+        refuse_unless(
+            stream <= 3 && 1 <= interval && interval <= 120,
+            FaultKind::Range,
+        )?;
+        let (frame, node) = self.told_node(frame, id)?;
         self.push_act(frame, node, Act::Declare(stream as u8, interval as u8))
     }
 
-    fn add_leave(&mut self, frame: u64, id: u64, stream: u64) -> Result<Option<FaultKind>, Memory>
-        ensures fault { IfOk result (λ k. k ≡ line_fault self.old (Leave frame id stream)) }
-        ensures added { result ≡ Ok None → self.new ≡ line_added self.old (Leave frame id stream) }
+    fn add_leave(&mut self, frame: u64, id: u64, stream: u64) -> Result<(), Refusal>
+        ensures fault { Refuses result (line_fault self.old (Leave frame id stream)) }
+        ensures added { OnOk result (self.new ≡ line_added self.old (Leave frame id stream)) }
     {
-        let Some(frame) = self.frame(frame) else {
-            return Ok(Some(FaultKind::Range));
-        };
-        if node_id(id).is_none() || stream > 3 {
-            return Ok(Some(FaultKind::Range));
-        }
-        let Some(node) = self.network.node(id) else {
-            return Ok(Some(FaultKind::UnknownNode));
-        };
-        if !self.is_in_order(frame) {
-            return Ok(Some(FaultKind::Order));
-        }
+        refuse_unless(stream <= 3, FaultKind::Range)?;
+        let (frame, node) = self.told_node(frame, id)?;
         self.push_act(frame, node, Act::Leave(stream as u8))
     }
 
@@ -313,28 +244,17 @@ impl ScenarioDraft {
         id: u64,
         stream: u64,
         payload: Option<Payload>,
-    ) -> Result<Option<FaultKind>, Memory>
-        ensures fault { IfOk result (λ k. k ≡ line_fault self.old (Put frame id stream payload)) }
-        ensures added { result ≡ Ok None → self.new ≡ line_added self.old (Put frame id stream payload) }
+    ) -> Result<(), Refusal>
+        ensures fault { Refuses result (line_fault self.old (Put frame id stream payload)) }
+        ensures added { OnOk result (self.new ≡ line_added self.old (Put frame id stream payload)) }
     {
-        let Some(frame) = self.frame(frame) else {
-            return Ok(Some(FaultKind::Range));
-        };
-        if node_id(id).is_none() || stream > 3 {
-            return Ok(Some(FaultKind::Range));
-        }
-        let Some(payload) = payload else {
-            return Ok(Some(FaultKind::Range));
-        };
-        if payload.bytes().len() > usize::from(self.profile.payload_max()) {
-            return Ok(Some(FaultKind::Range));
-        }
-        let Some(node) = self.network.node(id) else {
-            return Ok(Some(FaultKind::UnknownNode));
-        };
-        if !self.is_in_order(frame) {
-            return Ok(Some(FaultKind::Order));
-        }
+        let payload = payload.ok_or(FaultKind::Range)?;
+        let longest = usize::from(self.profile.payload_max());
+        refuse_unless(
+            stream <= 3 && payload.bytes().len() <= longest,
+            FaultKind::Range,
+        )?;
+        let (frame, node) = self.told_node(frame, id)?;
         self.push_act(frame, node, Act::Put(stream as u8, payload))
     }
 
@@ -345,47 +265,28 @@ impl ScenarioDraft {
         step: u64,
         from: u64,
         to: u64,
-    ) -> Result<Option<FaultKind>, Memory>
-        ensures fault { IfOk result (λ k. k ≡ line_fault self.old (Lose frame slot step from to)) }
-        ensures added { result ≡ Ok None → self.new ≡ line_added self.old (Lose frame slot step from to) }
+    ) -> Result<(), Refusal>
+        ensures fault { Refuses result (line_fault self.old (Lose frame slot step from to)) }
+        ensures added { OnOk result (self.new ≡ line_added self.old (Lose frame slot step from to)) }
     {
-        let Some((frame, slot, step)) = self.step(frame, slot, step) else {
-            return Ok(Some(FaultKind::Range));
-        };
-        if !are_two_ids(from, to) {
-            return Ok(Some(FaultKind::Range));
-        }
-        let Some((from, to)) = self.network.two_nodes(from, to) else {
-            return Ok(Some(FaultKind::UnknownNode));
-        };
-        if self.frames.is_none() {
-            return Ok(Some(FaultKind::Order));
-        }
+        let (frame, slot, step) = self.step(frame, slot, step).ok_or(FaultKind::Range)?;
+        refuse_unless(are_two_ids(from, to), FaultKind::Range)?;
+        let (from, to) = self
+            .network
+            .two_nodes(from, to)
+            .ok_or(FaultKind::UnknownNode)?;
+        refuse_unless(self.frames.is_some(), FaultKind::Order)?;
         self.network.lose(frame, slot, step, from, to)
     }
 
-    fn add_cut(
-        &mut self,
-        frame: u64,
-        slot: u64,
-        step: u64,
-        id: u64,
-    ) -> Result<Option<FaultKind>, Memory>
-        ensures fault { IfOk result (λ k. k ≡ line_fault self.old (Cut frame slot step id)) }
-        ensures added { result ≡ Ok None → self.new ≡ line_added self.old (Cut frame slot step id) }
+    fn add_cut(&mut self, frame: u64, slot: u64, step: u64, id: u64) -> Result<(), Refusal>
+        ensures fault { Refuses result (line_fault self.old (Cut frame slot step id)) }
+        ensures added { OnOk result (self.new ≡ line_added self.old (Cut frame slot step id)) }
     {
-        let Some((frame, slot, step)) = self.step(frame, slot, step) else {
-            return Ok(Some(FaultKind::Range));
-        };
-        if node_id(id).is_none() {
-            return Ok(Some(FaultKind::Range));
-        }
-        let Some(node) = self.network.node(id) else {
-            return Ok(Some(FaultKind::UnknownNode));
-        };
-        if self.frames.is_none() {
-            return Ok(Some(FaultKind::Order));
-        }
+        let (frame, slot, step) = self.step(frame, slot, step).ok_or(FaultKind::Range)?;
+        refuse_unless(is_id(id), FaultKind::Range)?;
+        let node = self.network.node(id).ok_or(FaultKind::UnknownNode)?;
+        refuse_unless(self.frames.is_some(), FaultKind::Order)?;
         self.network.cut(frame, slot, step, node)
     }
 
@@ -396,23 +297,31 @@ impl ScenarioDraft {
         step: u64,
         at: u64,
         from: u64,
-    ) -> Result<Option<FaultKind>, Memory>
-        ensures fault { IfOk result (λ k. k ≡ line_fault self.old (Capture frame slot step at from)) }
-        ensures added { result ≡ Ok None → self.new ≡ line_added self.old (Capture frame slot step at from) }
+    ) -> Result<(), Refusal>
+        ensures fault { Refuses result (line_fault self.old (Capture frame slot step at from)) }
+        ensures added { OnOk result (self.new ≡ line_added self.old (Capture frame slot step at from)) }
     {
-        let Some((frame, slot, step)) = self.step(frame, slot, step) else {
-            return Ok(Some(FaultKind::Range));
-        };
-        if !are_two_ids(at, from) {
-            return Ok(Some(FaultKind::Range));
-        }
-        let Some((at, from)) = self.network.two_nodes(at, from) else {
-            return Ok(Some(FaultKind::UnknownNode));
-        };
-        if self.frames.is_none() {
-            return Ok(Some(FaultKind::Order));
-        }
+        let (frame, slot, step) = self.step(frame, slot, step).ok_or(FaultKind::Range)?;
+        refuse_unless(are_two_ids(at, from), FaultKind::Range)?;
+        let (at, from) = self
+            .network
+            .two_nodes(at, from)
+            .ok_or(FaultKind::UnknownNode)?;
+        refuse_unless(self.frames.is_some(), FaultKind::Order)?;
         self.network.capture(frame, slot, step, at, from)
+    }
+
+    // The frame and the node of a line of the script, where nodes are told something.
+    fn told_node(&self, frame: u64, id: u64) -> Result<(u32, NodeId), FaultKind>
+        ensures fault { RefusesBy result (first_fault ((is_frame self.now.frames frame && is_id_of id, Range)
+            ∷ (knows self.now.network.nodes id, UnknownNode) ∷ (in_script_order self.now frame, Order) ∷ [])) }
+        ensures value { IfOk result (λ told. told ≡ (frame, id)) }
+    {
+        let frame = self.frame(frame).ok_or(FaultKind::Range)?;
+        refuse_unless(is_id(id), FaultKind::Range)?;
+        let node = self.network.node(id).ok_or(FaultKind::UnknownNode)?;
+        refuse_unless(self.is_in_order(frame), FaultKind::Order)?;
+        Ok((frame, node))
     }
 
     // The frame of that number, which is below the number of frames once that is known.
@@ -474,17 +383,13 @@ impl ScenarioDraft {
     }
 
     // One line of the script more, if there is room.
-    fn push_act(&mut self, frame: u32, node: NodeId, act: Act) -> Result<Option<FaultKind>, Memory>
-        ensures fault { IfOk result (λ k. k ≡ first_fault ((has_script_room self.old.network, TooMany) ∷ [])) }
-        ensures added { result ≡ Ok None → self.new ≡ with_act self.old frame node act }
-        ensures same_on { self.new.on ≡ self.old.on }
-        ensures same_boots { self.new.boots ≡ self.old.boots }
+    fn push_act(&mut self, frame: u32, node: NodeId, act: Act) -> Result<(), Refusal>
+        ensures fault { Refuses result (first_fault ((has_script_room self.old.network, TooMany) ∷ [])) }
+        ensures added { OnOk result (self.new ≡ with_act self.old frame node act) }
     {
-        let fault = self.network.count_script_line();
-        match self.script.push(ScriptLine { frame, node, act }) {
-            Ok(()) => Ok(fault),
-            Err(_) => Err(Memory),
-        }
+        self.network.count_script_line()?;
+        self.script.push(ScriptLine { frame, node, act })?;
+        Ok(())
     }
 }
 
@@ -492,7 +397,6 @@ impl ScenarioDraft {
 fn last_tick(profile: &Profile) -> u64
     ensures { result ≡ last_tick_of profile.now }
 {
-    let _made = profile.contend();
     4_096 * profile.frame()
 }
 

@@ -10,7 +10,7 @@ pub loop-rest-preserved : goal.loop-rest-preserved
 loop-rest-preserved c =
     let l = c.loop-rest in
     let cut = c.first_line.ensures.cut in
-    let read = rw c.in-Ok-None.field-0-is at c.in-Ok-None.ensures in
+    let read = c.in-Ok.ensures in
     let counted = l.invariant.counted ∙ ap (λ n. l.count + length n) cut in
     record {
       said = l.invariant.said ∙ ap (λ ls. after_lines after_line (l.count + 1) l.draft ls) cut ∙ one_line_more after_line (l.count + 1) l.draft c.read.new.self c.first_line.result.0.now (lines c.first_line.result.1.now) read;
