@@ -1,10 +1,8 @@
 -- With one initiator a node accepts in the step of the shortest relay path to it.
 use Rattle.std.proofs.Common.{◌≡◌, ℕ, zero, suc, ◌<◌, ◌≤◌, ◌↔◌, List, [], ◌∷◌, true, false, inl, inr, Option, Some, None, refl, sym, ◌∙◌, ap, subst, arith, length}
 use Rattle.std.proofs.lemmas.Bool.{or_from, ne_eqb}
-use Rattle.bus_model.specs.Flooding.{Setting, moment, has, Hears}
-use Rattle.bus_model.proofs.OneInitiator.{Reached}
-use Rattle.bus_model.proofs.OneInitiator.{last, sender, hears_reached, has_one, IsFirst}
-use Rattle.bus_model.specs.Flooding.{Accepts, STEPS}
+use Rattle.bus_model.specs.Flooding.{Setting, moment, has, Hears, Accepts, STEPS}
+use Rattle.bus_model.proofs.OneInitiator.{Reached, last, sender, hears_reached, has_one, IsFirst}
 use Rattle.bus_model.specs.RelayPaths.{IsPath, HasPath, IsLeast}
 use Rattle.bus_model.proofs.Options.{inspect}
 use Rattle.bus_model.proofs.FirstHearings.{first_hearing, none_yet, heard_in_time}

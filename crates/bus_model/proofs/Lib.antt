@@ -4,3 +4,13 @@ pub mod FirstHearings
 pub mod LeastPaths
 pub mod SendingCounts
 mod WorkedFloods
+mod WorkedBuses
+pub mod ReceivedByPaths
+pub mod ReceivedInRounds
+pub mod NumberedStreams
+pub mod ListsInTurn
+pub mod NumbersKept
+pub mod OtherRanks
+pub mod NumbersSaid
+pub mod OrderedDeliveries
+pub mod ReachByDistance

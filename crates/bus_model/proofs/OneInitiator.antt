@@ -1,10 +1,9 @@
 -- A flood with one initiator: each origin is that one, and who hears is reached by a path.
-use Rattle.std.proofs.Common.{◌≡◌, ℕ, zero, suc, ◌+◌, ◌<◌, ◌≤◌, List, [], ◌∷◌, Bool, true, false, not, ◌&&◌, ◌||◌, if◌then◌else◌, inl, inr, ⊎_elim, eq-eqb, Option, Some, None, is_some, is_none, refl, sym, ◌∙◌, ap, subst, arith, ◌↔◌, filter_map, ◌==◌, nat_lt, cond}
-use Rattle.std.proofs.lemmas.Bool.Decides.{nat_tests}
-use Rattle.std.proofs.lemmas.Bool.{cases_eq, or_right, or_left, or_from, not_from_false, ne_eqb, cond-true, cond-false, cond_both, or_cases, eqb-true, and_parts, and_from, false≢true, not-true, ltb-true, lt-ltb}
+use Rattle.std.proofs.Common.{◌≡◌, ℕ, zero, suc, ◌+◌, ◌<◌, List, [], ◌∷◌, Bool, true, false, not, ◌&&◌, ◌||◌, if◌then◌else◌, inl, inr, ⊎_elim, eq-eqb, Option, Some, None, is_some, is_none, refl, sym, ◌∙◌, ap, subst, filter_map, ◌==◌, nat_lt}
+use Rattle.std.proofs.lemmas.Bool.{cases_eq, or_right, or_left, or_from, not_from_false, ne_eqb, cond_both, or_cases, eqb-true, and_parts, and_from, false≢true, ltb-true, lt-ltb}
 use Rattle.std.specs.List.{list_any, list_all, cons_option}
 use Rattle.std.specs.Option.{option_and_then}
-use Rattle.bus_model.specs.Flooding.{Setting, Moment, STEPS, has, offer, candidates, only_one, named, pick, agrees, may_hear, takes, hears, first_heard, next, beginning, moment, Hears}
+use Rattle.bus_model.specs.Flooding.{Setting, Moment, STEPS, has, only_one, named, pick, agrees, may_hear, hears, first_heard, moment, Hears}
 
 -- whether some node sends to v
 abbrev pub reaches : Setting → Moment → ℕ → ℕ → Bool

@@ -1,7 +1,7 @@
 -- How often a node has sent, and the steps in which it did.
-use Rattle.std.proofs.Common.{◌≡◌, ℕ, suc, ◌+◌, List, [], ◌∷◌, Bool, cond, if◌then◌else◌, is_some, sum_by, count_by, refl, ◌∙◌, ap, arith}
+use Rattle.std.proofs.Common.{◌≡◌, ℕ, suc, ◌+◌, List, [], ◌∷◌, Bool, if◌then◌else◌, is_some, sum_by, count_by, refl, arith}
 use Rattle.std.proofs.lemmas.List.Sums.{sum_by-cons}
-use Rattle.bus_model.specs.Flooding.{Setting, Moment, moment, STEPS, steps, sendings}
+use Rattle.bus_model.specs.Flooding.{Setting, Moment, moment, STEPS, steps}
 
 -- the sendings of these nodes before a step
 abbrev pub sent_so_far : Moment → List ℕ → ℕ

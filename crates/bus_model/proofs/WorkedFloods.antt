@@ -1,7 +1,5 @@
 -- Worked floods, computed from the definition.
-use Rattle.std.proofs.Common.{◌≡◌, ℕ, List, [], ◌∷◌, refl, Option, Some, None, Bool, true, false, ◌==◌, ◌||◌, ◌&&◌, not, ◌+◌}
-use Rattle.bus_rules.specs.FloodOutcome.{Outcome}
-use Rattle.link_trace.specs.Passes.{Lines}
+use Rattle.std.proofs.Common.{◌≡◌, ℕ, List, [], ◌∷◌, refl, Option, Some, None, Bool, true, false, ◌==◌, ◌||◌, ◌&&◌, ◌+◌}
 use Rattle.link_trace.specs.declared.lines.LinkLine.{LinkLine}
 use Rattle.link_trace.specs.declared.lines.LoseLine.{LoseLine}
 use Rattle.scenario_text.specs.FloodParts.{FloodParts}

@@ -1,4 +1,5 @@
-ghost use Rattle.std.specs.Prelude.{◌≡◌, [], ◌∷◌, ℕ, suc, true, Some, ◌↔◌, ◌<◌};
+ghost use Rattle.std.specs.Prelude.{◌≡◌, [], ◌∷◌, ℕ, suc, Bool, true, Some, ◌↔◌, ◌<◌, ◌≤◌};
+ghost use Rattle.bus_model.specs.Distances.{IsDistance};
 ghost use Rattle.bus_model.specs.Flooding.{Setting, Hears, Accepts, has, accepted, STEPS};
 ghost use Rattle.bus_model.specs.RelayPaths.{HasPath, IsLeast};
 
@@ -17,4 +18,13 @@ pub fn accepts_by_the_least_relay_path()
         → Accepts s v start k ↔ IsLeast s start (suc k) v }
     ensures some { (s : Setting) (start : ℕ) → s.initiators ≡ start ∷ [] → has s.everyone start ≡ true → (v : ℕ) → has s.everyone v ≡ true → (v ≡ start → ⊥)
         → ((k : ℕ) × Accepts s v start k) ↔ ((m : ℕ) × HasPath s start m v) }
+{}
+
+/// With one initiator, where each link among those that take part passes in all steps or in none, a listener accepts
+/// exactly where its distance by these links is at most 12, in the step before that number: however often nodes may send.
+pub fn accepts_by_distance()
+    ensures { (s : Setting) (start : ℕ) (link : ℕ → ℕ → Bool) → s.initiators ≡ start ∷ [] → has s.everyone start ≡ true → 1 ≤ s.limit
+        → ((k u v : ℕ) → k < STEPS → has s.everyone u ≡ true → has s.everyone v ≡ true → s.passes k u v ≡ link u v)
+        → (k v : ℕ) → has s.everyone v ≡ true → (v ≡ start → ⊥)
+        → Accepts s v start k ↔ (IsDistance link s.everyone start (suc k) v × (suc k ≤ STEPS)) }
 {}
