@@ -14,7 +14,8 @@ use Rattle.scenario_text.specs.ScenarioParts.{ScenarioParts}
 use Rattle.scenario_text.specs.declared.script.Act.{Act}
 use Rattle.scenario_text.specs.declared.script.Act.TheVariants.{On, Off as SwitchOff, Declare, Leave, Put}
 use Rattle.scenario_text.specs.declared.script.ScriptLine.{ScriptLine}
-use Rattle.bus_rules.specs.Streams.{Streams, drops, put}
+use Rattle.bus_rules.specs.Streams.{Streams, declared, left, put}
+use Rattle.bus_rules.specs.States.{refuses, queues}
 use Rattle.bus_rules.specs.Cores.{Setup}
 use Rattle.node_core.specs.Nodes.{Node, rebooted}
 use Rattle.node_core.specs.Rows.{row, at_alarm}
@@ -22,7 +23,7 @@ use Rattle.node_core.specs.Runs.{node_after, orders_by, with_streams}
 use Rattle.node_core.specs.declared.stage.Stage.{Stage}
 use Rattle.node_core.specs.declared.stage.Stage.TheVariants.{Idle, Scanning, AwaitFrame, AwaitSlot, InWindow}
 use Rattle.air_log.specs.Devices.{Device, Power, PowerOff, PowerOn, Listening, Ordered, obeyed, moved, stepped, event, event_by, silenced, tunes, listens_to}
-use Rattle.air_log.specs.ScriptedDevices.{after_act, after_line, dropped, with_new_streams}
+use Rattle.air_log.specs.ScriptedDevices.{after_act, after_line, dropped, with_new_core}
 use Rattle.air_log.specs.Trails.{Reception, run_end, setup_of, lines_at, scripted, ending_at, hears, heard, ended_by, ended, is_due, alarms, alarmed, before_start, begun_by, starts, before_tick}
 use Rattle.air_log.proofs.AlarmRows.{IsRoomy, roomy, Waits, Goes, GoesBy, alarm_by, alarm_after, progress, most, in_reach, boot_goes, heard_goes, sent_goes, alarm_goes, Rises}
 
@@ -87,12 +88,12 @@ module _ (s : Setup) (L : ℕ → ℕ) (t : ℕ) where
     act_sound frame d SwitchOff (PowerOff boots) at sound = rw at sound
     act_sound frame d SwitchOff (PowerOn n) at sound = refl
     act_sound frame d (Declare i interval) (PowerOff boots) at sound = rw at sound
-    act_sound frame d (Declare i interval) (PowerOn n) at sound = with_streams_goes n d.alarm _ sound
+    act_sound frame d (Declare i interval) (PowerOn n) at sound = with_streams_goes n d.alarm (declared i interval n.core.streams) sound
     act_sound frame d (Leave i) (PowerOff boots) at sound = rw at sound
-    act_sound frame d (Leave i) (PowerOn n) at sound = with_streams_goes n d.alarm _ sound
+    act_sound frame d (Leave i) (PowerOn n) at sound = with_streams_goes n d.alarm (left i n.core.streams) sound
     act_sound frame d (Put i payload) (PowerOff boots) at sound = rw at sound
     act_sound frame d (Put i payload) (PowerOn n) at sound =
-        cond_both (drops n.core.streams i) (dropped s.id frame i d) (with_new_streams d n (put i payload n.core.streams)) Sound (λ is. rw at sound) (λ is. with_streams_goes n d.alarm (put i payload n.core.streams) sound)
+        cond_both (refuses i n.core) (dropped s.id frame i d) (with_new_core d n (queues i payload n.core)) Sound (λ is. rw at sound) (λ is. with_streams_goes n d.alarm (put i payload n.core.streams) sound)
 
     lines_sound : (ls : List ScriptLine) (d : Device) → Sound d → Sound (fold (after_line L s t) d ls)
     lines_sound [] d sound = sound

@@ -15,13 +15,13 @@ use Rattle.scenario_text.specs.ScenarioParts.{ScenarioParts}
 use Rattle.scenario_text.specs.declared.script.Act.{Act}
 use Rattle.scenario_text.specs.declared.script.Act.TheVariants.{On, Off as SwitchOff, Declare, Leave, Put}
 use Rattle.scenario_text.specs.declared.script.ScriptLine.{ScriptLine}
-use Rattle.bus_rules.specs.Streams.{declared, left}
+use Rattle.bus_rules.specs.States.{declares, leaves}
 use Rattle.bus_rules.specs.Cores.{Setup}
 use Rattle.node_core.specs.Nodes.{Node, rebooted}
 use Rattle.node_core.specs.Rows.{row}
 use Rattle.node_core.specs.Runs.{orders_by}
 use Rattle.air_log.specs.Devices.{Device, Power, PowerOff, PowerOn, Ordered, at_rest, silenced, listens_to, retuned, moved}
-use Rattle.air_log.specs.ScriptedDevices.{dropped, switched_off, with_new_streams, put_or_dropped}
+use Rattle.air_log.specs.ScriptedDevices.{dropped, switched_off, with_new_core, put_or_dropped}
 use Rattle.air_log.specs.Trails.{Reception, setup_of, frame_start, lines_at, ending_at, is_due, alarms, begun, tick, before_tick}
 use Rattle.air_log.specs.Ahead.{NextDue}
 use Rattle.air_log.proofs.Elements.{contains_cases, not_in_none}
@@ -51,9 +51,9 @@ module _ (D : ℕ → ℕ) (clock : ℕ → ℕ) where
   after_act s t frame d SwitchOff (PowerOff boots) = d
   after_act s t frame d SwitchOff (PowerOn n) = switched_off s.id t n d
   after_act s t frame d (Declare i interval) (PowerOff boots) = d
-  after_act s t frame d (Declare i interval) (PowerOn n) = with_new_streams d n (declared i interval n.core.streams)
+  after_act s t frame d (Declare i interval) (PowerOn n) = with_new_core d n (declares i interval n.core)
   after_act s t frame d (Leave i) (PowerOff boots) = d
-  after_act s t frame d (Leave i) (PowerOn n) = with_new_streams d n (left i n.core.streams)
+  after_act s t frame d (Leave i) (PowerOn n) = with_new_core d n (leaves i n.core)
   after_act s t frame d (Put i payload) (PowerOff boots) = dropped s.id frame i d
   after_act s t frame d (Put i payload) (PowerOn n) = put_or_dropped s frame i payload d n
 

@@ -1,7 +1,9 @@
 -- Elements of lists.
-use Rattle.std.proofs.Common.{◌≡◌, suc, Option, Some, None, filter_map, ◌∙◌, ap, List, [], ◌∷◌, inl, inr, refl, subst, arith, map}
+use Rattle.std.proofs.Common.{◌≡◌, ℕ, suc, ◌+◌, ◌<◌, Bool, true, Option, Some, None, filter, filter_map, reverse, take, length, get_or, ◌∙◌, sym, ap, List, [], ◌∷◌, ◌++◌, inl, inr, refl, subst, arith, map}
 use Rattle.std.specs.Prelude.{Contains, ◌⊎◌, ◌≢◌, AllPairs}
 use Rattle.std.specs.List.{cons_option}
+use Rattle.std.proofs.lemmas.Bool.{cond_both, cond-true}
+use Rattle.std.proofs.lemmas.List.{reverse-append, map_more}
 use Rattle.std.proofs.lemmas.List.Elements.{Contains-append_cases, Contains-append_left, Contains-append_right, Contains-push, Contains-push_cases}
 
 pub not_in_none : {X : Type 0} (x : X) → Contains [] x → ⊥
@@ -79,3 +81,36 @@ filter_distinct {X = X} {Y = Y} g tells (x ∷ xs) all = by_cases (g x) refl (fi
     by_cases : (c : Option Y) → g x ≡ c → Distinct (filter_map g xs) → Distinct (cons_option c (filter_map g xs))
     by_cases None at rest = rest
     by_cases (Some y) at rest = (λ there. twice y at (filter_from g xs y there), rest)
+
+-- a push of what a map gives at the next place
+pub map_pushed : {X Y : Type 0} (g : X → Y) (xs : List X) (i : ℕ) (x : X) (items : List Y) (y : Y) → i < length xs → x ≡ get_or xs i x → items ≡ map g (take i xs) → y ≡ g x → items ++ y ∷ [] ≡ map g (take (i + 1) xs)
+map_pushed g xs i x items y below at is value =
+    ap (λ (l : List _). l ++ y ∷ []) is ∙ ap (λ (z : _). map g (take i xs) ++ z ∷ []) (value ∙ ap g at) ∙ sym (map_more g xs i x below)
+
+-- what a filter takes, and the other way round
+pub in_filtered : {X : Type 0} (test : X → Bool) (xs : List X) (x : X) → Contains xs x → test x ≡ true → Contains (filter test xs) x
+in_filtered test [] x there is = absurd (not_in_none x there)
+in_filtered {X} test (y ∷ xs) x there is =
+    elim (contains_cases y xs x there) [
+      | inl same ↦ subst (λ (l : List X). Contains l x) (sym (cond-true (test y) (y ∷ filter test xs) (filter test xs) (ap test same ∙ is))) (subst (Contains (y ∷ filter test xs)) same (contains_head y (filter test xs)))
+      | inr rest ↦ cond_both (test y) (y ∷ filter test xs) (filter test xs) (λ (l : List X). Contains l x) (λ at. contains_tail y (filter test xs) x (in_filtered test xs x rest is)) (λ not. in_filtered test xs x rest is)
+    ]
+
+reversed : {X : Type 0} (y : X) (xs : List X) → reverse (y ∷ xs) ≡ reverse xs ++ y ∷ []
+reversed y xs = reverse-append (y ∷ []) xs
+
+pub in_reverse : {X : Type 0} (xs : List X) (x : X) → Contains xs x → Contains (reverse xs) x
+in_reverse [] x there = absurd (not_in_none x there)
+in_reverse {X} (y ∷ xs) x there =
+    subst (λ (l : List X). Contains l x) (sym (reversed y xs)) (elim (contains_cases y xs x there) [
+      | inl same ↦ subst (Contains (reverse xs ++ y ∷ [])) same (Contains-push (reverse xs) y)
+      | inr rest ↦ Contains-append_left (reverse xs) (y ∷ []) x (in_reverse xs x rest)
+    ])
+
+pub from_reverse : {X : Type 0} (xs : List X) (x : X) → Contains (reverse xs) x → Contains xs x
+from_reverse [] x there = absurd (not_in_none x there)
+from_reverse {X} (y ∷ xs) x there =
+    elim (Contains-push_cases (reverse xs) y x (subst (λ (l : List X). Contains l x) (reversed y xs) there)) [
+      | inl rest ↦ contains_tail y xs x (from_reverse xs x rest)
+      | inr same ↦ subst (Contains (y ∷ xs)) same (contains_head y xs)
+    ]

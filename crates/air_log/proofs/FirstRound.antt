@@ -1,6 +1,6 @@
 -- The worked trail is computed.
 use Rattle.std.proofs.Common.{◌≡◌, ℕ, List, [], ◌∷◌, true, refl, ap, sym, subst}
-use Rattle.schedule_codec.specs.OwnerLists.{least}
+use Rattle.lwb_base.specs.Messages.{least}
 use Rattle.schedule_codec.specs.Packing.{digits, number}
 use Rattle.schedule_codec.specs.Reading.{schedule_of, asks_in}
 use Rattle.bus_rules.specs.Streams.{schedule_heard}

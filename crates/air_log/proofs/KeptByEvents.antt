@@ -9,13 +9,13 @@ use Rattle.scenario_text.specs.ScenarioParts.{ScenarioParts}
 use Rattle.scenario_text.specs.declared.script.Act.{Act}
 use Rattle.scenario_text.specs.declared.script.Act.TheVariants.{On, Off, Declare, Leave, Put}
 use Rattle.scenario_text.specs.declared.script.ScriptLine.{ScriptLine}
-use Rattle.bus_rules.specs.Streams.{drops, put}
+use Rattle.bus_rules.specs.States.{refuses, queues}
 use Rattle.bus_rules.specs.Cores.{Setup}
 use Rattle.node_core.specs.Nodes.{Node, rebooted}
 use Rattle.node_core.specs.Runs.{orders_by}
 use Rattle.node_core.specs.Rows.{Stepped, row}
 use Rattle.air_log.specs.Devices.{Device, Power, PowerOff, PowerOn, obeyed, moved, event, event_by, silenced}
-use Rattle.air_log.specs.ScriptedDevices.{after_act, after_line, dropped, with_new_streams}
+use Rattle.air_log.specs.ScriptedDevices.{after_act, after_line, dropped, with_new_core}
 use Rattle.air_log.specs.Trails.{Reception, setup_of, lines_at, scripted, ending_at, hears, heard, ended_by, ended, is_due, alarms, alarmed, before_start}
 
 -- at tick t. Neither the power nor what is set or runs matters
@@ -50,7 +50,7 @@ module _ (P : Device → Type 0) (clock : ℕ → ℕ) (s : Setup) (t : ℕ) (ke
   by_act frame d (Leave i) (PowerOn n) holds = kept.powered d _ holds
   by_act frame d (Put i payload) (PowerOff boots) holds = kept.dropping frame i d holds
   by_act frame d (Put i payload) (PowerOn n) holds =
-      cond_both (drops n.core.streams i) (dropped s.id frame i d) (with_new_streams d n (put i payload n.core.streams)) P (λ is. kept.dropping frame i d holds) (λ is. kept.powered d _ holds)
+      cond_both (refuses i n.core) (dropped s.id frame i d) (with_new_core d n (queues i payload n.core)) P (λ is. kept.dropping frame i d holds) (λ is. kept.powered d _ holds)
 
   by_lines : (ls : List ScriptLine) (d : Device) → P d → P (fold (after_line clock s t) d ls)
   by_lines [] d holds = holds

@@ -11,7 +11,7 @@ use Rattle.bus_rules.specs.HostPlans.{host_plan}
 use Rattle.bus_rules.specs.Tuning.{rank_of, next_tune}
 use Rattle.bus_rules.specs.Cores.{Core, Setup, as_host, begins_host, booted, empty_plan, is_fresh, frame_ended, opening_accepted, closing_accepted, schedule_accepted}
 use Rattle.bus_rules.specs.Slots.{Opened, Message, ScheduleOf, DataOf, RequestOf, hosts_now, opened, host_closes, silent, owner_heard, slot_heard, closed}
-use Rattle.node_core.specs.Said.{message_of}
+use Rattle.lwb_member.specs.Said.{message_of}
 use Rattle.node_core.specs.Windows.{Window}
 use Rattle.node_core.specs.Rows.{accepted_in}
 use Rattle.glossy_relay.specs.Relaying.{accepted_of}

@@ -19,7 +19,7 @@ use Rattle.bus_rules.specs.Slots.{owner_heard, ScheduleOf, DataOf, RequestOf}
 use Rattle.lwb_packets.specs.Ranges.{between}
 use Rattle.glossy_relay.specs.Relaying.{slot_of}
 use Rattle.stream_table.proofs.Order.{Keeps, Sifts, ascends_map, ascends_filter_map, ascends_filter, ascends_with}
-use Rattle.node_core.specs.Said.{data_in, request_in, message_of}
+use Rattle.lwb_member.specs.Said.{data_in, request_in, message_of}
 
 -- a code that stands in one entry at most
 none_at : (x : ℕ) (es : List Entry) → Above x es → sum_by (λ (e : Entry). cond (x == e.code) 1 0) es ≡ 0

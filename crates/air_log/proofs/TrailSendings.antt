@@ -71,7 +71,7 @@ module _ (s : ScenarioParts) (v : ℕ) where
   by_begun t d (Some o) all =
       cond_both (o.tick == t) (starts (setup_of s v) t o.packet d d.listening d.sending) d (λ (x : Device). Before (suc t) x.made.sent) (λ is. by_start t o.packet d d.listening d.sending all) (λ is. later t d.made.sent all)
 
-  at_tick : (clock : ℕ → ℕ) (hs : List Reception) (t : ℕ) → Before t (before_tick s v clock hs t).made.sent
+  pub at_tick : (clock : ℕ → ℕ) (hs : List Reception) (t : ℕ) → Before t (before_tick s v clock hs t).made.sent
   unfolding before_tick
   at_tick clock hs zero = (All-nil (IsSentBefore s v zero), λ i j d less within. absurd (omega (arith, within)))
   at_tick clock hs (suc t) =

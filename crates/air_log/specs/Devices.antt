@@ -1,5 +1,5 @@
 -- A node with its radio and its alarm: what an event does to it, and what it has made so far.
-use Rattle.std.specs.Prelude.{ℕ, List, [], ◌∷◌, ◌++◌, Bool, false, ◌&&◌, ◌==◌, nat_lt, if◌then◌else◌, Some, None, max, option_to_list, option_and_then, fold}
+use Rattle.std.specs.Prelude.{ℕ, List, [], ◌∷◌, ◌++◌, Bool, true, false, ◌&&◌, ◌==◌, nat_lt, if◌then◌else◌, Some, None, max, option_to_list, option_and_then, fold}
 use Rattle.std.specs.declared.option.Option.{Option}
 use Rattle.lwb_base.specs.declared.event.Event.{Event}
 use Rattle.lwb_base.specs.declared.order.Order.{Order}
@@ -10,6 +10,7 @@ use Rattle.radio_model.specs.OnAir.{Tuning}
 use Rattle.bus_rules.specs.declared.delivery.Delivery.{Delivery}
 use Rattle.bus_rules.specs.declared.delivery.DropLine.{DropLine}
 use Rattle.bus_rules.specs.Cores.{Setup}
+use Rattle.bus_rules.specs.States.{State, StateOff, StateOn}
 use Rattle.node_core.specs.Nodes.{Node}
 use Rattle.node_core.specs.Rows.{Stepped, row}
 use Rattle.node_core.specs.Runs.{node_after, orders_by}
@@ -19,6 +20,20 @@ use Rattle.air_log.specs.WindowLogs.{WindowLog, windows_after}
 pub data Power : Type 0 where
   PowerOff : (boots : ℕ) → Power
   PowerOn : (node : Node) → Power
+
+abbrev pub is_on : Power → Bool
+is_on (PowerOff boots) = false
+is_on (PowerOn n) = true
+
+-- what the bus has of it
+abbrev pub seen : Power → State
+seen (PowerOff boots) = StateOff boots
+seen (PowerOn n) = StateOn n.core
+
+-- whether a node is on, and how often it booted
+abbrev pub seen_power : Power → Bool × ℕ
+seen_power (PowerOff boots) = (false, boots)
+seen_power (PowerOn n) = (true, n.core.boot)
 
 -- the radio is on at the channel of a rank since a tick
 pub record Listening : Type 0 where

@@ -6,9 +6,9 @@ use Rattle.scenario_text.specs.declared.script.Act.{Act}
 use Rattle.scenario_text.specs.declared.script.Act.TheVariants.{On, Off, Declare, Leave, Put}
 use Rattle.scenario_text.specs.declared.script.ScriptLine.{ScriptLine}
 use Rattle.bus_rules.specs.declared.delivery.DropLine.{DropLine}
-use Rattle.bus_rules.specs.Streams.{drops}
+use Rattle.bus_rules.specs.States.{loses}
 use Rattle.air_log.specs.declared.entry.Entry.{Entry}
-use Rattle.air_log.specs.Devices.{Device, Power, PowerOff, PowerOn}
+use Rattle.air_log.specs.Devices.{Device, Power, seen}
 use Rattle.air_log.specs.ScriptedDevices.{after_line}
 use Rattle.air_log.specs.Trails.{setup_of, frame_start, before_tick}
 use Rattle.air_log.specs.Lawful.{heard_by}
@@ -29,8 +29,7 @@ drop_by l On power = None
 drop_by l Off power = None
 drop_by l (Declare i interval) power = None
 drop_by l (Leave i) power = None
-drop_by l (Put i payload) (PowerOff boots) = Some (record { frame = l.frame; node = l.node; stream = i })
-drop_by l (Put i payload) (PowerOn n) = if drops n.core.streams i then Some (record { frame = l.frame; node = l.node; stream = i }) else None
+drop_by l (Put i payload) power = if loses i (seen power) then Some (record { frame = l.frame; node = l.node; stream = i }) else None
 
 -- what these lines lose, where the others stand above them
 abbrev pub drops_below : ScenarioParts → (ℕ → ℕ → ℕ) → List Entry → List ScriptLine → List ScriptLine → List DropLine

@@ -23,6 +23,13 @@ tuning_in (Sent x) = None
 tuning_in (Heard h) = None
 tuning_in (Tuned t) = Some (record { rank = t.rank; node = t.node; start = t.start; end = t.end })
 
+-- the entry of a sending, and that of its hearing by v
+abbrev pub sent_entry : Sending → Entry
+sent_entry x = Sent (record { rank = x.rank; node = x.node; start = x.start; end = x.end; packet = x.packet })
+
+abbrev pub heard_entry : ℕ → Sending → Entry
+heard_entry v x = Heard (record { rank = x.rank; node = v; from = x.node; start = x.start; end = x.end; packet = x.packet })
+
 abbrev pub sendings_of : List Entry → List Sending
 sendings_of air = filter_map sending_in air
 

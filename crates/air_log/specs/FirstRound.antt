@@ -7,7 +7,8 @@ use Rattle.scenario_text.specs.declared.script.Act.TheVariants.{On}
 use Rattle.radio_model.specs.declared.sending.Sending.{Sending}
 use Rattle.radio_model.specs.OnAir.{Hearing, Tuning}
 use Rattle.air_log.specs.declared.entry.Entry.{Entry}
-use Rattle.air_log.specs.declared.entry.Entry.TheVariants.{Sent, Heard, Tuned}
+use Rattle.air_log.specs.declared.entry.Entry.TheVariants.{Tuned}
+use Rattle.air_log.specs.Entries.{sent_entry, heard_entry}
 use Rattle.air_log.specs.Devices.{Device}
 use Rattle.air_log.specs.Trails.{Reception, tune_of}
 use Rattle.air_log.specs.Charges.{windows_charge}
@@ -108,14 +109,11 @@ heard_in_round =
     ∷ record { node = 2; sending = sent_at 1 1348386304 1348423168 (closing_with 2) }
     ∷ []
 
-abbrev pub sent_entry : Sending → Entry
-sent_entry x = Sent (record { rank = x.rank; node = x.node; start = x.start; end = x.end; packet = x.packet })
-
-abbrev pub heard_entry : Hearing → Entry
-heard_entry h = Heard (record { rank = h.sending.rank; node = h.node; from = h.sending.node; start = h.sending.start; end = h.sending.end; packet = h.sending.packet })
+abbrev pub entry_of_hearing : Hearing → Entry
+entry_of_hearing h = heard_entry h.node h.sending
 
 abbrev pub tuned_entry : Tuning → Entry
 tuned_entry t = Tuned (record { rank = t.rank; node = t.node; start = t.start; end = t.end })
 
 abbrev pub first_round_log : List Entry
-first_round_log = map sent_entry sent_in_round ++ map heard_entry heard_in_round ++ map tuned_entry (tuned_by_host ++ tuned_by_other)
+first_round_log = map sent_entry sent_in_round ++ map entry_of_hearing heard_in_round ++ map tuned_entry (tuned_by_host ++ tuned_by_other)

@@ -17,3 +17,7 @@ pub mod Charges
 pub mod Lawful
 pub mod Deliveries
 pub mod Drops
+pub mod TunedTimes
+pub mod ClockLists
+pub mod DeviceStates
+pub mod DeviceShapes

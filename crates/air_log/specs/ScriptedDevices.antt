@@ -4,10 +4,9 @@ use Rattle.lwb_base.specs.declared.event.Event.TheVariants.{Boot}
 use Rattle.scenario_text.specs.declared.script.Act.{Act}
 use Rattle.scenario_text.specs.declared.script.Act.TheVariants.{On, Off, Declare, Leave, Put}
 use Rattle.scenario_text.specs.declared.script.ScriptLine.{ScriptLine}
-use Rattle.bus_rules.specs.Streams.{Streams, declared, left, put, drops}
-use Rattle.bus_rules.specs.Cores.{Setup}
+use Rattle.bus_rules.specs.Cores.{Core, Setup}
+use Rattle.bus_rules.specs.States.{declares, leaves, refuses, queues}
 use Rattle.node_core.specs.Nodes.{Node, rebooted}
-use Rattle.node_core.specs.Runs.{with_streams}
 use Rattle.air_log.specs.Devices.{Device, Power, PowerOff, PowerOn, event, silenced}
 
 -- a put of this frame that is lost
@@ -22,12 +21,12 @@ switched_on clock s t boots d = event clock s t Boot None (record d { power = Po
 abbrev pub switched_off : ℕ → ℕ → Node → Device → Device
 switched_off node t n d = record (silenced node t d) { power = PowerOff n.core.boot; alarm = None; ordered = None }
 
-abbrev pub with_new_streams : Device → Node → Streams → Device
-with_new_streams d n streams = record d { power = PowerOn (with_streams n streams) }
+abbrev pub with_new_core : Device → Node → Core → Device
+with_new_core d n core = record d { power = PowerOn (record n { core = core }) }
 
 abbrev pub put_or_dropped : Setup → ℕ → ℕ → List ℕ → Device → Node → Device
 put_or_dropped s frame i payload d n =
-    if drops n.core.streams i then dropped s.id frame i d else with_new_streams d n (put i payload n.core.streams)
+    if refuses i n.core then dropped s.id frame i d else with_new_core d n (queues i payload n.core)
 
 -- what is done at tick t, in this frame
 abbrev pub after_act : (ℕ → ℕ) → Setup → ℕ → ℕ → Device → Act → Power → Device
@@ -36,9 +35,9 @@ after_act clock s t frame d On (PowerOn n) = d
 after_act clock s t frame d Off (PowerOff boots) = d
 after_act clock s t frame d Off (PowerOn n) = switched_off s.id t n d
 after_act clock s t frame d (Declare i interval) (PowerOff boots) = d
-after_act clock s t frame d (Declare i interval) (PowerOn n) = with_new_streams d n (declared i interval n.core.streams)
+after_act clock s t frame d (Declare i interval) (PowerOn n) = with_new_core d n (declares i interval n.core)
 after_act clock s t frame d (Leave i) (PowerOff boots) = d
-after_act clock s t frame d (Leave i) (PowerOn n) = with_new_streams d n (left i n.core.streams)
+after_act clock s t frame d (Leave i) (PowerOn n) = with_new_core d n (leaves i n.core)
 after_act clock s t frame d (Put i payload) (PowerOff boots) = dropped s.id frame i d
 after_act clock s t frame d (Put i payload) (PowerOn n) = put_or_dropped s frame i payload d n
 

@@ -7,7 +7,7 @@ use Rattle.radio_model.specs.declared.sending.Sending.{Sending}
 use Rattle.scenario_text.specs.ScenarioParts.{ScenarioParts}
 use Rattle.scenario_text.specs.declared.script.ScriptLine.{ScriptLine}
 use Rattle.bus_rules.specs.declared.tune.Tune.{Tune}
-use Rattle.bus_rules.specs.Cores.{Setup, own_rank}
+use Rattle.bus_rules.specs.Cores.{Setup, setup_for}
 use Rattle.air_log.specs.Devices.{Device, Power, PowerOff, PowerOn, Listening, Ordered, at_rest, event, silenced}
 use Rattle.air_log.specs.ScriptedDevices.{after_line}
 
@@ -18,7 +18,7 @@ pub record Reception : Type 0 where
 
 -- what is fixed for the node of this id
 abbrev pub setup_of : ScenarioParts → ℕ → Setup
-setup_of s v = record { profile = s.profile; id = v; own = own_rank v s.hosts; ranks = length s.hosts; sends = s.sends }
+setup_of s v = setup_for s.profile s.hosts s.sends v
 
 -- the run ends at this tick
 abbrev pub run_end : ScenarioParts → ℕ
@@ -88,6 +88,16 @@ begun_by s t d (Some o) = if o.tick == t then starts s t o.packet d d.listening 
 
 abbrev pub begun : Setup → ℕ → Device → Device
 begun s t d = begun_by s t d d.ordered
+
+-- the sending that starts at t at a device, if one does
+abbrev pub starting_by : Setup → ℕ → Option Ordered → Option Listening → Option Sending → List Sending
+starting_by s t None l sending = []
+starting_by s t (Some o) None sending = []
+starting_by s t (Some o) (Some l) (Some x) = []
+starting_by s t (Some o) (Some l) None = if o.tick == t then sending_from s t o.packet l ∷ [] else []
+
+abbrev pub starting : Setup → ℕ → Device → List Sending
+starting s t d = starting_by s t d.ordered d.listening d.sending
 
 -- tick t: what comes before the alarms, what comes before the start of a sending, and the whole
 abbrev pub before_alarms : ScenarioParts → ℕ → (ℕ → ℕ) → List Reception → ℕ → Device → Device

@@ -36,10 +36,8 @@ impl Air {
         ensures ok { OnOk result (self.new ≡ self.old ++ e ∷ []) }
         ensures err { OnErr result (self.new ≡ self.old) }
     {
-        match self.entries.push(e) {
-            Ok(()) => Ok(()),
-            Err(_) => Err(Memory),
-        }
+        self.entries.push(e)?;
+        Ok(())
     }
 
     /// The number of entries.

@@ -2,6 +2,9 @@
 #![tactic(auto)]
 
 mod air;
+mod device;
+mod device_script;
+mod device_steps;
 mod entry;
 pub mod flood_law;
 mod line_writers;
@@ -9,6 +12,7 @@ mod printing;
 pub mod trail_laws;
 
 pub use air::Air;
+pub use device::Device;
 pub use entry::{Entry, HeardEntry, SentEntry, TunedEntry};
 pub use printing::text;
 

@@ -12,10 +12,7 @@ use std::alloc::{AllocError, Global};
 pub fn text(alloc: Global, a: &Air) -> Result<String, Memory>
     ensures { IfOk result (λ text. string_bytes text ≡ log_text a.now) }
 {
-    match text_of(alloc, a) {
-        Ok(text) => Ok(text),
-        Err(_) => Err(Memory),
-    }
+    Ok(text_of(alloc, a)?)
 }
 
 fn text_of(alloc: Global, a: &Air) -> Result<String, AllocError>

@@ -1,0 +1,29 @@
+-- A log with one entry more: its sendings, hearings and tunings.
+use Rattle.std.proofs.Common.{◌≡◌, ℕ, List, [], ◌∷◌, ◌++◌, ◌∙◌}
+use Rattle.std.proofs.lemmas.List.{append-nil}
+use Rattle.std.proofs.lemmas.List.Elements.{filter_map-append}
+use Rattle.radio_model.specs.declared.sending.Sending.{Sending}
+use Rattle.air_log.specs.declared.entry.Entry.{Entry}
+use Rattle.air_log.specs.Entries.{sending_in, hearing_in, tuning_in, sendings_of, hearings_of, tunings_of, sent_entry, heard_entry}
+
+-- a sending more
+module _ (air : List Entry) (x : Sending) where
+  pub sendings_sent : sendings_of (air ++ sent_entry x ∷ []) ≡ sendings_of air ++ x ∷ []
+  sendings_sent = filter_map-append sending_in air (sent_entry x ∷ [])
+
+  pub hearings_sent : hearings_of (air ++ sent_entry x ∷ []) ≡ hearings_of air
+  hearings_sent = filter_map-append hearing_in air (sent_entry x ∷ []) ∙ append-nil (hearings_of air)
+
+  pub tunings_sent : tunings_of (air ++ sent_entry x ∷ []) ≡ tunings_of air
+  tunings_sent = filter_map-append tuning_in air (sent_entry x ∷ []) ∙ append-nil (tunings_of air)
+
+-- a hearing more
+module _ (air : List Entry) (u : ℕ) (x : Sending) where
+  pub sendings_heard : sendings_of (air ++ heard_entry u x ∷ []) ≡ sendings_of air
+  sendings_heard = filter_map-append sending_in air (heard_entry u x ∷ []) ∙ append-nil (sendings_of air)
+
+  pub hearings_heard : hearings_of (air ++ heard_entry u x ∷ []) ≡ hearings_of air ++ record { node = u; sending = x } ∷ []
+  hearings_heard = filter_map-append hearing_in air (heard_entry u x ∷ [])
+
+  pub tunings_heard : tunings_of (air ++ heard_entry u x ∷ []) ≡ tunings_of air
+  tunings_heard = filter_map-append tuning_in air (heard_entry u x ∷ []) ∙ append-nil (tunings_of air)

@@ -1,0 +1,21 @@
+-- What holds of a device at all times, and what it is seen as.
+use Rattle.std.specs.Prelude.{◌≡◌, ℕ, ◌^◌, ◌<◌, Bool, true, false}
+use Rattle.std.specs.declared.option.Option.{Option}
+use Rattle.std.specs.Option.{IfSome}
+use Rattle.lwb_base.specs.Profile.{Numbers}
+use Rattle.node_core.specs.Nodes.{NodeState, Node}
+use Rattle.air_log.specs.declared.entry.TunedEntry.{TunedEntry}
+use Rattle.air_log.specs.Devices.{Power, PowerOff, PowerOn, Listening}
+use Rattle.air_log.specs.DeviceStates.{IsKeptBack}
+
+abbrev pub power_of : Bool → ℕ → Node → Power
+power_of false boots n = PowerOff boots
+power_of true boots n = PowerOn n
+
+pub record IsDevice (node : ℕ) (profile : Numbers) (core : NodeState) (on : Bool) (boots : ℕ) (closed : Option TunedEntry) (listening : Option Listening) : Type 0 where
+  pub id : node ≡ core.setup.id
+  pub numbers : profile ≡ core.setup.profile
+  pub boot : on ≡ true → core.node.core.boot ≡ boots
+  pub early : core.node.zero < 2 ^ 47
+  pub kept : IsKeptBack closed listening
+  pub own : IfSome closed (λ e. e.node ≡ node)

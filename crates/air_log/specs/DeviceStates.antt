@@ -1,0 +1,140 @@
+-- A device as code keeps it, and what it makes known of itself step by step.
+use Rattle.std.specs.Prelude.{◌≡◌, ℕ, ◌^◌, ◌<◌, ◌≤◌, List, [], ◌∷◌, ◌++◌, Bool, ◌==◌, if◌then◌else◌, Some, None, option_to_list, ⊤}
+use Rattle.std.specs.declared.option.Option.{Option}
+use Rattle.std.specs.Option.{IfSome}
+use Rattle.lwb_base.specs.declared.event.Event.{Event}
+use Rattle.lwb_base.specs.declared.event.Event.TheVariants.{Sent}
+use Rattle.lwb_base.specs.declared.order.Order.{Order}
+use Rattle.lwb_base.specs.declared.order.Order.TheVariants.{Listen, Off, SendAt, Alarm}
+use Rattle.radio_model.specs.declared.sending.Sending.{Sending}
+use Rattle.radio_model.specs.OnAir.{Tuning}
+use Rattle.bus_rules.specs.declared.delivery.Delivery.{Delivery}
+use Rattle.bus_rules.specs.declared.delivery.DropLine.{DropLine}
+use Rattle.bus_rules.specs.Cores.{Setup}
+use Rattle.node_core.specs.Nodes.{Node, NodeState}
+use Rattle.node_core.specs.Rows.{Stepped, row}
+use Rattle.node_core.specs.Runs.{node_after}
+use Rattle.air_log.specs.declared.entry.TunedEntry.{TunedEntry}
+use Rattle.air_log.specs.WindowLogs.{windows_after}
+use Rattle.air_log.specs.Devices.{Device, Power, PowerOff, PowerOn, Listening, Ordered, Made, delivery_by, event}
+
+-- core: the node, also where its power is off; closed: the tuning that ended last, as long as its entry is not in the log;
+-- delivery: that of the last step
+pub record DeviceState : Type 0 where
+  pub setup : Setup
+  pub core : Node
+  pub power : Power
+  pub listening : Option Listening
+  pub closed : Option TunedEntry
+  pub alarm : Option ℕ
+  pub ordered : Option Ordered
+  pub sending : Option Sending
+  pub delivery : Option Delivery
+
+abbrev pub tuning_of : TunedEntry → Tuning
+tuning_of e = record { rank = e.rank; node = e.node; start = e.start; end = e.end }
+
+-- tunings with one more, if there is one
+abbrev pub one_more : Option TunedEntry → List Tuning → List Tuning
+one_more None es = es
+one_more (Some e) es = tuning_of e ∷ es
+
+abbrev pub with_tuned : Option TunedEntry → Made → Made
+with_tuned e made = record made { tuned = one_more e made.tuned }
+
+-- the device, where what is in the log of its making is this
+abbrev pub whole : DeviceState → Made → Device
+whole s made = record {
+  power = s.power;
+  listening = s.listening;
+  alarm = s.alarm;
+  ordered = s.ordered;
+  sending = s.sending;
+  made = with_tuned s.closed made;
+}
+
+-- the last tuning in the log ended before this tick, so it does not go on at it
+abbrev pub EndedBefore : ℕ → List Tuning → Type 0
+EndedBefore t [] = ⊤
+EndedBefore t (e ∷ es) = e.end < t
+
+-- what a device knows of its tunings happened by this tick
+pub record HappenedBy (t : ℕ) (s : DeviceState) : Type 0 where
+  pub closed : IfSome s.closed (λ e. e.end ≤ t)
+  pub listening : IfSome s.listening (λ l. l.since ≤ t)
+
+-- the tuning that is kept back is not empty, and ended by the time at which the present one began
+abbrev pub IsKeptBack : Option TunedEntry → Option Listening → Type 0
+IsKeptBack None l = ⊤
+IsKeptBack (Some e) None = e.start < e.end
+IsKeptBack (Some e) (Some l) = (e.start < e.end) × (e.end ≤ l.since)
+
+-- the same node with the delivery of the same step
+pub record IsSameNode (old new : DeviceState) : Type 0 where
+  pub setup : new.setup ≡ old.setup
+  pub delivery : new.delivery ≡ old.delivery
+
+-- local times of orders are those at which times stop, or earlier ones
+abbrev pub IsTimely : Order → Type 0
+IsTimely (Listen rank) = ⊤
+IsTimely Off = ⊤
+IsTimely (SendAt local packet) = local < 2 ^ 47
+IsTimely (Alarm local) = local < 2 ^ 47
+
+-- the row that fits an event at tick t; at a node that is off none does
+abbrev pub row_at : (ℕ → ℕ) → ℕ → Event → Setup → Power → Option Stepped
+row_at clock t e s (PowerOff boots) = None
+row_at clock t e s (PowerOn n) = row s n (clock t) e
+
+abbrev pub row_of : (ℕ → ℕ) → ℕ → Event → DeviceState → Option Stepped
+row_of clock t e s = row_at clock t e s.setup s.power
+
+-- the device after a row, but for its orders
+abbrev pub after_row : DeviceState → Option Stepped → DeviceState
+after_row s None = s
+after_row s (Some r) = record s { core = r.node; power = PowerOn r.node; delivery = r.delivery }
+
+-- what a row makes: its delivery, and what it is to the windows
+abbrev pub made_by : ℕ → Event → Option Sending → Power → Option Stepped → Made → Made
+made_by t e ended (PowerOff boots) r made = made
+made_by t e ended (PowerOn n) r made = record made {
+  deliveries = made.deliveries ++ option_to_list (delivery_by r);
+  windows = windows_after t e ended n (node_after n r) n.stage (node_after n r).stage made.windows;
+}
+
+-- a sending that starts
+abbrev pub with_sent : Option Sending → Made → Made
+with_sent None made = made
+with_sent (Some x) made = record made { sent = made.sent ++ x ∷ [] }
+
+-- the packet that is to be sent at this tick, and the sending that ends at it
+abbrev pub packet_due : ℕ → Option Ordered → Option (List ℕ)
+packet_due t None = None
+packet_due t (Some o) = if o.tick == t then Some o.packet else None
+
+abbrev pub ending_at : ℕ → Option Sending → Option Sending
+ending_at t None = None
+ending_at t (Some x) = if x.end == t then Some x else None
+
+-- a sending that ended at tick t is an event
+abbrev pub told_of : (ℕ → ℕ) → Setup → ℕ → Option Sending → Device → Device
+told_of clock s t None d = d
+told_of clock s t (Some x) d = event clock s t Sent (Some x) d
+
+-- there are at most 200 boots
+abbrev pub CanBoot : Power → Type 0
+CanBoot (PowerOff boots) = boots < 200
+CanBoot (PowerOn n) = ⊤
+
+-- a put that is lost, or is not
+abbrev pub with_drop : Bool → DropLine → Made → Made
+with_drop lost drop made = record made { drops = if lost then made.drops ++ drop ∷ [] else made.drops }
+
+-- the node core of a device
+abbrev pub core_in : DeviceState → NodeState
+core_in d = record { setup = d.setup; node = d.core; delivery = d.delivery }
+
+-- of a device that is on
+abbrev pub IsCoreAt : Node → Power → Type 0
+IsCoreAt n (PowerOff boots) = ⊤
+IsCoreAt n (PowerOn m) = n ≡ m

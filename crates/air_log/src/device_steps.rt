@@ -1,0 +1,120 @@
+//! The parts of a tick at a device.
+
+ghost use Rattle.std.specs.Prelude.{◌≡◌, ◌≤◌, ◌^◌, ℕ, Some, None, is_some, Option, All, if◌then◌else◌, fold};
+ghost use Rattle.radio_model.specs.declared.sending.Sending.{Sending};
+ghost use Rattle.node_core.specs.Runs.{orders_by};
+ghost use Rattle.lwb_base.specs.Orders.{Gives};
+ghost use Rattle.air_log.specs.Devices.{Made, obeyed, event as event_at};
+ghost use Rattle.air_log.specs.Trails.{is_due, begun, ended};
+ghost use Rattle.air_log.specs.DeviceStates.{whole, IsSameNode, row_of, after_row, made_by, with_sent, packet_due, ending_at, told_of, HappenedBy, IsTimely};
+
+use crate::device::Device;
+use bus_rules::Delivery;
+use lwb_base::{Event, Packet, Radio};
+use radio_model::sending::Sending;
+use tick_clock::{At, DriftClock};
+
+impl Device {
+    /// An event at tick t; its orders go to a radio that has room for 4. At a node that is off it has no effect.
+    pub fn react<C: DriftClock, R: Radio>(&mut self, clock: &C, t: u64, event: Event, radio: &mut R)
+        requires early { t ≤ 2 ^ 45 }
+        requires room { 4 ≤ (R.told radio.old).room }
+        ensures after { self.new ≡ after_row self.old (row_of (C.readings clock.now) t event self.old) }
+        ensures orders { Gives (R.told radio.old) (R.told radio.new) (orders_by (row_of (C.readings clock.now) t event self.old)) }
+        ensures timely { All IsTimely (orders_by (row_of (C.readings clock.now) t event self.old)) }
+        ensures whole { (made : Made) (ended : Option Sending) → event_at (C.readings clock.now) self.old.setup t event ended (whole self.old made) ≡ fold (obeyed (C.readings clock.now) self.old.setup.id t) (whole self.new (made_by t event ended self.old.power (row_of (C.readings clock.now) t event self.old) made)) (orders_by (row_of (C.readings clock.now) t event self.old)) }
+        ensures time { (now : ℕ) → HappenedBy now self.old → HappenedBy now self.new }
+    {
+        if self.on {
+            self.core.step(&At::new(clock, t), radio, event);
+        }
+    }
+
+    /// The delivery of the last event that had an effect, once. None comes exactly where it delivered nothing.
+    pub fn delivered(&mut self) -> Option<Delivery>
+        ensures delivery { result ≡ self.old.delivery }
+        ensures once { self.new ≡ record self.old { delivery = None } }
+    {
+        self.core.delivered()
+    }
+
+    /// Whether the alarm is due at tick t; it is not set any more then.
+    pub fn take_alarm(&mut self, t: u64) -> bool
+        ensures due { result ≡ is_due t self.old.alarm }
+        ensures after { self.new ≡ record self.old { alarm = if result then None else self.old.alarm } }
+    {
+        let due = match self.alarm {
+            Some(tick) => tick == t,
+            None => false,
+        };
+        if due {
+            self.alarm = None;
+        }
+        due
+    }
+
+    /// The sending that starts at tick t. None comes exactly where none does: nothing is ordered for this tick, the radio is
+    /// off, or the node still sends.
+    pub fn begin(&mut self, t: u64) -> Option<Sending>
+        requires early { t ≤ 2 ^ 45 }
+        ensures whole { (made : Made) → begun self.old.setup t (whole self.old made) ≡ whole self.new (with_sent result made) }
+        ensures time { (now : ℕ) → HappenedBy now self.old → HappenedBy now self.new }
+        ensures node { IsSameNode self.old self.new }
+    {
+        let packet = self.take_ordered(t)?;
+        let listening = self.listening?;
+        if self.sending.is_some() {
+            return None;
+        }
+        let x = Sending {
+            rank: listening.rank,
+            node: self.node,
+            start: t,
+            end: t + self.profile.airtime(packet.length()),
+            packet,
+        };
+        self.sending = Some(copy_of(&x));
+        Some(x)
+    }
+
+    // The packet that is to be sent at tick t.
+    fn take_ordered(&mut self, t: u64) -> Option<Packet>
+        ensures packet { result ≡ packet_due t self.old.ordered }
+        ensures after { self.new ≡ record self.old { ordered = if is_some result then None else self.old.ordered } }
+    {
+        let ordered = self.ordered.take()?;
+        if ordered.tick == t {
+            Some(ordered.packet)
+        } else {
+            self.ordered = Some(ordered);
+            None
+        }
+    }
+
+    /// The own sending that ends at tick t, of which the node is to be told. None comes exactly where none does.
+    pub fn end_sending(&mut self, t: u64) -> Option<Sending>
+        ensures ended { result ≡ ending_at t self.old.sending }
+        ensures after { self.new ≡ record self.old { sending = if is_some result then None else self.old.sending } }
+        ensures whole { (clock : ℕ → ℕ) (made : Made) → ended clock self.old.setup t (whole self.old made) ≡ told_of clock self.old.setup t result (whole self.new made) }
+    {
+        let sending = self.sending.take()?;
+        if sending.end == t {
+            Some(sending)
+        } else {
+            self.sending = Some(sending);
+            None
+        }
+    }
+}
+
+fn copy_of(x: &Sending) -> Sending
+    ensures { result ≡ x.now }
+{
+    Sending {
+        rank: x.rank,
+        node: x.node,
+        start: x.start,
+        end: x.end,
+        packet: x.packet.copy(),
+    }
+}
