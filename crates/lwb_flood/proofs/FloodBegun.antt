@@ -26,7 +26,7 @@ use Rattle.radio_model.proofs.AfterStarting.{holds_after_starting}
 use Rattle.radio_model.proofs.Settled.{settled}
 use Rattle.radio_model.proofs.Members.{in_filter as filter_contains}
 use Rattle.air_log.specs.declared.entry.Entry.{Entry}
-use Rattle.air_log.specs.Entries.{sending_in, sendings_of, tunings_of, IsHeard}
+use Rattle.air_log.specs.Entries.{sending_in, sendings_of, tunings_of, IsHeard, sent_entry}
 use Rattle.air_log.specs.NodeEvents.{Event, Heard, Ended, sending_of, InOrder, occasions}
 use Rattle.air_log.specs.FloodLaw.{OPENING, START, first_packet, first_flood, sending_at, Lasts, tuning_by}
 use Rattle.air_log.proofs.Elements.{not_in_none, map_contains, map_from, Distinct}
@@ -34,9 +34,10 @@ use Rattle.lwb_flood.specs.declared.member.Act.{Act}
 use Rattle.lwb_flood.specs.declared.member.Act.TheVariants.{Listens, Waits, Sends, Off}
 use Rattle.lwb_flood.specs.declared.member.Member.{Member}
 use Rattle.lwb_flood.specs.FloodLog.{HasClocks}
-use Rattle.lwb_flood.specs.FloodWorlds.{World, node_of, moment_of, NotAfter, IsNext, with_act, sent_entry, begun}
+use Rattle.lwb_flood.specs.FloodWorlds.{World, node_of, moment_of, NotAfter, IsNext, with_act, begun}
 use Rattle.lwb_flood.proofs.LogEntries.{ids_distinct}
-use Rattle.lwb_flood.proofs.WorldLists.{one_of_mark, each_changed, changed_there, same_there, nodes_kept, sendings_sent, hearings_sent, tunings_sent, events_sent_own, events_sent_other, occasion_kept, pairs_push, in_order_push}
+use Rattle.lwb_flood.proofs.WorldLists.{one_of_mark, each_changed, changed_there, same_there, nodes_kept, events_sent_own, events_sent_other, occasion_kept, pairs_push, in_order_push}
+use Rattle.air_log.proofs.LoggedEntries.{sendings_sent, hearings_sent, tunings_sent}
 use Rattle.lwb_flood.proofs.FloodSoFar.{scene, standing, events_in, running, tuned_by, sending_by, InStep, HasCause, IsWaiting, IsSending, Stands, IsAnswered, IsMember, Runs, IsSettled, IsSent, WasHeard, WasTuned, WaitsToBegin, IsFloodSoFar}
 
 -- what an act tells

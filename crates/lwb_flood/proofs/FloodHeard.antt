@@ -20,7 +20,7 @@ use Rattle.radio_model.specs.Holding.{Holds, as_it_stands}
 use Rattle.radio_model.proofs.Members.{in_filter}
 use Rattle.air_log.specs.declared.entry.Entry.{Entry}
 use Rattle.air_log.specs.declared.entry.Entry.TheVariants.{Sent, Heard as HeardOf, Tuned}
-use Rattle.air_log.specs.Entries.{hearing_in, sendings_of, hearings_of, tunings_of, IsHeard}
+use Rattle.air_log.specs.Entries.{hearing_in, sendings_of, hearings_of, tunings_of, IsHeard, heard_entry}
 use Rattle.air_log.specs.NodeEvents.{Event, Heard, Ended, sending_of, InOrder, after_all, Occasion, occasions, own_end, own_ends}
 use Rattle.air_log.specs.FloodLaw.{OPENING, START, CLOSING, first_packet, first_flood, tuning_by, sending_at}
 use Rattle.air_log.proofs.Elements.{contains_head, contains_tail, contains_cases, filter_from}
@@ -28,10 +28,11 @@ use Rattle.lwb_flood.specs.declared.member.Act.{Act}
 use Rattle.lwb_flood.specs.declared.member.Act.TheVariants.{Listens, Waits, Sends, Off}
 use Rattle.lwb_flood.specs.declared.member.Member.{Member}
 use Rattle.lwb_flood.specs.FloodLog.{HasClocks}
-use Rattle.lwb_flood.specs.FloodWorlds.{World, node_of, act_by, hearing_by, heard_entry, heard, heard_by_all}
+use Rattle.lwb_flood.specs.FloodWorlds.{World, node_of, act_by, hearing_by, heard, heard_by_all}
 use Rattle.lwb_flood.proofs.EventOrder.{after_all_append}
 use Rattle.lwb_flood.proofs.FloodSoFar.{scene, standing, event_in, events_in, running, tuned_by, sending_by, packet_with, InStep, HasCause, IsSending, Stands, IsAnswered, IsMember, Runs, IsSettled, IsSent, WasHeard, IsDue, WasTuned, WaitsToBegin, IsFloodSoFar}
-use Rattle.lwb_flood.proofs.WorldLists.{each_changed, changed_there, same_there, nodes_kept, sendings_heard, hearings_heard, tunings_heard, events_heard_own, events_heard_other, occasion_more, occasion_kept, occasion_cases, pairs_push, in_order_push}
+use Rattle.lwb_flood.proofs.WorldLists.{each_changed, changed_there, same_there, nodes_kept, events_heard_own, events_heard_other, occasion_more, occasion_kept, occasion_cases, pairs_push, in_order_push}
+use Rattle.air_log.proofs.LoggedEntries.{sendings_heard, hearings_heard, tunings_heard}
 
 -- what fits comes to a flood that has sendings left and waits for none
 fitting : (s : FloodState) (p : List ℕ) → fits s p ≡ true → (s.sent < s.limit) × (s.waiting ≡ false)

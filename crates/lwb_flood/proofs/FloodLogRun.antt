@@ -25,9 +25,9 @@ use Rattle.lwb_flood.specs.Windows.{IsWindow}
 use Rattle.lwb_flood.specs.FloodLog.{HasClocks, run_of}
 use Rattle.lwb_flood.specs.RunOnAir.{IsPart}
 use Rattle.lwb_flood.proofs.RuleInRun.{rule_in_run}
-use Rattle.lwb_flood.proofs.Packets.{slot_set, relayed_parts}
+use Rattle.glossy_relay.proofs.CountedPackets.{slot_set, relayed_parts}
 use Rattle.lwb_flood.proofs.SendingTimes.{occasion_event, timed}
-use Rattle.lwb_flood.proofs.Spellings.{data_again}
+use Rattle.glossy_relay.proofs.Spellings.{data_again}
 use Rattle.lwb_flood.proofs.TunedWindows.{tuned_in_window}
 use Rattle.lwb_flood.proofs.LogEntries.{ids_known, sender_known, heard_was_sent, event_was_sent, eight, lasting}
 

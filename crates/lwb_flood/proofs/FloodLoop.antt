@@ -19,7 +19,7 @@ use Rattle.air_log.proofs.Elements.{Distinct}
 use Rattle.lwb_flood.specs.declared.member.Act.{Act}
 use Rattle.lwb_flood.specs.declared.member.Act.TheVariants.{Listens, Waits, Sends, Off}
 use Rattle.lwb_flood.specs.declared.member.Member.{Member}
-use Rattle.lwb_flood.specs.ClockLists.{clocks_by}
+use Rattle.air_log.specs.ClockLists.{clocks_by}
 use Rattle.lwb_flood.specs.FloodLog.{HasClocks}
 use Rattle.lwb_flood.specs.FloodWorlds.{World, IsShape, node_of, first_world, moment_of, NotAfter, IsNext, begun, own_ended, gone, ended, heard, heard_by_all, is_last, after_own, readings_at, CanStep, Stepped, Ended as EndedTo, IsHeardBy}
 use Rattle.lwb_flood.proofs.FloodSoFar.{IsFloodSoFar, IsMember, IsListening, IsWaiting, IsSending, Runs, running, scene, events_in}

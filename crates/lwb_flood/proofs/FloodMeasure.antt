@@ -1,8 +1,7 @@
 -- A flood ends: with each step there is less that its nodes may still do.
-use Rattle.std.proofs.Common.{◌≡◌, ◌≢◌, ℕ, ◌+◌, ◌-◌, ◌<◌, ◌≤◌, List, [], ◌∷◌, ◌++◌, map, length, Bool, true, false, if◌then◌else◌, inl, inr, refl, sym, ◌∙◌, ap, subst, arith, nat_eq}
+use Rattle.std.proofs.Common.{◌≡◌, ◌≢◌, ℕ, ◌+◌, ◌-◌, ◌<◌, ◌≤◌, List, [], ◌∷◌, ◌++◌, map, length, Bool, true, false, if◌then◌else◌, inl, inr, refl, sym, ◌∙◌, ap, subst, arith, nat_eq, eq-eqb}
 use Rattle.std.specs.Prelude.{Contains}
 use Rattle.std.proofs.lemmas.Bool.{cond_both, cases_eq, cond-true, cond-false, ne_eqb}
-use Rattle.std.proofs.Common.{eq-eqb}
 use Rattle.std.proofs.lemmas.List.Elements.{filter_map-append}
 use Rattle.std.proofs.lemmas.List.{length-append, append-nil}
 use Rattle.glossy_relay.specs.FloodState.{FloodState}
@@ -13,7 +12,8 @@ use Rattle.air_log.specs.NodeEvents.{Event, Heard, Ended, own_end, own_ends}
 use Rattle.air_log.proofs.Elements.{not_in_none, contains_head, contains_tail, contains_cases}
 use Rattle.lwb_flood.specs.declared.member.Act.TheVariants.{Sends, Off}
 use Rattle.lwb_flood.specs.declared.member.Member.{Member}
-use Rattle.lwb_flood.specs.FloodWorlds.{World, changed_at, with_change, with_act, after_own, hearing_by, sent_entry, heard_entry, tuned_entry, begun, own_ended, gone, ended, heard, heard_by_all, is_last}
+use Rattle.lwb_flood.specs.FloodWorlds.{World, changed_at, with_change, with_act, after_own, hearing_by, tuned_entry, begun, own_ended, gone, ended, heard, heard_by_all, is_last}
+use Rattle.air_log.specs.Entries.{sent_entry, heard_entry}
 use Rattle.lwb_flood.proofs.FloodSoFar.{events_in}
 use Rattle.lwb_flood.proofs.WorldLists.{events_sent_own, events_sent_other, events_heard_own, events_heard_other, events_tuned}
 

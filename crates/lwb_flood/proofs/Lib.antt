@@ -1,39 +1,38 @@
-pub mod Packets
-pub mod StepTimes
-pub mod SendingTimes
-pub mod EventOrder
-pub mod Stations
-pub mod StepHearings
-pub mod NextSteps
-pub mod WholeFlood
-pub mod SendingCounts
-pub mod Spellings
-pub mod TunedWindows
-pub mod RuleInRun
-pub mod Slots
-pub mod TwoNodeRun
-pub mod LogEntries
-pub mod FloodLogRun
-pub mod LogOutcome
-pub mod LogReading
+-- kept for the crates above
 pub mod NodeClocks
-pub mod FloodSoFar
-pub mod FloodBegun
-pub mod FloodEnded
-pub mod WorldLists
-pub mod WorldStations
-pub mod FloodHeard
-pub mod FloodGone
-pub mod MemberPlaces
-pub mod NextMember
-pub mod FloodShapes
-pub mod FloodOpening
-pub mod FloodHearers
-pub mod FloodOver
-pub mod FloodFirst
-pub mod FloodClosing
-pub mod EndOfSending
-pub mod FloodMeasure
-pub mod FloodSteps
-pub mod FloodLoop
-pub mod ClosingLoop
+-- for this crate alone
+mod ClosingLoop
+mod EndOfSending
+mod EventOrder
+mod FloodBegun
+mod FloodClosing
+mod FloodEnded
+mod FloodFirst
+mod FloodGone
+mod FloodHeard
+mod FloodHearers
+mod FloodLogRun
+mod FloodLoop
+mod FloodMeasure
+mod FloodOpening
+mod FloodOver
+mod FloodShapes
+mod FloodSoFar
+mod FloodSteps
+mod LogEntries
+mod LogOutcome
+mod LogReading
+mod MemberPlaces
+mod NextMember
+mod NextSteps
+mod RuleInRun
+mod SendingCounts
+mod SendingTimes
+mod Slots
+mod Stations
+mod StepHearings
+mod StepTimes
+mod TunedWindows
+mod TwoNodeRun
+mod WholeFlood
+mod WorldLists

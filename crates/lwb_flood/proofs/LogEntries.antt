@@ -15,7 +15,7 @@ use Rattle.air_log.specs.Entries.{sendings_of, hearings_of, sending_in, node_of}
 use Rattle.air_log.specs.NodeEvents.{Heard}
 use Rattle.air_log.specs.FloodLaw.{FloodLaw, first_flood}
 use Rattle.air_log.proofs.Elements.{not_in_none, contains_cases, filter_from, filter_distinct, map_from, pairs_head, pairs_tail, Distinct}
-use Rattle.lwb_flood.proofs.Packets.{counter_set, fitting_long, relayed_parts}
+use Rattle.glossy_relay.proofs.CountedPackets.{counter_set, fitting_long, relayed_parts}
 use Rattle.lwb_flood.proofs.SendingTimes.{occasion_event}
 
 some_same : {X : Type 0} (x y : X) → Some x ≡ Some y → x ≡ y

@@ -9,13 +9,11 @@ use Rattle.glossy_relay.specs.Relaying.{fits, reply_to, counter_of, after_heard,
 use Rattle.glossy_relay.specs.declared.flood.Reply.TheVariants.{Relay}
 use Rattle.bus_model.specs.Flooding.{Setting, Moment, has, pick, agrees, may_hear, hears, first_heard, next, STEPS}
 use Rattle.radio_model.specs.declared.sending.Sending.{Sending}
-use Rattle.air_log.specs.NodeEvents.{Event, Heard, Ended, sending_of, after, after_all, Occasion, occasions}
-use Rattle.lwb_flood.specs.FloodRun.{counter}
-use Rattle.air_log.specs.NodeEvents.{InOrder}
-use Rattle.lwb_flood.specs.FloodRun.{Run, FloodRun, sending_at, initiates, takes_part, packet, begins, HearsIn}
+use Rattle.air_log.specs.NodeEvents.{Event, Heard, Ended, sending_of, after, after_all, Occasion, occasions, InOrder}
+use Rattle.lwb_flood.specs.FloodRun.{counter, Run, FloodRun, sending_at, initiates, takes_part, packet, begins, HearsIn}
 use Rattle.air_log.proofs.Elements.{not_in_none, contains_head, contains_tail, contains_cases}
 use Rattle.bus_model.proofs.Options.{inspect, some_injective, heard_parts, sends_parts, none_is, not_both}
-use Rattle.lwb_flood.proofs.Packets.{counter_set, relayed_parts, fitting_long}
+use Rattle.glossy_relay.proofs.CountedPackets.{counter_set, relayed_parts, fitting_long}
 use Rattle.lwb_flood.proofs.SendingTimes.{counter_is, same_origin, over, meets, event_sent, occasion_event, same_sending}
 use Rattle.lwb_flood.proofs.EventOrder.{after_all_append, occasions_append, in_order_rest, order_head, occasion_of}
 use Rattle.lwb_flood.proofs.Stations.{of_parts, spell, station, quiet_state, ended_state, heard_state}

@@ -5,8 +5,7 @@ use Rattle.std.proofs.lemmas.Bool.{cases_order, cases_Bool, cases_eq, or_cases, 
 use Rattle.std.proofs.lemmas.List.Sums.{sum_by-cons}
 use Rattle.bus_model.specs.Flooding.{Setting, moment, has}
 use Rattle.radio_model.specs.declared.sending.Sending.{Sending}
-use Rattle.lwb_flood.specs.FloodRun.{counter}
-use Rattle.lwb_flood.specs.FloodRun.{Run, FloodRun, packet}
+use Rattle.lwb_flood.specs.FloodRun.{counter, Run, FloodRun, packet}
 use Rattle.air_log.proofs.Elements.{not_in_none, contains_head, contains_tail, contains_cases, Distinct}
 use Rattle.bus_model.proofs.Options.{inspect, not_both}
 use Rattle.lwb_flood.proofs.SendingTimes.{timed, counter_is}

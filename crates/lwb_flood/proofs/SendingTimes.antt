@@ -9,11 +9,10 @@ use Rattle.glossy_relay.specs.Relaying.{is_spelling}
 use Rattle.tick_clock.specs.Clocks.{Near}
 use Rattle.radio_model.specs.declared.sending.Sending.{Sending}
 use Rattle.air_log.specs.NodeEvents.{Event, Heard, Ended, sending_of, after, Occasion, occasions}
-use Rattle.lwb_flood.specs.FloodRun.{counter}
+use Rattle.lwb_flood.specs.FloodRun.{counter, Run, HasTimes, initiates, takes_part, packet, begins, InTime}
 use Rattle.radio_model.specs.Hearing.{Meets}
-use Rattle.lwb_flood.specs.FloodRun.{Run, HasTimes, initiates, takes_part, packet, begins, InTime}
 use Rattle.air_log.proofs.Elements.{not_in_none, contains_head, contains_tail, contains_cases}
-use Rattle.lwb_flood.proofs.Packets.{counter_set, body_set, set_same, long_spelling, fitting_long, relayed_parts}
+use Rattle.glossy_relay.proofs.CountedPackets.{counter_set, body_set, set_same, long_spelling, fitting_long, relayed_parts}
 use Rattle.lwb_flood.proofs.StepTimes.{chained, in_order, meet, within}
 
 -- the event of an occasion

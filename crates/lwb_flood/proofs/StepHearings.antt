@@ -14,10 +14,9 @@ use Rattle.tick_clock.specs.Clocks.{Near}
 use Rattle.radio_model.specs.declared.sending.Sending.{Sending}
 use Rattle.radio_model.specs.Hearing.{Before}
 use Rattle.air_log.specs.NodeEvents.{Event, Heard, sending_of, after_all}
-use Rattle.lwb_flood.specs.FloodRun.{counter}
-use Rattle.lwb_flood.specs.FloodRun.{Run, FloodRun, initiates, takes_part, packet, begins, Rival, Silent, Alone, Captured, HearsIn}
+use Rattle.lwb_flood.specs.FloodRun.{counter, Run, FloodRun, initiates, takes_part, packet, begins, Rival, Silent, Alone, Captured, HearsIn}
 use Rattle.bus_model.proofs.Options.{inspect, some_injective, only_when, only_from, in_filter, from_filter, sends_parts, not_both, named_parts}
-use Rattle.lwb_flood.proofs.Packets.{slot_set, body_set}
+use Rattle.glossy_relay.proofs.CountedPackets.{slot_set, body_set}
 use Rattle.lwb_flood.proofs.StepTimes.{close}
 use Rattle.lwb_flood.proofs.SendingTimes.{timed, in_time, message_is, counter_is, same_origin, over, meets, one_step, not_over, event_sent}
 use Rattle.lwb_flood.proofs.EventOrder.{earliest}

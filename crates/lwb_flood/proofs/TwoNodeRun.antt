@@ -8,15 +8,14 @@ use Rattle.glossy_relay.specs.declared.flood.Reply.TheVariants.{Relay}
 use Rattle.radio_model.specs.declared.sending.Sending.{Sending}
 use Rattle.radio_model.specs.OnAir.{Hearing}
 use Rattle.radio_model.specs.Hearing.{Before}
-use Rattle.air_log.specs.NodeEvents.{Event, Heard, Ended, sending_of, after_all, Occasion}
-use Rattle.air_log.specs.NodeEvents.{InOrder}
+use Rattle.air_log.specs.NodeEvents.{Event, Heard, Ended, sending_of, after_all, Occasion, InOrder}
 use Rattle.lwb_flood.specs.FloodRun.{counter, sending_at, FloodRun, initiates, takes_part, begins, Rival, Silent, HearsIn, Relayed, TunedByCount}
 use Rattle.lwb_flood.specs.TwoNodes.{packet_of, first_sending, second_sending, two_nodes, two_tuned}
 use Rattle.air_log.proofs.Elements.{not_in_none, contains_head, contains_tail, contains_cases}
 use Rattle.lwb_flood.specs.Windows.{IsWindow}
 use Rattle.lwb_flood.proofs.SendingTimes.{equal_sendings}
 use Rattle.lwb_flood.proofs.TunedWindows.{tuned_in_window}
-use Rattle.lwb_flood.proofs.Spellings.{data_again}
+use Rattle.glossy_relay.proofs.Spellings.{data_again}
 
 abbrev Tuned : ℕ → Sending → Type 0
 Tuned v x = two_tuned v x ≡ true

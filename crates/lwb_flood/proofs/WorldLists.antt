@@ -3,17 +3,17 @@ use Rattle.std.proofs.Common.{◌≡◌, ◌≢◌, ℕ, zero, suc, ◌≤◌, �
 use Rattle.std.specs.Prelude.{Contains, AllPairs, ◌⊎◌}
 use Rattle.std.specs.List.{cons_option}
 use Rattle.std.proofs.lemmas.Bool.{cond_both, cond-true, cond-false, eqb-true, eqb-false, ne_eqb}
-use Rattle.std.proofs.lemmas.List.{append-nil, map_more}
+use Rattle.std.proofs.lemmas.List.{append-nil}
 use Rattle.std.proofs.lemmas.List.Elements.{filter_map-append, Contains-push_cases, Contains-append_left}
 use Rattle.std.proofs.lemmas.List.Quantifiers.{all_pairs_push}
 use Rattle.glossy_relay.specs.FloodState.{FloodState}
 use Rattle.radio_model.specs.declared.sending.Sending.{Sending}
 use Rattle.air_log.specs.declared.entry.Entry.{Entry}
-use Rattle.air_log.specs.Entries.{sending_in, hearing_in, tuning_in, sendings_of, hearings_of, tunings_of}
+use Rattle.air_log.specs.Entries.{sending_in, hearing_in, tuning_in, sendings_of, hearings_of, tunings_of, sent_entry, heard_entry}
 use Rattle.air_log.specs.NodeEvents.{Event, Heard, Ended, sending_of, InOrder, after_all, Occasion, occasions}
 use Rattle.air_log.proofs.Elements.{not_in_none, contains_cases, map_contains, map_from, Distinct}
 use Rattle.lwb_flood.specs.declared.member.Member.{Member}
-use Rattle.lwb_flood.specs.FloodWorlds.{node_of, changed_at, with_change, sent_entry, heard_entry, tuned_entry}
+use Rattle.lwb_flood.specs.FloodWorlds.{node_of, changed_at, with_change, tuned_entry}
 use Rattle.lwb_flood.proofs.EventOrder.{occasions_append}
 use Rattle.lwb_flood.proofs.FloodSoFar.{event_in, events_in}
 
@@ -53,15 +53,6 @@ nodes_kept v change keeps (m ∷ ms) =
 
 -- a log with one entry more
 module _ (air : List Entry) (x : Sending) where
-  pub sendings_sent : sendings_of (air ++ sent_entry x ∷ []) ≡ sendings_of air ++ x ∷ []
-  sendings_sent = filter_map-append sending_in air (sent_entry x ∷ [])
-
-  pub hearings_sent : hearings_of (air ++ sent_entry x ∷ []) ≡ hearings_of air
-  hearings_sent = filter_map-append hearing_in air (sent_entry x ∷ []) ∙ append-nil (hearings_of air)
-
-  pub tunings_sent : tunings_of (air ++ sent_entry x ∷ []) ≡ tunings_of air
-  tunings_sent = filter_map-append tuning_in air (sent_entry x ∷ []) ∙ append-nil (tunings_of air)
-
   pub events_sent_own : (v : ℕ) → x.node ≡ v → events_in (air ++ sent_entry x ∷ []) v ≡ events_in air v ++ Ended x ∷ []
   events_sent_own v is =
       filter_map-append (event_in v) air (sent_entry x ∷ [])
@@ -74,15 +65,6 @@ module _ (air : List Entry) (x : Sending) where
       ∙ append-nil (events_in air v)
 
 module _ (air : List Entry) (u : ℕ) (x : Sending) where
-  pub sendings_heard : sendings_of (air ++ heard_entry u x ∷ []) ≡ sendings_of air
-  sendings_heard = filter_map-append sending_in air (heard_entry u x ∷ []) ∙ append-nil (sendings_of air)
-
-  pub hearings_heard : hearings_of (air ++ heard_entry u x ∷ []) ≡ hearings_of air ++ record { node = u; sending = x } ∷ []
-  hearings_heard = filter_map-append hearing_in air (heard_entry u x ∷ [])
-
-  pub tunings_heard : tunings_of (air ++ heard_entry u x ∷ []) ≡ tunings_of air
-  tunings_heard = filter_map-append tuning_in air (heard_entry u x ∷ []) ∙ append-nil (tunings_of air)
-
   pub events_heard_own : (v : ℕ) → u ≡ v → events_in (air ++ heard_entry u x ∷ []) v ≡ events_in air v ++ Heard x ∷ []
   events_heard_own v is =
       filter_map-append (event_in v) air (heard_entry u x ∷ [])
@@ -128,8 +110,3 @@ pairs_push R xs y all last = all_pairs_push R xs y all (λ k d less. last (get_o
 
 pub in_order_push : (es : List Event) (e : Event) → InOrder es → ((d : Event) → Contains es d → ((sending_of d).end ≤ (sending_of e).end) × (d ≢ e)) → InOrder (es ++ e ∷ [])
 in_order_push es e order last = pairs_push (λ d e. ((sending_of d).end ≤ (sending_of e).end) × (d ≢ e)) es e order last
-
--- a push of what a map gives at the next place
-pub map_pushed : {X Y : Type 0} (g : X → Y) (xs : List X) (i : ℕ) (x : X) (items : List Y) (y : Y) → i < length xs → x ≡ get_or xs i x → items ≡ map g (take i xs) → y ≡ g x → items ++ y ∷ [] ≡ map g (take (i + 1) xs)
-map_pushed g xs i x items y below at is value =
-    ap (λ (l : List _). l ++ y ∷ []) is ∙ ap (λ (z : _). map g (take i xs) ++ z ∷ []) (value ∙ ap g at) ∙ sym (map_more g xs i x below)

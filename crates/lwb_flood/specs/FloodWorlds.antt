@@ -17,7 +17,8 @@ use Rattle.radio_model.specs.Holding.{Holds, as_it_stands}
 use Rattle.link_trace.specs.Passes.{Lines}
 use Rattle.radio_model.specs.Stations.{MediumState, IsMedium, IsTime, Ends, nodes_of, sending_of, station_of, after, retuned, started, finished, first_state}
 use Rattle.air_log.specs.declared.entry.Entry.{Entry}
-use Rattle.air_log.specs.declared.entry.Entry.TheVariants.{Sent, Heard, Tuned}
+use Rattle.air_log.specs.declared.entry.Entry.TheVariants.{Tuned}
+use Rattle.air_log.specs.Entries.{sent_entry, heard_entry}
 use Rattle.air_log.specs.FloodLaw.{OPENING, START, CLOSING, first_packet, first_flood, sending_at}
 use Rattle.lwb_flood.specs.declared.member.Act.{Act}
 use Rattle.lwb_flood.specs.declared.member.Act.TheVariants.{Listens, Waits, Sends, Off}
@@ -92,9 +93,6 @@ pub record IsNext (ms : List Member) (m : Member) : Type 0 where
 abbrev pub with_act : Act → Member → Member
 with_act act m = record m { act = act }
 
-abbrev pub sent_entry : Sending → Entry
-sent_entry x = Sent (record { rank = x.rank; node = x.node; start = x.start; end = x.end; packet = x.packet })
-
 abbrev pub begun : Sending → World → World
 begun x w = record {
   medium = after x.start x.node (started w.medium.numbers x.start x.packet) w.medium;
@@ -140,9 +138,6 @@ act_by clock end Ignore act = act
 
 abbrev pub hearing_by : (ℕ → ℕ) → Sending → Member → Member
 hearing_by clock x m = record m { flood = after_heard m.flood x.packet; act = act_by clock x.end (reply_to m.flood x.packet) m.act }
-
-abbrev pub heard_entry : ℕ → Sending → Entry
-heard_entry v x = Heard (record { rank = x.rank; node = v; from = x.node; start = x.start; end = x.end; packet = x.packet })
 
 abbrev pub heard : (ℕ → ℕ) → Sending → ℕ → World → World
 heard clock x v w = record w { members = with_change v (hearing_by clock x) w.members; air = w.air ++ heard_entry v x ∷ [] }

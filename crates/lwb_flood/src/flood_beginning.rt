@@ -1,6 +1,7 @@
 //! The world of a flood at its beginning.
 
-ghost use Rattle.std.specs.Prelude.{◌≡◌, ℕ, IfOk, map, slice_index, true};
+ghost use Rattle.std.specs.Prelude.{◌≡◌, ◌≤◌, ℕ, IfOk, map, slice_index, true};
+ghost use Rattle.scenario_text.specs.FloodParts.{IsSound};
 ghost use Rattle.lwb_base.specs.Profile.{one};
 ghost use Rattle.glossy_relay.specs.Relaying.{is_packet};
 ghost use Rattle.bus_model.specs.FloodOfText.{ids};
@@ -26,14 +27,17 @@ const START: u64 = 1_344_064_000;
 impl FloodWorld {
     // All nodes are tuned in, and the starting node waits to send.
     pub(crate) fn new(alloc: Global, f: &FloodText) -> Result<FloodWorld, Memory>
-        ensures { IfOk result (λ w. w ≡ first_world f.now) }
+        ensures world { IfOk result (λ w. w ≡ first_world f.now) }
+        ensures sound { IfOk result (λ w. IsSound f.now) }
+        ensures start { IfOk result (λ w. (1 ≤ f.now.start) × (f.now.start ≤ 200)) }
     {
         let nodes = node_ids(alloc, f.nodes())?;
         let mut medium = Medium::new(alloc, &Profile::one(), nodes.as_slice())?;
         open(&mut medium, nodes.as_slice());
+        let packet = first_packet(f.start());
         Ok(FloodWorld {
             medium,
-            members: members(alloc, f)?,
+            members: members(alloc, f, &packet)?,
             air: Air::new(alloc),
         })
     }
@@ -44,9 +48,7 @@ fn node_ids(alloc: Global, lines: &[NodeLine]) -> Result<Vec<NodeId>, Memory>
 {
     let mut nodes = Vec::new(alloc);
     for line in lines {
-        if nodes.push(line.node).is_err() {
-            return Err(Memory);
-        }
+        nodes.push(line.node)?;
     }
     Ok(nodes)
 }
@@ -60,20 +62,22 @@ fn open(medium: &mut Medium, nodes: &[NodeId])
     }
 }
 
-fn members(alloc: Global, f: &FloodText) -> Result<Vec<Member>, Memory>
+fn members(alloc: Global, f: &FloodText, packet: &Packet) -> Result<Vec<Member>, Memory>
+    requires value { packet.now ≡ first_packet_of f.now.start }
+    requires spelled { (is_packet packet.now ≡ true) × (slice_index packet.now 2 ≡ 0) }
     ensures { IfOk result (λ v. v.items ≡ map (first_member_of f.now) f.now.nodes) }
 {
     let mut members = Vec::new(alloc);
     for line in f.nodes() {
-        let member = first_member(f, line.node);
-        if members.push(member).is_err() {
-            return Err(Memory);
-        }
+        let member = first_member(f, packet, line.node);
+        members.push(member)?;
     }
     Ok(members)
 }
 
-fn first_member(f: &FloodText, node: NodeId) -> Member
+fn first_member(f: &FloodText, packet: &Packet, node: NodeId) -> Member
+    requires value { packet.now ≡ first_packet_of f.now.start }
+    requires spelled { (is_packet packet.now ≡ true) × (slice_index packet.now 2 ≡ 0) }
     ensures { (offset : ℕ) → result ≡ first_member_of f.now (record { node = node; offset = offset }) }
 {
     if f.start() != node {
@@ -83,11 +87,10 @@ fn first_member(f: &FloodText, node: NodeId) -> Member
             act: Act::Listens,
         };
     }
-    let packet = first_packet(node);
     Member {
         node,
-        flood: Flood::initiate(&packet, f.sends()),
-        act: Act::Waits(START, packet),
+        flood: Flood::initiate(packet, f.sends()),
+        act: Act::Waits(START, packet.copy()),
     }
 }
 
@@ -95,6 +98,7 @@ fn first_member(f: &FloodText, node: NodeId) -> Member
 fn first_packet(start: NodeId) -> Packet
     ensures value { result ≡ first_packet_of start }
     ensures spelled { (is_packet result ≡ true) × (slice_index result 2 ≡ 0) }
+    ensures start { (1 ≤ start) × (start ≤ 200) }
 {
     encode_payload(&DataPacket {
         slot: 1,

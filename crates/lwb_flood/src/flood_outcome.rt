@@ -110,9 +110,7 @@ fn acceptances(
     let mut accepts = Vec::new(alloc);
     for line in f.nodes() {
         if let Some(step) = step_of(f.start(), firsts, line.node) {
-            if accepts.push((line.node, step)).is_err() {
-                return Err(Memory);
-            }
+            accepts.push((line.node, step))?;
         }
     }
     Ok(accepts)

@@ -8,12 +8,13 @@ ghost use Rattle.radio_model.specs.Hearing.{Scene, Hears};
 ghost use Rattle.radio_model.specs.Holding.{Holds, as_it_stands};
 ghost use Rattle.radio_model.specs.Stations.{MediumState, IsTime, Ends, nodes_of, sending_of, station_of};
 ghost use Rattle.air_log.specs.FloodLaw.{sending_at};
-ghost use Rattle.lwb_flood.specs.FloodWorlds.{World, node_of, moment_of, NotAfter, IsNext, begun, gone, own_ended, ended, heard, is_last, sent_entry as sent_entry_of, with_change, with_act, sooner as sooner_of, comes_before as comes_before_of, heard_entry as heard_entry_of, hearing_by, after_own, heard_by_all, readings_at, Ended, CanStep, Stepped, closed_by, closed_all};
+ghost use Rattle.lwb_flood.specs.FloodWorlds.{World, node_of, moment_of, NotAfter, IsNext, begun, gone, own_ended, ended, heard, is_last, with_change, with_act, sooner as sooner_of, comes_before as comes_before_of, hearing_by, after_own, heard_by_all, readings_at, Ended, CanStep, Stepped, closed_by, closed_all};
+ghost use Rattle.air_log.specs.Entries.{sent_entry as sent_entry_of, heard_entry as heard_entry_of};
 ghost use Rattle.lwb_flood.specs.declared.member.Member.{Member};
 ghost use Rattle.glossy_relay.specs.declared.flood.After.TheVariants.{More, Off as After_Off};
 ghost use Rattle.lwb_flood.specs.declared.member.Act.{Act as ActOf};
 
-use crate::member::{Act, Member, copy_of_act, copy_of_packet, is_off};
+use crate::member::{Act, Member, copy_of_act, is_off};
 use air_log::{Air, Entry, HeardEntry, SentEntry, TunedEntry};
 use glossy_relay::{After, Reply};
 use link_trace::Trace;
@@ -127,9 +128,7 @@ impl FloodWorld {
             end: start + Profile::one().airtime(packet.length()),
             packet,
         };
-        if self.air.push(sent_entry(&x)).is_err() {
-            return Err(Memory);
-        }
+        self.air.push(sent_entry(&x))?;
         self.medium.start(node, start, &x.packet);
         set_act(&mut self.members, node, Act::Sends(x));
         Ok(())
@@ -147,9 +146,7 @@ impl FloodWorld {
             start: OPENING,
             end: t,
         };
-        if self.air.push(Entry::Tuned(entry)).is_err() {
-            return Err(Memory);
-        }
+        self.air.push(Entry::Tuned(entry))?;
         self.medium.tune(node, None, t);
         set_act(&mut self.members, node, Act::Off);
         Ok(())
@@ -210,9 +207,7 @@ impl FloodWorld {
         ensures { (d : Member) → OnOk result (self.new ≡ heard (C.readings clock.now) x.now (slice_index_or self.old.members place d).node self.old) }
     {
         let node = self.members[place].node;
-        if self.air.push(heard_entry(node, x)).is_err() {
-            return Err(Memory);
-        }
+        self.air.push(heard_entry(node, x))?;
         hear_at(&mut self.members, place, clock, x);
         Ok(())
     }
@@ -268,7 +263,7 @@ fn sent_entry(x: &Sending) -> Entry
         node: x.node,
         start: x.start,
         end: x.end,
-        packet: copy_of_packet(&x.packet),
+        packet: x.packet.copy(),
     })
 }
 
@@ -281,7 +276,7 @@ fn heard_entry(node: NodeId, x: &Sending) -> Entry
         from: x.node,
         start: x.start,
         end: x.end,
-        packet: copy_of_packet(&x.packet),
+        packet: x.packet.copy(),
     })
 }
 

@@ -31,24 +31,18 @@ pub(crate) fn is_off(act: &Act) -> bool
     matches!(act, Act::Off)
 }
 
-pub(crate) fn copy_of_packet(packet: &Packet) -> Packet
-    ensures { result ≡ packet.now }
-{
-    Packet::new(packet.bytes()).unwrap()
-}
-
 pub(crate) fn copy_of_act(act: &Act) -> Act
     ensures { result ≡ act.now }
 {
     match act {
         Act::Listens => Act::Listens,
-        Act::Waits(t, packet) => Act::Waits(*t, copy_of_packet(packet)),
+        Act::Waits(t, packet) => Act::Waits(*t, packet.copy()),
         Act::Sends(x) => Act::Sends(Sending {
             rank: x.rank,
             node: x.node,
             start: x.start,
             end: x.end,
-            packet: copy_of_packet(&x.packet),
+            packet: x.packet.copy(),
         }),
         Act::Off => Act::Off,
     }

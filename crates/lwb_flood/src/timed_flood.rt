@@ -1,7 +1,8 @@
 ghost use Rattle.std.specs.Prelude.{◌≡◌, IfOk, length};
 ghost use Rattle.bus_model.specs.FloodOfText.{outcome};
 
-use crate::{flood_air, outcome_of};
+use crate::outcome_of;
+use crate::true_time::flood_log;
 use bus_rules::FloodResult;
 use lwb_base::Memory;
 use scenario_text::FloodText;
@@ -18,8 +19,6 @@ pub fn flood<C: DriftClock>(
     requires { length clocks.items ≡ length f.now.nodes }
     ensures { IfOk result (λ r. r ≡ outcome f.now) }
 {
-    // What a text keeps to is known from this call.
-    let _start = f.start().number();
-    let air = flood_air(alloc, f, clocks)?;
+    let air = flood_log(alloc, f, clocks)?;
     outcome_of(alloc, f, &air)
 }

@@ -2,7 +2,8 @@
 
 ghost use Rattle.std.specs.Prelude.{◌≡◌, IfOk, length};
 ghost use Rattle.air_log.specs.FloodLaw.{FloodLaw};
-ghost use Rattle.lwb_flood.specs.ClockLists.{clocks_by};
+ghost use Rattle.air_log.specs.ClockLists.{clocks_by};
+ghost use Rattle.lwb_flood.specs.FloodLog.{HasClocks};
 
 use crate::flood_world::FloodWorld;
 use air_log::Air;
@@ -19,8 +20,19 @@ pub fn flood_air<C: DriftClock>(alloc: Global, f: &FloodText, clocks: Vec<C>) ->
     requires { length clocks.items ≡ length f.now.nodes }
     ensures { IfOk result (λ air. FloodLaw f.now (clocks_by C.readings f.now.nodes clocks.items) air) }
 {
-    let start = f.start();
-    let _number = start.number();
+    flood_log(alloc, f, clocks)
+}
+
+// As `flood_air`. The text keeps to its limits, and the clocks keep the drift law.
+pub(crate) fn flood_log<C: DriftClock>(
+    alloc: Global,
+    f: &FloodText,
+    clocks: Vec<C>,
+) -> Result<Air, Memory>
+    requires { length clocks.items ≡ length f.now.nodes }
+    ensures clocks { IfOk result (λ air. HasClocks f.now (clocks_by C.readings f.now.nodes clocks.items)) }
+    ensures law { IfOk result (λ air. FloodLaw f.now (clocks_by C.readings f.now.nodes clocks.items) air) }
+{
     let mut world = FloodWorld::new(alloc, f)?;
     while let Some(place) = world.next() {
         world.step(f.trace(), clocks.as_slice(), place)?;

@@ -11,7 +11,7 @@ use Rattle.radio_model.specs.Stations.{MediumState, IsTime}
 use Rattle.radio_model.proofs.Agreement.{agree_same, agree_on}
 use Rattle.air_log.specs.Devices.{Device}
 use Rattle.air_log.specs.Entries.{node_of}
-use Rattle.lwb_world.specs.WorldDevices.{DeviceState}
+use Rattle.air_log.specs.DeviceStates.{DeviceState}
 use Rattle.lwb_world.specs.Fields.{FieldState, Shows, setup_of, id_of, setups_of, ids_of}
 use Rattle.lwb_world.specs.FieldSteps.{GoesOn, AreSame, Acts}
 
@@ -35,6 +35,8 @@ goes_nowhere t m time = record {
   scene = λ a held. (a, record { held = held; lines = refl; sendings = sym (append-nil a.sendings); before = agree_same t (as_it_stands m t a) });
   time = time;
   nodes = refl;
+  numbers = refl;
+  still = λ is. is;
 }
 
 pub goes_on_twice : (t : ℕ) (m n o : MediumState) (xs ys : List Sending) → GoesOn t m n xs → GoesOn t n o ys → GoesOn t m o (xs ++ ys)
@@ -54,6 +56,8 @@ goes_on_twice t m n o xs ys f g = record {
       );
   time = g.time;
   nodes = g.nodes ∙ f.nodes;
+  numbers = g.numbers ∙ f.numbers;
+  still = λ is. g.still (f.still is);
 }
 
 pub same_twice : (v w x : FieldState) (dv dw dx : List Due) → AreSame v dv w dw → AreSame w dw x dx → AreSame v dv x dx

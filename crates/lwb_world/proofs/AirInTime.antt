@@ -26,8 +26,9 @@ use Rattle.air_log.specs.Entries.{sendings_of, hearings_of}
 use Rattle.air_log.specs.Devices.{Device, Listening}
 use Rattle.lwb_world.specs.Fields.{FieldState, IsField, Shows, rank_of, channel_of}
 use Rattle.lwb_world.specs.FieldSteps.{IsFirst}
-use Rattle.lwb_world.specs.Running.{Runs, WasTuned, listened, HoldsScene, HasHearings, IsOnAir}
-use Rattle.lwb_world.proofs.TunedBefore.{HasTunedBy}
+use Rattle.lwb_world.specs.Running.{Runs, HoldsScene, HasHearings, IsOnAir}
+use Rattle.air_log.specs.TunedTimes.{WasTuned, listened}
+use Rattle.air_log.proofs.TunedBefore.{HasTunedBy}
 use Rattle.lwb_world.proofs.ShownTunings.{AreTuned, alike, alike_back, tuned_alike, shown_within}
 use Rattle.lwb_world.proofs.ScenesGoOn.{found_in}
 

@@ -7,10 +7,9 @@ use Rattle.lwb_base.specs.Profile.{airtime}
 use Rattle.radio_model.specs.declared.sending.Sending.{Sending}
 use Rattle.bus_rules.specs.Cores.{Setup}
 use Rattle.air_log.specs.Devices.{Device, Listening, Ordered, Made}
-use Rattle.air_log.specs.Trails.{begun, begun_by, starts, sending_from}
-use Rattle.lwb_world.specs.WorldDevices.{DeviceState, whole, with_sent}
+use Rattle.air_log.specs.Trails.{begun, begun_by, starts, sending_from, starting, starting_by}
+use Rattle.air_log.specs.DeviceStates.{DeviceState, whole, with_sent}
 use Rattle.lwb_world.specs.Fields.{tick_of}
-use Rattle.lwb_world.specs.FieldSteps.{starting, starting_by}
 
 -- an order that is due is gone
 abbrev pub unordered : Device → Device

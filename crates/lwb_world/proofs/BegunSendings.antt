@@ -25,15 +25,14 @@ use Rattle.event_calendar.specs.declared.class.Class.{Class}
 use Rattle.event_calendar.specs.declared.class.Class.TheVariants.{SendingEnd, SendingStart}
 use Rattle.bus_rules.specs.Cores.{Setup}
 use Rattle.air_log.specs.Devices.{Device, Ordered, Made, nothing_made}
-use Rattle.air_log.specs.Trails.{begun}
-use Rattle.air_log.specs.Entries.{sendings_of}
+use Rattle.air_log.specs.Trails.{begun, starting}
+use Rattle.air_log.specs.Entries.{sendings_of, sent_entry}
 use Rattle.air_log.specs.declared.entry.Entry.{Entry}
-use Rattle.lwb_flood.specs.FloodWorlds.{sent_entry}
-use Rattle.lwb_flood.proofs.WorldLists.{sendings_sent, hearings_sent}
-use Rattle.lwb_flood.proofs.WorldStations.{node_of_station, station_changed}
-use Rattle.lwb_world.specs.WorldDevices.{DeviceState, whole, with_sent, HappenedBy, IsSameNode}
+use Rattle.air_log.proofs.LoggedEntries.{sendings_sent, hearings_sent}
+use Rattle.radio_model.proofs.ChangedStations.{node_of_station, station_changed}
+use Rattle.air_log.specs.DeviceStates.{DeviceState, whole, with_sent, HappenedBy, IsSameNode}
 use Rattle.lwb_world.specs.Fields.{FieldState, IsField, IsKnown, Shows, IsShown, due_of, end_of, tick_of, id_of, ids_of, setup_of, rank_of, channel_of}
-use Rattle.lwb_world.specs.FieldSteps.{Acts, GoesOn, starting}
+use Rattle.lwb_world.specs.FieldSteps.{Acts, GoesOn}
 use Rattle.lwb_world.proofs.ShownPlaces.{there_now, elsewhere, same_marks, is_there, still_field, still_shown, shown_as}
 use Rattle.lwb_world.proofs.DevicesOfNodes.{one_place}
 use Rattle.lwb_world.proofs.LoggedSendings.{sent_own, sent_other, tuned_beside_sent, entry_more}
@@ -122,6 +121,8 @@ module _ (t p : ℕ) (w : FieldState) (field : IsField w) (due : List Due) (st n
           scene = λ a held. (a, record { held = held; lines = refl; sendings = sym (append-nil a.sendings); before = agree_same t _ });
           time = time;
           nodes = refl;
+          numbers = refl;
+          still = λ is. is;
         };
         same = record {
           setups = same_marks setup_of w.devices p st new here node.setup;
@@ -278,6 +279,8 @@ module _ (t p : ℕ) (w : FieldState) (field : IsField w) (due : List Due) (st n
       );
       time = begun_time;
       nodes = same_nodes w.medium t x.node (started w.medium.numbers t x.packet) (started_keeps w.medium.numbers t x.packet).node;
+      numbers = refl;
+      still = still_medium (started w.medium.numbers t x.packet) (started_keeps w.medium.numbers t x.packet) x.node t w.medium;
     }
 
     begins_here : ((a : Scene) → Holds w.medium a → Holds begun_field.medium (after_starting w.medium x.node t x.packet a)) → Begins t p w due begun_field begun_due

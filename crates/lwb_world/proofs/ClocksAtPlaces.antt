@@ -7,7 +7,7 @@ use Rattle.tick_clock.specs.Clocks.{IsClock}
 use Rattle.scenario_text.specs.ScenarioParts.{ScenarioParts}
 use Rattle.scenario_text.specs.ScenarioFacts.{IsSoundScenario}
 use Rattle.scenario_text.specs.declared.lines.NodeLine.{NodeLine}
-use Rattle.lwb_flood.specs.ClockLists.{clocks_by}
+use Rattle.air_log.specs.ClockLists.{clocks_by}
 use Rattle.lwb_world.specs.FieldSteps.{reading_of, readings_at}
 use Rattle.lwb_world.proofs.PlacedNodes.{clock_at, at_place}
 use Rattle.lwb_world.proofs.TrailsGoOn.{IsClockAt, AreClocks}

@@ -15,7 +15,7 @@ use Rattle.air_log.specs.Devices.{Device, Power, PowerOff, PowerOn}
 use Rattle.air_log.specs.Trails.{run_end}
 use Rattle.air_log.specs.Lawful.{trail_in}
 use Rattle.air_log.proofs.Elements.{map_contains, Distinct}
-use Rattle.lwb_world.specs.WorldDevices.{DeviceState, core_in, IsCoreAt}
+use Rattle.air_log.specs.DeviceStates.{DeviceState, core_in, IsCoreAt}
 use Rattle.lwb_world.specs.Fields.{FieldState, id_of, power_of}
 use Rattle.lwb_world.specs.FieldSteps.{IsClosed}
 use Rattle.lwb_world.specs.Moments.{Before}

@@ -16,7 +16,7 @@ use Rattle.radio_model.proofs.Changes.{retuned_keeps}
 use Rattle.radio_model.proofs.Places.{still_medium}
 use Rattle.radio_model.proofs.NothingBefore.{by_tuning}
 use Rattle.air_log.specs.Devices.{Device, Listening, Made, silenced, tunes, obeyed, listens_to, retuned as tuned_again}
-use Rattle.lwb_world.specs.WorldDevices.{DeviceState, whole}
+use Rattle.air_log.specs.DeviceStates.{DeviceState, whole}
 use Rattle.lwb_world.specs.Fields.{rank_of, channel_of}
 use Rattle.lwb_world.specs.FieldSteps.{GoesOn}
 use Rattle.lwb_world.proofs.DeviceSteps.{IsStationOf}
@@ -76,6 +76,8 @@ module _ (t v : ℕ) (rank : Option ℕ) (old new : MediumState) (is : new ≡ a
     );
     time = subst (λ (m : MediumState). IsTime m t) (sym is) (retuned_time time);
     nodes = retuned_nodes;
+    numbers = retuned_numbers;
+    still = retuned_medium;
   }
 
   -- as the device is tuned

@@ -20,7 +20,7 @@ use Rattle.air_log.specs.declared.entry.TunedEntry.{TunedEntry}
 use Rattle.air_log.specs.Entries.{sending_in, hearing_in, tuning_in, sendings_of, hearings_of, tunings_of, node_of}
 use Rattle.air_log.specs.Lawful.{sent_by, tuned_by}
 use Rattle.air_log.specs.Devices.{Device, Made}
-use Rattle.lwb_world.specs.WorldDevices.{DeviceState, whole, tuning_of, one_more, EndedBefore, HappenedBy}
+use Rattle.air_log.specs.DeviceStates.{DeviceState, whole, tuning_of, one_more, EndedBefore, HappenedBy}
 use Rattle.lwb_world.specs.Fields.{FieldState, Shows, IsField, IsLogged, entries_of, setup_of, id_of, setups_of, ids_of, due_of, rank_of, channel_of}
 use Rattle.lwb_world.specs.FieldSteps.{GoesOn, AreSame, Acts}
 use Rattle.lwb_world.proofs.ActsInTurn.{same_ids}

@@ -19,11 +19,11 @@ use Rattle.tick_clock.specs.Clocks.{IsClock}
 use Rattle.bus_rules.specs.Cores.{Setup}
 use Rattle.air_log.specs.Devices.{Device}
 use Rattle.air_log.specs.AlarmRuns.{IsAlarmRun}
-use Rattle.air_log.specs.Trails.{run_end, alarmed, begun}
+use Rattle.air_log.specs.Trails.{run_end, alarmed, begun, starting}
 use Rattle.air_log.proofs.AlarmLoop.{early_in_run}
-use Rattle.lwb_flood.specs.ClockLists.{clocks_by}
-use Rattle.lwb_world.specs.Fields.{FieldState, IsField, Shows, IsShown}
-use Rattle.lwb_world.specs.FieldSteps.{Acts, EndsSending, Sends, starting, readings_at}
+use Rattle.air_log.specs.ClockLists.{clocks_by}
+use Rattle.lwb_world.specs.Fields.{FieldState, Shows, IsShown}
+use Rattle.lwb_world.specs.FieldSteps.{Acts, EndsSending, Sends, readings_at}
 use Rattle.lwb_world.specs.Frames.{IsPast}
 use Rattle.lwb_world.specs.Moments.{At}
 use Rattle.lwb_world.specs.Running.{IsRunning}
@@ -87,14 +87,14 @@ module _ {C : Type 0} (R : C → ℕ → ℕ) (law : (c : C) → IsClock (R c)) 
       pub ends : (x : Setup) (d : Device) → Shows x t old old_due p d → Ends old.medium x.id t
       ends = ends_at_place t old old_due p run.air.scene run.air.holds.held sending.0 sending.1 sending.2
 
-      pub end_done : (lines : Lines) → lines ≡ s.trace → (new : FieldState) (new_due : List Due) → IsField new
+      pub end_done : (lines : Lines) → lines ≡ s.trace → (new : FieldState) (new_due : List Due)
           → ((x : Sending) → Sends t old old_due p x → (hearers : List ℕ) × EndsSending lines (readings_at R cs) t p x hearers old old_due new new_due)
           → IsRunning s clocks told t (At SendingEnd) new new_due × IsPast t SendingEnd p new_due
-      end_done lines by_trace new new_due field done =
+      end_done lines by_trace new new_due done =
           let x = sending.0 in
           let all = done x sending.2 in
           let air = run_end_of.air in
-          let after = end_goes_on s clocks sound told t p node.0 node.1 old old_due new new_due field lines by_trace (readings_at R cs) (clocks_at_places R s sound cs count) x sending.1 sending.2 next_end all.0 all.1 run_end_of in
+          let after = end_goes_on s clocks sound told t p node.0 node.1 old old_due new new_due lines by_trace (readings_at R cs) (clocks_at_places R s sound cs count) x sending.1 sending.2 next_end all.0 all.1 run_end_of in
           let deaf = not_own s clocks sound lines by_trace (readings_at R cs) t p x sending.1 all.0 old old_due new new_due all.1 run_end_of.places run_end_of.trails sending.2 node.0 node.1 air.scene air.holds _ air.has in (
             after,
             past s clocks sound drifts told t within SendingEnd p few new new_due after
@@ -112,10 +112,10 @@ module _ {C : Type 0} (R : C → ℕ → ℕ) (law : (c : C) → IsClock (R c)) 
       pub alarms_over : (x : Setup) (d : Device) → Shows x t old old_due p d → IsAlarmRun (R c) x t d (alarmed (R c) x t d)
       alarms_over = alarms_end s clocks t p (R c) (own_clock R s sound cs count p c clock) old old_due sound drifts within run.places run_alarm_of.trails
 
-      pub alarm_done : (new : FieldState) (new_due : List Due) → IsField new → Acts t p (λ x d. alarmed (R c) x t d) [] [] old old_due new new_due
+      pub alarm_done : (new : FieldState) (new_due : List Due) → Acts t p (λ x d. alarmed (R c) x t d) [] [] old old_due new new_due
           → IsRunning s clocks told t (At Alarm) new new_due × IsPast t Alarm p new_due
-      alarm_done new new_due field acts =
-          let after = alarm_goes_on s clocks sound told t p node.0 node.1 old old_due new new_due field drifts within (R c) (own_clock R s sound cs count p c clock) acts run_alarm_of in (
+      alarm_done new new_due acts =
+          let after = alarm_goes_on s clocks sound told t p node.0 node.1 old old_due new new_due drifts within (R c) (own_clock R s sound cs count p c clock) acts run_alarm_of in (
             after,
             past s clocks sound drifts told t within Alarm p few new new_due after
                 (later_places t Alarm p old_due new_due next_alarm (were_at s clocks told t p Alarm old old_due new new_due run_alarm_of after (λ x d. alarmed (R c) x t d) [] [] acts
@@ -130,12 +130,12 @@ module _ {C : Type 0} (R : C → ℕ → ℕ) (law : (c : C) → IsClock (R c)) 
       next_start : IsNext old_due (Some (t, SendingStart, p))
       next_start = subst (λ (k : Class). IsNext old_due (Some (t, k, p))) is_start next
 
-      pub start_done : (new : FieldState) (new_due : List Due) → IsField new
+      pub start_done : (new : FieldState) (new_due : List Due)
           → (starts : List Sending) × Acts t p (λ x d. begun x t d) starts [] old old_due new new_due × ((x : Setup) (d : Device) → Shows x t old old_due p d → starts ≡ starting x t d)
           → IsRunning s clocks told t (At SendingStart) new new_due × IsPast t SendingStart p new_due
-      start_done new new_due field all =
+      start_done new new_due all =
           let c = at_place cs p in_clocks in
-          let after = begin_goes_on s clocks sound told t p node.0 node.1 old old_due new new_due field drifts within (R c.0) (own_clock R s sound cs count p c.0 c.1) all.0 all.1 all.2 run_start_of in (
+          let after = begin_goes_on s clocks sound told t p node.0 node.1 old old_due new new_due drifts within (R c.0) (own_clock R s sound cs count p c.0 c.1) all.0 all.1 all.2 run_start_of in (
             after,
             past s clocks sound drifts told t within SendingStart p few new new_due after
                 (later_places t SendingStart p old_due new_due next_start (were_at s clocks told t p SendingStart old old_due new new_due run_start_of after (λ x d. begun x t d) all.0 [] all.1

@@ -19,8 +19,8 @@ use Rattle.event_calendar.specs.declared.class.Class.TheVariants.{SendingEnd}
 use Rattle.bus_rules.specs.Cores.{Setup}
 use Rattle.air_log.specs.Entries.{sendings_of}
 use Rattle.air_log.specs.Devices.{Device}
-use Rattle.lwb_flood.proofs.WorldStations.{station_changed}
-use Rattle.lwb_world.specs.WorldDevices.{DeviceState, ending_at}
+use Rattle.radio_model.proofs.ChangedStations.{station_changed}
+use Rattle.air_log.specs.DeviceStates.{DeviceState, ending_at}
 use Rattle.lwb_world.specs.Fields.{FieldState, IsField, IsKnown, Shows, IsShown, due_of, setup_of}
 use Rattle.lwb_world.specs.FieldSteps.{Acts, Sends}
 use Rattle.lwb_world.proofs.ShownPlaces.{there_now, elsewhere, same_marks, still_field, still_shown, shown_as}
@@ -181,6 +181,8 @@ module _ (t p : ℕ) (w : FieldState) (due : List Due) (st : DeviceState) (x : S
       scene = λ a holds. (a, record { held = held a holds; lines = refl; sendings = sym (append-nil a.sendings); before = by_ending w.medium st.setup.id t a });
       time = over_time;
       nodes = same_nodes w.medium t st.setup.id finished finished_keeps.node;
+      numbers = refl;
+      still = still_medium finished finished_keeps st.setup.id t w.medium;
     };
     same = record {
       setups = same_marks setup_of w.devices p st (record st { sending = None }) ending.here refl;

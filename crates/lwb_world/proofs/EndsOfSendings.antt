@@ -17,7 +17,7 @@ use Rattle.bus_rules.specs.Cores.{Setup}
 use Rattle.air_log.specs.Entries.{hearings_of, sendings_of}
 use Rattle.air_log.specs.Devices.{Device, event}
 use Rattle.air_log.proofs.Elements.{map_contains, map_from}
-use Rattle.lwb_world.specs.WorldDevices.{DeviceState}
+use Rattle.air_log.specs.DeviceStates.{DeviceState}
 use Rattle.lwb_world.specs.Fields.{FieldState, Shows, IsShown, id_of, ids_of}
 use Rattle.lwb_world.specs.FieldSteps.{Acts, EndsSending, hearing_at, told_of_hearing}
 use Rattle.lwb_world.specs.FieldHearings.{ArePlaces, AllHear}

@@ -14,7 +14,7 @@ use Rattle.air_log.specs.Devices.{Device, Made, silenced, nothing_made}
 use Rattle.air_log.specs.Entries.{sendings_of, hearings_of, node_of}
 use Rattle.air_log.specs.Lawful.{sent_by, tuned_by}
 use Rattle.air_log.proofs.Elements.{map_contains}
-use Rattle.lwb_world.specs.WorldDevices.{DeviceState, whole, one_more, with_tuned, IsCoreAt}
+use Rattle.air_log.specs.DeviceStates.{DeviceState, whole, one_more, with_tuned, IsCoreAt}
 use Rattle.lwb_world.specs.Fields.{FieldState, IsField, IsLogged, entries_of, setup_of, id_of, power_of, ids_of}
 use Rattle.lwb_world.specs.FieldSteps.{GoesSilent, IsClosed}
 use Rattle.lwb_world.proofs.ActsInTurn.{same_ids}

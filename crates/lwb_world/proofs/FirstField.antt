@@ -14,7 +14,7 @@ use Rattle.node_core.specs.Nodes.{rebooted, NodeState}
 use Rattle.air_log.specs.declared.entry.TunedEntry.{TunedEntry}
 use Rattle.air_log.specs.Devices.{Device, at_rest, nothing_made}
 use Rattle.air_log.specs.Trails.{setup_of}
-use Rattle.lwb_world.specs.WorldDevices.{DeviceState, whole, one_more, core_in}
+use Rattle.air_log.specs.DeviceStates.{DeviceState, whole, one_more, core_in}
 use Rattle.lwb_world.specs.Fields.{FieldState, IsField, id_of}
 use Rattle.lwb_world.specs.FieldSteps.{first_device, node_id, IsFirst}
 use Rattle.lwb_world.specs.Worlds.{new_core}

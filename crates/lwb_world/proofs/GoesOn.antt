@@ -1,6 +1,8 @@
 -- Steps of the medium and of the places, one after another.
-use Rattle.std.proofs.Common.{◌≡◌, ℕ, List, [], ◌∷◌, map, ◌++◌, refl, sym, ◌∙◌, ap, subst, Contains, inl, inr}
+use Rattle.std.proofs.Common.{◌≡◌, ℕ, suc, ◌+◌, ◌<◌, List, [], ◌∷◌, map, ◌++◌, length, All, refl, sym, ◌∙◌, ap, subst, arith, Contains, inl, inr}
 use Rattle.std.proofs.lemmas.List.{append-nil, append_assoc}
+use Rattle.std.proofs.lemmas.List.Elements.{All-cons, All-nil}
+use Rattle.lwb_base.specs.Profile.{Numbers}
 use Rattle.radio_model.specs.declared.sending.Sending.{Sending}
 use Rattle.radio_model.specs.Holding.{as_it_stands}
 use Rattle.radio_model.specs.Stations.{MediumState, IsTime}
@@ -8,8 +10,8 @@ use Rattle.radio_model.proofs.Agreement.{agree_same, agree_on}
 use Rattle.event_calendar.specs.Orders.{Due}
 use Rattle.bus_rules.specs.Cores.{Setup}
 use Rattle.air_log.specs.Entries.{node_of}
-use Rattle.lwb_world.specs.Fields.{FieldState, ids_of, id_of, setup_of}
-use Rattle.lwb_world.specs.WorldDevices.{DeviceState}
+use Rattle.lwb_world.specs.Fields.{FieldState, IsField, ids_of, id_of, setup_of}
+use Rattle.air_log.specs.DeviceStates.{DeviceState}
 use Rattle.lwb_world.specs.FieldSteps.{GoesOn, AreSame}
 
 abbrev id_in : Setup → ℕ
@@ -21,6 +23,8 @@ goes_on_nothing t m time = record {
   scene = λ a held. (a, record { held = held; lines = refl; sendings = sym (append-nil a.sendings); before = agree_same t (as_it_stands m t a) });
   time = time;
   nodes = refl;
+  numbers = refl;
+  still = λ is. is;
 }
 
 pub goes_on_then : (t : ℕ) (m n o : MediumState) (first second : List Sending) → GoesOn t m n first → GoesOn t n o second → GoesOn t m o (first ++ second)
@@ -38,6 +42,8 @@ goes_on_then t m n o first second p q = record {
       );
   time = q.time;
   nodes = q.nodes ∙ p.nodes;
+  numbers = q.numbers ∙ p.numbers;
+  still = λ is. q.still (p.still is);
 }
 
 -- the same devices have the same ids
@@ -63,4 +69,24 @@ same_then u v w a b c p q = record {
     | inl in_v ↦ p.deliverers d in_v
     | inr of_v ↦ inr (subst (λ (l : List ℕ). Contains l d.node) (same_ids u v a b p) of_v)
   ];
+}
+
+-- devices of the same setups go by the same numbers
+abbrev HasNumbers : Numbers → DeviceState → Type 0
+HasNumbers n d = d.setup.profile ≡ n
+
+numbers_by : (n : Numbers) (ds es : List DeviceState) → map setup_of es ≡ map setup_of ds → All (HasNumbers n) ds → All (HasNumbers n) es
+numbers_by n ds [] same all = All-nil (HasNumbers n)
+numbers_by n [] (e ∷ es) same all = absurd (cc)
+numbers_by n (d ∷ ds) (e ∷ es) same all =
+    let head : e.setup ≡ d.setup = cc in
+    let tail : map setup_of es ≡ map setup_of ds = cc in
+    All-cons (HasNumbers n) e es (ap (λ (s : Setup). s.profile) head ∙ all 0 d (omega arith)) (numbers_by n ds es tail (λ k x below. all (suc k) x (omega arith)))
+
+-- a field goes on as one
+pub field_goes_on : (t : ℕ) (begun : List Sending) (v w : FieldState) (due after : List Due) → AreSame v due w after → GoesOn t v.medium w.medium begun → IsField v → IsField w
+field_goes_on t begun v w due after same air field = record {
+  medium = air.still field.medium;
+  nodes = same_ids v w due after same ∙ field.nodes ∙ sym air.nodes;
+  numbers = numbers_by w.medium.numbers v.devices w.devices same.setups (subst (λ (n : Numbers). All (HasNumbers n) v.devices) (sym air.numbers) field.numbers);
 }

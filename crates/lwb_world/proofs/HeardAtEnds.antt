@@ -26,12 +26,12 @@ use Rattle.air_log.proofs.Elements.{not_in_none, contains_head, contains_tail, c
 use Rattle.air_log.proofs.InTurn.{heard_in_turn}
 use Rattle.air_log.proofs.KeptByEvents.{in_end}
 use Rattle.air_log.proofs.NextDue.{none_passes}
-use Rattle.lwb_world.specs.WorldDevices.{DeviceState}
+use Rattle.air_log.specs.DeviceStates.{DeviceState}
 use Rattle.lwb_world.specs.Fields.{FieldState, ids_of, id_of, setup_of as setup_in}
 use Rattle.lwb_world.specs.FieldSteps.{EndsSending, Sends, hearing_at}
 use Rattle.lwb_world.specs.Moments.{At, IsAt}
 use Rattle.lwb_world.specs.Running.{HasPlaces, setup_by, Runs, HoldsScene, HasHearings}
-use Rattle.lwb_world.proofs.OwnSendings.{IsOwn, SendsOwn, own_heard, kept_own}
+use Rattle.air_log.proofs.OwnSendings.{IsOwn, SendsOwn, own_heard, kept_own}
 use Rattle.lwb_world.proofs.KeptDrops.{HeardOn}
 use Rattle.lwb_world.proofs.TrailsGoOn.{OnTrails, ids_apart, some_same}
 use Rattle.lwb_world.proofs.TrailsAtEnds.{IsHeardAt, reception}

@@ -10,12 +10,11 @@ use Rattle.radio_model.specs.OnAir.{Hearing}
 use Rattle.radio_model.specs.Stations.{IsTime}
 use Rattle.event_calendar.specs.Orders.{Due}
 use Rattle.bus_rules.specs.Cores.{Setup}
-use Rattle.air_log.specs.Entries.{hearings_of, sendings_of}
+use Rattle.air_log.specs.Entries.{hearings_of, sendings_of, heard_entry}
 use Rattle.air_log.specs.Devices.{Device, event}
 use Rattle.air_log.proofs.Elements.{not_in_none, contains_head, contains_cases, map_contains}
-use Rattle.lwb_flood.specs.FloodWorlds.{heard_entry}
-use Rattle.lwb_flood.proofs.WorldLists.{sendings_heard, hearings_heard}
-use Rattle.lwb_world.specs.WorldDevices.{DeviceState}
+use Rattle.air_log.proofs.LoggedEntries.{sendings_heard, hearings_heard}
+use Rattle.air_log.specs.DeviceStates.{DeviceState}
 use Rattle.lwb_world.specs.Fields.{FieldState, Shows, IsShown, id_of, ids_of}
 use Rattle.lwb_world.specs.FieldSteps.{Acts, hearing_at, told_of_hearing}
 use Rattle.lwb_world.specs.FieldHearings.{AllHear}

@@ -1,7 +1,6 @@
 -- The order of hearings, by the ends and the senders of what is heard, and the order of ids.
-use Rattle.std.proofs.Common.{◌≡◌, ◌≢◌, ℕ, ◌<◌, ◌⊎◌, inl, inr, List, [], ◌∷◌, ◌++◌, true, false, nat_lt, ◌==◌, slice_get, bytes_eq, Some, sym, ◌∙◌, ap, arith, Contains, AllPairs, lt-ltb, ltb-true, eqb-true, eq-eqb}
-use Rattle.std.proofs.lemmas.Bool.{cases_eq, cases_Bool, cases_order, or_left, or_right, or_cases, and_parts, and_from, false_from_ne_true, true≢false}
-use Rattle.std.proofs.lemmas.Slice.Eq.{bytes_eq-Decides}
+use Rattle.std.proofs.Common.{◌≡◌, ◌≢◌, ℕ, ◌<◌, ◌⊎◌, inl, inr, List, [], ◌∷◌, ◌++◌, true, false, nat_lt, ◌==◌, slice_get, Some, arith, Contains, AllPairs, lt-ltb, ltb-true, eqb-true, eq-eqb}
+use Rattle.std.proofs.lemmas.Bool.{cases_order, or_left, or_right, or_cases, and_parts, and_from, false_from_ne_true}
 use Rattle.std.proofs.lemmas.List.Elements.{Contains-append_cases}
 use Rattle.std.proofs.lemmas.Option.{slice_get_within, get_or_from_slice_get}
 use Rattle.radio_model.specs.declared.sending.Sending.{Sending}
@@ -45,34 +44,6 @@ pairs_append R (x ∷ xs) ys first second across =
     pairs_cons R x (xs ++ ys)
     (λ y there. elim (Contains-append_cases xs ys y there) [ inl in_first ↦ pairs_head R x xs first y in_first | inr in_second ↦ across x y (in_head xs x) in_second ])
     (pairs_append R xs ys (pairs_tail R x xs first) second (λ z y in_first in_second. across z y (in_tail xs x z in_first) in_second))
-
--- two sendings are the same or not
-pub same_sending : (x y : Sending) → x.rank ≡ y.rank → x.node ≡ y.node → x.start ≡ y.start → x.end ≡ y.end → x.packet ≡ y.packet → x ≡ y
-same_sending x y rank node start end packet =
-    ap (λ (n : ℕ). record x { rank = n }) rank
-    ∙ ap (λ (n : ℕ). record x { rank = y.rank; node = n }) node
-    ∙ ap (λ (n : ℕ). record x { rank = y.rank; node = y.node; start = n }) start
-    ∙ ap (λ (n : ℕ). record x { rank = y.rank; node = y.node; start = y.start; end = n }) end
-    ∙ ap (λ (p : List ℕ). record x { rank = y.rank; node = y.node; start = y.start; end = y.end; packet = p }) packet
-
-pub which_sending : (x y : Sending) → (x ≡ y) ⊎ (x ≢ y)
-which_sending x y =
-    elim (cases_eq x.rank y.rank) [
-      | inr other ↦ inr (λ is. other (ap (λ (z : Sending). z.rank) is))
-      | inl rank ↦ elim (cases_eq x.node y.node) [
-        | inr other ↦ inr (λ is. other (ap (λ (z : Sending). z.node) is))
-        | inl node ↦ elim (cases_eq x.start y.start) [
-          | inr other ↦ inr (λ is. other (ap (λ (z : Sending). z.start) is))
-          | inl start ↦ elim (cases_eq x.end y.end) [
-            | inr other ↦ inr (λ is. other (ap (λ (z : Sending). z.end) is))
-            | inl end ↦ elim (cases_Bool (bytes_eq x.packet y.packet)) [
-              | inl same ↦ inl (same_sending x y rank node start end ((bytes_eq-Decides x.packet y.packet).0 same))
-              | inr other ↦ inr (λ is. true≢false (sym ((bytes_eq-Decides x.packet y.packet).1 (ap (λ (z : Sending). z.packet) is)) ∙ other))
-            ]
-          ]
-        ]
-      ]
-    ]
 
 -- of ascending ids
 module _ (ids : List ℕ) (ascending : AllPairs (λ a b. a < b) ids) where

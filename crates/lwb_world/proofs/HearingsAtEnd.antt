@@ -21,41 +21,14 @@ use Rattle.air_log.specs.Devices.{Device, silenced}
 use Rattle.air_log.specs.HearsAir.{HearsAir, scene_of}
 use Rattle.air_log.specs.Lawful.{FollowsHearing, tuned_by}
 use Rattle.air_log.specs.Trails.{run_end}
+use Rattle.air_log.proofs.Elements.{in_filtered, in_reverse, from_reverse}
 use Rattle.lwb_world.specs.Fields.{FieldState, Shows, ids_of}
 use Rattle.lwb_world.specs.FieldSteps.{IsClosed}
 use Rattle.lwb_world.specs.Running.{Runs, HoldsScene, HasHearings, IsOnAir}
-use Rattle.lwb_world.proofs.TunedBefore.{TunedAt, silenced_stays}
+use Rattle.air_log.proofs.TunedBefore.{TunedAt, silenced_stays}
 use Rattle.lwb_world.proofs.ShownTunings.{AreTuned, shown_id, place_in}
 use Rattle.lwb_world.proofs.ScenesGoOn.{sending_at}
 use Rattle.lwb_world.proofs.SendingEnds.{filtered}
-
--- what a filter takes, and the other way round
-pub in_filtered : {X : Type 0} (test : X → Bool) (xs : List X) (x : X) → Contains xs x → test x ≡ true → Contains (filter test xs) x
-in_filtered test [] x there is = absurd (not_in_none x there)
-in_filtered {X} test (y ∷ xs) x there is =
-    elim (in_either xs y x there) [
-      | inl same ↦ subst (λ (l : List X). Contains l x) (sym (cond-true (test y) (y ∷ filter test xs) (filter test xs) (ap test same ∙ is))) (subst (Contains (y ∷ filter test xs)) same (in_head (filter test xs) y))
-      | inr rest ↦ cond_both (test y) (y ∷ filter test xs) (filter test xs) (λ (l : List X). Contains l x) (λ at. in_tail (filter test xs) y x (in_filtered test xs x rest is)) (λ not. in_filtered test xs x rest is)
-    ]
-
-reversed : {X : Type 0} (y : X) (xs : List X) → reverse (y ∷ xs) ≡ reverse xs ++ y ∷ []
-reversed y xs = reverse-append (y ∷ []) xs
-
-pub in_reverse : {X : Type 0} (xs : List X) (x : X) → Contains xs x → Contains (reverse xs) x
-in_reverse [] x there = absurd (not_in_none x there)
-in_reverse {X} (y ∷ xs) x there =
-    subst (λ (l : List X). Contains l x) (sym (reversed y xs)) (elim (in_either xs y x there) [
-      | inl same ↦ subst (Contains (reverse xs ++ y ∷ [])) same (Contains-push (reverse xs) y)
-      | inr rest ↦ Contains-append_left (reverse xs) (y ∷ []) x (in_reverse xs x rest)
-    ])
-
-pub from_reverse : {X : Type 0} (xs : List X) (x : X) → Contains (reverse xs) x → Contains xs x
-from_reverse [] x there = absurd (not_in_none x there)
-from_reverse {X} (y ∷ xs) x there =
-    elim (Contains-push_cases (reverse xs) y x (subst (λ (l : List X). Contains l x) (reversed y xs) there)) [
-      | inl rest ↦ in_tail xs y x (from_reverse xs x rest)
-      | inr same ↦ subst (Contains (y ∷ xs)) same (in_head xs y)
-    ]
 
 -- of the tunings of a scene those of the hearer alone matter
 module _ (a : Scene) (ts : List Tuning) (v : ℕ) (x : Sending) where

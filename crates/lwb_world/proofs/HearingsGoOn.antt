@@ -18,14 +18,14 @@ use Rattle.bus_rules.specs.Cores.{Setup}
 use Rattle.air_log.specs.Entries.{sendings_of, hearings_of, IsHeard}
 use Rattle.air_log.specs.Devices.{Device}
 use Rattle.air_log.specs.ScriptedDevices.{after_line}
-use Rattle.air_log.specs.Trails.{begun as begun_at, alarmed}
+use Rattle.air_log.specs.Trails.{begun as begun_at, alarmed, starting}
 use Rattle.air_log.specs.Lawful.{comes_before, AreInTurn}
-use Rattle.lwb_world.specs.WorldDevices.{DeviceState}
+use Rattle.air_log.specs.DeviceStates.{DeviceState}
 use Rattle.lwb_world.specs.Fields.{FieldState, IsField, Shows, ids_of}
-use Rattle.lwb_world.specs.FieldSteps.{Acts, starting}
+use Rattle.lwb_world.specs.FieldSteps.{Acts}
 use Rattle.lwb_world.specs.Running.{Runs, HoldsScene, HasHearings, IsOnAir}
-use Rattle.lwb_world.proofs.TunedBefore.{HasTunedBy, IsTunedAs, stays_same, line_stays, alarmed_stays, begun_stays}
-use Rattle.lwb_world.proofs.SendingsKept.{Begins, Lasts, profile_lasts, line_sending, alarmed_sending, begun_sending}
+use Rattle.air_log.proofs.TunedBefore.{HasTunedBy, IsTunedAs, stays_same, line_stays, alarmed_stays, begun_stays}
+use Rattle.air_log.proofs.SendingsKept.{Begins, Lasts, profile_lasts, line_sending, alarmed_sending, begun_sending}
 use Rattle.lwb_world.proofs.ShownTunings.{AreTuned, shown_id, shown_sending, place_in}
 use Rattle.lwb_world.proofs.ScenesGoOn.{IsMoved, same_ids, runs_node, next, is_next, scene_after}
 use Rattle.lwb_world.proofs.AirInTime.{heard_alike}

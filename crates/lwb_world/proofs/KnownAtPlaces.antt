@@ -16,14 +16,15 @@ use Rattle.scenario_text.specs.declared.script.Act.{Act}
 use Rattle.scenario_text.specs.declared.script.Act.TheVariants.{On, Off, Declare, Leave, Put}
 use Rattle.scenario_text.specs.declared.script.ScriptLine.{ScriptLine}
 use Rattle.bus_rules.specs.Cores.{Setup}
-use Rattle.air_log.specs.Devices.{Device, Power, PowerOff, PowerOn}
+use Rattle.air_log.specs.Devices.{Device, Power, PowerOff, PowerOn, seen_power}
 use Rattle.air_log.specs.Trails.{setup_of}
 use Rattle.air_log.proofs.Elements.{contains_head, contains_tail}
-use Rattle.lwb_world.specs.WorldDevices.{CanBoot}
+use Rattle.air_log.proofs.KeptPower.{few_before}
+use Rattle.air_log.specs.DeviceStates.{CanBoot}
 use Rattle.lwb_world.specs.Fields.{FieldState, Shows, IsShown}
 use Rattle.lwb_world.specs.FieldSteps.{Sends}
 use Rattle.lwb_world.specs.Moments.{Moment}
-use Rattle.lwb_world.specs.Running.{HasPlaces, IsTold, seen_power}
+use Rattle.lwb_world.specs.Running.{HasPlaces, IsTold}
 use Rattle.lwb_world.specs.Runs.{end_of}
 use Rattle.lwb_world.proofs.ShownDevices.{node_there, same_sending, stands_at}
 use Rattle.lwb_world.proofs.TrailsGoOn.{OnTrails, some_same}
@@ -89,42 +90,6 @@ ends_at_place t w due p a holds x now sends q d shows =
     let last : Contains (option_to_list known.station.sending) x = subst (λ (o : Option Sending). Contains (option_to_list o) x) (sym runs) (contains_head x []) in
     let own = orderly.own x (Contains-append_right known.station.ended.items (option_to_list known.station.sending) x last) in
     record { sending = x; runs = ap sending_of station ∙ runs; until = now; lasts = sym now ∙ own.lasts }
-
--- boots do not become fewer
-abbrev Boots : Type 0
-Boots = Bool × ℕ
-
-boots_by : (a : Act) (b : Boots) → b.1 ≤ (turned_by a b).1
-boots_by On (true, k) = omega arith
-boots_by On (false, k) = omega arith
-boots_by Off b = omega arith
-boots_by (Declare i interval) b = omega arith
-boots_by (Leave i) b = omega arith
-boots_by (Put i payload) b = omega arith
-
-boots_up : (v : ℕ) (b : Boots) (ls : List ScriptLine) → b.1 ≤ (turned v b ls).1
-boots_up v b [] = omega arith
-boots_up v b (l ∷ ls) =
-    let c : Boots = if l.node == v then turned_by l.act b else b in
-    let step : b.1 ≤ c.1 = cond_both (l.node == v) (turned_by l.act b) b (λ (x : Boots). b.1 ≤ x.1) (λ mine. boots_by l.act b) (λ other. omega arith) in
-    omega (arith, step, boots_up v c ls)
-
-turned_over : (v : ℕ) (b : Boots) (xs ys : List ScriptLine) → turned v b (xs ++ ys) ≡ turned v (turned v b xs) ys
-turned_over v b [] ys = refl
-turned_over v b (x ∷ xs) ys = turned_over v (if x.node == v then turned_by x.act b else b) xs ys
-
-few_before : (s : ScenarioParts) (sound : IsSoundScenario s) (told rest : List ScriptLine) (l : ScriptLine) → s.script ≡ told ++ l ∷ rest → l.act ≡ On → (boots : ℕ) → (false, boots) ≡ turned l.node (false, 0) told → boots < 200
-few_before s sound told rest l is on boots before =
-    let v = l.node in
-    let start : Boots = (false, 0) in
-    let now : Boots = (true, boots + 1) in
-    let next : turned v start s.script ≡ turned v now rest =
-    ap (turned v start) is
-    ∙ turned_over v start told (l ∷ rest)
-    ∙ ap (λ (b : Boots). turned v b (l ∷ rest)) (sym before)
-    ∙ ap (λ (b : Boots). turned v b rest) (ap (λ (own : Bool). if own then turned_by l.act (false, boots) else (false, boots)) (eq-eqb v v refl) ∙ ap (λ (a : Act). turned_by a (false, boots)) on) in
-    let few : (turned v now rest).1 ≤ 200 = subst (λ (b : Boots). b.1 ≤ 200) next (sound.few_boots v) in
-    omega (arith, few, boots_up v now rest)
 
 -- a node that a line switches on can boot
 pub can_boot : (s : ScenarioParts) (clocks : ℕ → ℕ → ℕ) (sound : IsSoundScenario s) (told rest : List ScriptLine) (l : ScriptLine) → s.script ≡ told ++ l ∷ rest → (t : ℕ) (w : FieldState) (due : List Due) → IsTold s clocks told t w due

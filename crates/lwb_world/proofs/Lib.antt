@@ -1,76 +1,70 @@
-pub mod KeptBoots
-pub mod DeviceEvents
-pub mod TimelyOrders
-pub mod QueueKeys
-pub mod PlacedNodes
-pub mod RunPlaces
-pub mod ScriptCuts
-pub mod DeliveriesInOrder
-pub mod NodePlaces
-pub mod TrailsOver
-pub mod DeliveriesOver
-pub mod DropsOver
-pub mod CoresOver
-pub mod OrdersOver
-pub mod RunOver
-pub mod OwnSendings
-pub mod TickPoints
-pub mod LinesTold
-pub mod TimePasses
-pub mod SendingsRun
-pub mod KeptPower
-pub mod AheadInTick
-pub mod KeptDrops
-pub mod ShownDevices
-pub mod TrailsGoOn
-pub mod TrailsAtEnds
-pub mod ToldSoFar
-pub mod AlarmsAtPlaces
-pub mod NextMoments
-pub mod TunedBefore
-pub mod SendingsKept
-pub mod ScenesGoOn
-pub mod ShownTunings
-pub mod AirInTime
-pub mod HearingsGoOn
-pub mod HearingOrder
-pub mod SendingEnds
-pub mod RunsGoOn
-pub mod RunsBegin
-pub mod HeardAtEnds
-pub mod KnownAtPlaces
-pub mod HearingsAtEnd
-pub mod RunsOnAir
-pub mod ClocksAtPlaces
-pub mod StepsGoOn
-pub mod PastOrders
-pub mod FirstField
-pub mod ActsInTurn
-pub mod DevicePlaces
-pub mod DeviceSteps
-pub mod DeviceRetuned
-pub mod ObeyedOrders
-pub mod StepsInCode
-pub mod EventsInCode
-pub mod FramesInCode
-pub mod FieldClosing
-pub mod ToldInCode
-pub mod ObeyedInTurn
-pub mod NamedDeliveries
-pub mod Reactions
-pub mod AlarmsTaken
-pub mod ShownPlaces
-pub mod BegunDevices
-pub mod LoggedSendings
-pub mod BegunSendings
-pub mod GoesOn
-pub mod HearersAtPlaces
-pub mod HearingLoop
-pub mod EndedSendings
-pub mod EndsOfSendings
-pub mod DevicesOfNodes
-pub mod HearersTold
-pub mod DueSteps
-pub mod LineSteps
-pub mod LinesInCode
-pub mod WorldRuns
+mod ActsInTurn
+mod AheadInTick
+mod AirInTime
+mod AlarmsAtPlaces
+mod AlarmsTaken
+mod BegunDevices
+mod BegunSendings
+mod ClocksAtPlaces
+mod CoresOver
+mod DeliveriesInOrder
+mod DeliveriesOver
+mod DevicePlaces
+mod DeviceRetuned
+mod DeviceSteps
+mod DevicesOfNodes
+mod DropsOver
+mod DueSteps
+mod EndedSendings
+mod EndsOfSendings
+mod EventsInCode
+mod FieldClosing
+mod FirstField
+mod FramesInCode
+mod GoesOn
+mod HeardAtEnds
+mod HearersAtPlaces
+mod HearersTold
+mod HearingLoop
+mod HearingOrder
+mod HearingsAtEnd
+mod HearingsGoOn
+mod KeptDrops
+mod KnownAtPlaces
+mod LineSteps
+mod LinesInCode
+mod LinesTold
+mod LoggedSendings
+mod NextMoments
+mod NodePlaces
+mod ObeyedInTurn
+mod ObeyedOrders
+mod OrdersOver
+mod PastOrders
+mod PlacedNodes
+mod QueueKeys
+mod Reactions
+mod RunOver
+mod RunPlaces
+mod RunsBegin
+mod RunsGoOn
+mod RunsOnAir
+mod ScenesGoOn
+mod ScriptCuts
+mod SendingEnds
+mod SendingsRun
+mod ShownDevices
+mod ShownPlaces
+mod ShownTunings
+mod StepsGoOn
+mod StepsInCode
+mod TickPoints
+mod TimePasses
+mod ToldDevices
+mod ToldInCode
+mod ToldSoFar
+mod TrailsAtEnds
+mod TrailsGoOn
+mod TrailsOver
+mod TunedMoments
+mod WorldRuns

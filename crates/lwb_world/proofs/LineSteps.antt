@@ -16,9 +16,9 @@ use Rattle.bus_rules.specs.Cores.{Setup}
 use Rattle.air_log.specs.Devices.{Device}
 use Rattle.air_log.proofs.AlarmLoop.{early_in_run}
 use Rattle.air_log.proofs.Elements.{contains_head}
-use Rattle.lwb_flood.specs.ClockLists.{clocks_by}
-use Rattle.lwb_world.specs.WorldDevices.{CanBoot}
-use Rattle.lwb_world.specs.Fields.{FieldState, IsField, Shows, IsShown, ids_of, id_of, setup_of}
+use Rattle.air_log.specs.ClockLists.{clocks_by}
+use Rattle.air_log.specs.DeviceStates.{CanBoot}
+use Rattle.lwb_world.specs.Fields.{FieldState, Shows, IsShown, ids_of, id_of, setup_of}
 use Rattle.lwb_world.specs.FieldSteps.{IsTold, node_id}
 use Rattle.lwb_world.specs.Frames.{IsNextLine}
 use Rattle.lwb_world.specs.Moments.{InLines}
@@ -96,7 +96,7 @@ module _ {C : Type 0} (R : C → ℕ → ℕ) (s : ScenarioParts) (sound : IsSou
     pub boots : (q : Setup) (d : Device) → Shows q t old old_due p d → line.act ≡ On → CanBoot d.power
     boots q d shows = can_boot s (clocks_by R s.nodes cs) sound told next.rest line next.is t old old_due run.script p q d shows (to_node q d shows)
 
-    pub line_done : (c : C) → slice_get cs p ≡ Some c → (new : FieldState) (new_due : List Due) → IsField new → IsTold (R c) line t p line.act old old_due new new_due
+    pub line_done : (c : C) → slice_get cs p ≡ Some c → (new : FieldState) (new_due : List Due) → IsTold (R c) line t p line.act old old_due new new_due
         → IsRunning s (clocks_by R s.nodes cs) (told ++ line ∷ []) t (InLines (told ++ line ∷ [])) new new_due
-    line_done c clock new new_due field all =
-        line_goes_on s (clocks_by R s.nodes cs) sound told t p node.0 node.1 old old_due new new_due field (R c) (own_clock R s sound cs count p c clock) line own next.now all.0 all.1 all.2 run
+    line_done c clock new new_due all =
+        line_goes_on s (clocks_by R s.nodes cs) sound told t p node.0 node.1 old old_due new new_due (R c) (own_clock R s sound cs count p c clock) line own next.now all.0 all.1 all.2 run

@@ -7,10 +7,9 @@ use Rattle.std.proofs.lemmas.List.Elements.{filter-append, Contains-push_cases}
 use Rattle.radio_model.specs.declared.sending.Sending.{Sending}
 use Rattle.radio_model.specs.OnAir.{Tuning}
 use Rattle.air_log.specs.declared.entry.Entry.{Entry}
-use Rattle.air_log.specs.Entries.{node_of, sendings_of}
+use Rattle.air_log.specs.Entries.{node_of, sendings_of, sent_entry, heard_entry}
 use Rattle.air_log.specs.Lawful.{sent_by, tuned_by}
-use Rattle.lwb_flood.specs.FloodWorlds.{sent_entry, heard_entry}
-use Rattle.lwb_flood.proofs.WorldLists.{sendings_sent, tunings_sent, sendings_heard, tunings_heard}
+use Rattle.air_log.proofs.LoggedEntries.{sendings_sent, tunings_sent, sendings_heard, tunings_heard}
 
 -- a sending more
 module _ (air : List Entry) (x : Sending) (v : ℕ) where

@@ -10,7 +10,7 @@ use Rattle.event_calendar.specs.Orders.{Due}
 use Rattle.bus_rules.specs.Cores.{Setup}
 use Rattle.radio_model.specs.Stations.{IsTime}
 use Rattle.air_log.specs.Devices.{Device, obeyed}
-use Rattle.lwb_world.specs.WorldDevices.{IsTimely}
+use Rattle.air_log.specs.DeviceStates.{IsTimely}
 use Rattle.lwb_world.specs.Fields.{FieldState, IsShown}
 use Rattle.lwb_world.specs.FieldSteps.{Acts}
 use Rattle.lwb_world.proofs.ActsInTurn.{acts_nothing, acts_then, acts_as}

@@ -12,7 +12,7 @@ use Rattle.radio_model.specs.Holding.{Holds, after_tuning}
 use Rattle.radio_model.specs.Stations.{MediumState, IsTime, station_of, after as medium_after, retuned}
 use Rattle.air_log.specs.declared.entry.TunedEntry.{TunedEntry}
 use Rattle.air_log.specs.Devices.{Listening, Made}
-use Rattle.lwb_world.specs.WorldDevices.{DeviceState, with_tuned, IsSameNode}
+use Rattle.air_log.specs.DeviceStates.{DeviceState, with_tuned, IsSameNode}
 use Rattle.lwb_world.specs.Fields.{FieldState, IsField, IsKnown, entries_of, due_of, channel_of}
 use Rattle.lwb_world.specs.FieldSteps.{GoesOn}
 use Rattle.lwb_world.proofs.ActsInTurn.{goes_nowhere}

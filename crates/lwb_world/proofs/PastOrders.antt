@@ -26,7 +26,7 @@ use Rattle.lwb_world.specs.Runs.{standing, end_of, tick_of as start_of}
 use Rattle.lwb_world.proofs.NextMoments.{order_not_past, order_not_earlier}
 use Rattle.lwb_world.proofs.PlacedNodes.{node_of_place}
 use Rattle.lwb_world.proofs.RunPlaces.{place_of_order}
-use Rattle.lwb_world.proofs.SendingsKept.{told_of_hearing_sending, told_of_end_sending}
+use Rattle.lwb_world.proofs.ToldDevices.{told_of_hearing_sending, told_of_end_sending}
 use Rattle.lwb_world.proofs.ShownDevices.{stands_at}
 use Rattle.lwb_world.proofs.TrailsAtEnds.{is_in}
 use Rattle.lwb_world.proofs.TrailsGoOn.{AreClocks}

@@ -9,8 +9,8 @@ use Rattle.scenario_text.specs.ScenarioParts.{ScenarioParts}
 use Rattle.scenario_text.specs.declared.lines.NodeLine.{NodeLine}
 use Rattle.event_calendar.specs.Orders.{Due}
 use Rattle.bus_rules.specs.Cores.{Setup}
-use Rattle.lwb_flood.specs.ClockLists.{clocks_by}
-use Rattle.lwb_world.specs.WorldDevices.{DeviceState}
+use Rattle.air_log.specs.ClockLists.{clocks_by}
+use Rattle.air_log.specs.DeviceStates.{DeviceState}
 use Rattle.lwb_world.specs.Fields.{FieldState, setup_of, setups_of}
 use Rattle.lwb_world.specs.Running.{HasPlaces, setup_by}
 

@@ -11,12 +11,12 @@ use Rattle.radio_model.specs.Stations.{IsTime}
 use Rattle.node_core.specs.Rows.{Stepped}
 use Rattle.node_core.specs.Runs.{orders_by}
 use Rattle.air_log.specs.Devices.{Device, Power, PowerOff, PowerOn, Made, obeyed, event}
-use Rattle.lwb_world.specs.WorldDevices.{DeviceState, whole, HappenedBy, row_at, row_of, after_row, made_by}
+use Rattle.air_log.specs.DeviceStates.{DeviceState, whole, HappenedBy, row_at, row_of, after_row, made_by}
 use Rattle.lwb_world.specs.Fields.{FieldState, IsShown, IsField, due_of}
 use Rattle.lwb_world.specs.FieldSteps.{Acts}
 use Rattle.lwb_world.proofs.ActsInTurn.{acts_then, acts_as}
 use Rattle.lwb_world.proofs.DeviceSteps.{GoesOnMaking}
-use Rattle.lwb_world.proofs.NamedDeliveries.{IsTo, DeliversTo, delivers_to}
+use Rattle.node_core.proofs.NamedDeliveries.{IsTo, DeliversTo, delivers_to}
 use Rattle.lwb_world.proofs.StepsInCode.{state_known, state_happened, state_taken, same_as_shown, quiet_acts}
 
 -- the device after a row, whose delivery has been taken

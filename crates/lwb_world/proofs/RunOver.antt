@@ -7,7 +7,7 @@ use Rattle.air_log.specs.Trails.{run_end}
 use Rattle.air_log.specs.Lawful.{FollowsHearing}
 use Rattle.air_log.specs.Deliveries.{comes_before}
 use Rattle.air_log.specs.LogText.{in_order}
-use Rattle.lwb_world.specs.WorldDevices.{core_in}
+use Rattle.air_log.specs.DeviceStates.{core_in}
 use Rattle.lwb_world.specs.Fields.{FieldState}
 use Rattle.lwb_world.specs.FieldSteps.{IsClosed}
 use Rattle.lwb_world.specs.Moments.{Before}

@@ -9,7 +9,7 @@ use Rattle.event_calendar.specs.declared.class.Class.{Class}
 use Rattle.event_calendar.specs.declared.class.Class.TheVariants.{SendingEnd, Alarm, SendingStart}
 use Rattle.event_calendar.specs.Orders.{Due, at, tick_of, nothing_due}
 use Rattle.bus_rules.specs.Cores.{Setup}
-use Rattle.lwb_world.specs.WorldDevices.{DeviceState}
+use Rattle.air_log.specs.DeviceStates.{DeviceState}
 use Rattle.lwb_world.specs.Fields.{FieldState, setup_of, id_of}
 use Rattle.lwb_world.specs.Running.{HasPlaces, setup_by}
 use Rattle.lwb_world.proofs.PlacedNodes.{as_many_devices}

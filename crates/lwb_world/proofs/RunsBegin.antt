@@ -11,15 +11,16 @@ use Rattle.radio_model.specs.Stations.{MediumState, nodes_of, is_of, station_of,
 use Rattle.event_calendar.specs.Orders.{Due, nothing_due}
 use Rattle.bus_rules.specs.Cores.{Setup}
 use Rattle.air_log.specs.declared.entry.Entry.{Entry}
-use Rattle.air_log.specs.Devices.{Device, at_rest, nothing_made}
+use Rattle.air_log.specs.Devices.{Device, at_rest, nothing_made, seen_power}
 use Rattle.air_log.specs.Lawful.{sent_by, tuned_by, heard_by}
 use Rattle.air_log.specs.Trails.{setup_of as setup_in}
 use Rattle.air_log.proofs.Elements.{not_in_none}
-use Rattle.lwb_world.specs.WorldDevices.{DeviceState}
+use Rattle.air_log.specs.DeviceStates.{DeviceState}
 use Rattle.lwb_world.specs.Fields.{FieldState, IsField, Shows, setup_of, id_of}
 use Rattle.lwb_world.specs.FieldSteps.{IsFirst, first_device, node_id}
 use Rattle.lwb_world.specs.Moments.{Before}
-use Rattle.lwb_world.specs.Running.{IsRunning, IsOnTrail, seen_power, setup_by}
+use Rattle.lwb_world.specs.Running.{IsRunning, IsOnTrail, setup_by}
+use Rattle.lwb_world.proofs.FirstField.{first_field}
 use Rattle.lwb_world.proofs.LinesTold.{first_moment}
 use Rattle.lwb_world.proofs.AirInTime.{first_on_air}
 
@@ -56,7 +57,10 @@ first_setups : (s : ScenarioParts) (ns : List NodeLine) → map setup_of (map (f
 first_setups s [] = refl
 first_setups s (n ∷ ns) = ap (λ (l : List Setup). setup_in s n.node ∷ l) (first_setups s ns)
 
-module _ (s : ScenarioParts) (clocks : ℕ → ℕ → ℕ) (sound : IsSoundScenario s) (w : FieldState) (due : List Due) (first : IsFirst s w) (field : IsField w) (none : due ≡ replicate (length s.nodes) nothing_due) where
+module _ (s : ScenarioParts) (clocks : ℕ → ℕ → ℕ) (sound : IsSoundScenario s) (w : FieldState) (due : List Due) (first : IsFirst s w) (none : due ≡ replicate (length s.nodes) nothing_due) where
+  field : IsField w
+  field = first_field s sound w first.medium first.devices
+
   device_at : (p : ℕ) (n : NodeLine) → slice_get s.nodes p ≡ Some n → slice_get w.devices p ≡ Some (first_device s n)
   device_at p n at = ap (λ (l : List DeviceState). slice_get l p) first.devices ∙ slice_get-map (first_device s) s.nodes p ∙ ap (option_map (first_device s)) at
 

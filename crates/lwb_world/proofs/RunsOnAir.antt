@@ -10,10 +10,10 @@ use Rattle.bus_rules.specs.declared.delivery.DropLine.{DropLine}
 use Rattle.bus_rules.specs.Cores.{Setup}
 use Rattle.air_log.specs.Devices.{Device}
 use Rattle.air_log.specs.ScriptedDevices.{after_line}
-use Rattle.air_log.specs.Trails.{run_end, alarmed, begun}
+use Rattle.air_log.specs.Trails.{run_end, alarmed, begun, starting}
 use Rattle.air_log.specs.Lawful.{FollowsHearing}
 use Rattle.lwb_world.specs.Fields.{FieldState, IsField, Shows}
-use Rattle.lwb_world.specs.FieldSteps.{Acts, EndsSending, Sends, IsClosed, starting}
+use Rattle.lwb_world.specs.FieldSteps.{Acts, EndsSending, Sends, IsClosed}
 use Rattle.lwb_world.specs.Moments.{Moment, Before, InLines, At, over_by}
 use Rattle.lwb_world.specs.Running.{IsOnAir, IsRunning}
 use Rattle.lwb_world.proofs.ShownTunings.{AreTuned, trails_tuned}

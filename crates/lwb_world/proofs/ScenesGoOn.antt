@@ -17,11 +17,12 @@ use Rattle.air_log.specs.declared.entry.Entry.{Entry}
 use Rattle.air_log.specs.declared.entry.Entry.TheVariants.{Sent, Heard, Tuned}
 use Rattle.air_log.specs.Entries.{sending_in, sendings_of, node_of}
 use Rattle.air_log.specs.Devices.{Device}
-use Rattle.lwb_world.specs.WorldDevices.{DeviceState}
+use Rattle.air_log.specs.DeviceStates.{DeviceState}
 use Rattle.lwb_world.specs.Fields.{FieldState, Shows, setups_of, ids_of, setup_of as setup_in, id_of}
 use Rattle.lwb_world.specs.FieldSteps.{IsSceneAfter, GoesOn, AreSame}
-use Rattle.lwb_world.specs.Running.{Runs, WasTuned, HoldsScene}
-use Rattle.lwb_world.proofs.TunedBefore.{IsTunedAs}
+use Rattle.lwb_world.specs.Running.{Runs, HoldsScene}
+use Rattle.air_log.specs.TunedTimes.{WasTuned}
+use Rattle.air_log.proofs.TunedBefore.{IsTunedAs}
 use Rattle.lwb_world.proofs.ShownTunings.{shown_within, alike, alike_back, tuned_alike}
 
 -- ids and number of the devices of a field are those of its setups

@@ -21,13 +21,14 @@ use Rattle.air_log.specs.Lawful.{comes_before, AreInTurn}
 use Rattle.lwb_world.specs.Fields.{FieldState, IsField, Shows, ids_of}
 use Rattle.lwb_world.specs.FieldSteps.{EndsSending, Sends, hearing_at}
 use Rattle.lwb_world.specs.Running.{Runs, HoldsScene, HasHearings, IsOnAir}
-use Rattle.lwb_world.proofs.TunedBefore.{stays_same, told_of_end_stays, told_of_hearing_stays}
-use Rattle.lwb_world.proofs.SendingsKept.{told_of_end_sending, told_of_hearing_sending}
+use Rattle.air_log.proofs.TunedBefore.{stays_same}
+use Rattle.lwb_world.proofs.ToldDevices.{told_of_end_stays, told_of_hearing_stays, told_of_end_sending, told_of_hearing_sending}
 use Rattle.lwb_world.proofs.ShownTunings.{AreTuned, IsTunedAt, id_there, shown_id, shown_end, shown_sending, place_in}
 use Rattle.lwb_world.proofs.ScenesGoOn.{IsMoved, same_ids, sending_at, on_air_there, runs_node, runs_sent, next, is_next, scene_after}
 use Rattle.lwb_world.proofs.AirInTime.{heard_alike}
 use Rattle.lwb_world.proofs.HearingsGoOn.{runs_at}
-use Rattle.lwb_world.proofs.HearingOrder.{IsEarlier, earlier, comes_if, not_both, not_before, pairs_append, which_sending, ids_ascend, one_place}
+use Rattle.lwb_world.proofs.HearingOrder.{IsEarlier, earlier, comes_if, not_both, not_before, pairs_append, ids_ascend, one_place}
+use Rattle.air_log.proofs.SameSendings.{which_sending}
 
 -- what a filter leaves
 pub filtered : {X : Type 0} (test : X → Bool) (xs : List X) (x : X) → Contains (filter test xs) x → Contains xs x × (test x ≡ true)

@@ -11,7 +11,7 @@ use Rattle.air_log.proofs.HearingMore.{earlier_stays, heard_now}
 use Rattle.lwb_world.specs.FieldSteps.{told_of_end}
 use Rattle.lwb_world.specs.Moments.{At, IsAt, point}
 use Rattle.lwb_world.specs.Runs.{end_of}
-use Rattle.lwb_world.proofs.OwnSendings.{IsOwn, own_heard, still_sent, none_ends}
+use Rattle.air_log.proofs.OwnSendings.{IsOwn, own_heard, still_sent, none_ends}
 use Rattle.lwb_world.proofs.TickPoints.{IsOver, ends_nothing, end_at}
 
 told_as_ended : (clock : ℕ → ℕ) (s : Setup) (t : ℕ) (d : Device) (x : Sending) (y : Option Sending) → y ≡ Some x → x.end ≡ t → ended_by clock s t d y ≡ told_of_end clock t x s d

@@ -15,7 +15,7 @@ use Rattle.air_log.specs.declared.entry.TunedEntry.{TunedEntry}
 use Rattle.air_log.specs.Devices.{Device, Listening, Ordered}
 use Rattle.air_log.specs.Trails.{setup_of}
 use Rattle.air_log.specs.Ahead.{IsAhead}
-use Rattle.lwb_world.specs.WorldDevices.{DeviceState, EndedBefore}
+use Rattle.air_log.specs.DeviceStates.{DeviceState, EndedBefore}
 use Rattle.lwb_world.specs.Fields.{FieldState, Shows, due_of, setup_of as setup_in}
 use Rattle.lwb_world.specs.Running.{HasPlaces, setup_by}
 use Rattle.lwb_world.specs.Runs.{standing}

@@ -11,7 +11,7 @@ use Rattle.bus_rules.specs.declared.delivery.DropLine.{DropLine}
 use Rattle.air_log.specs.declared.entry.Entry.{Entry}
 use Rattle.air_log.specs.Devices.{Device}
 use Rattle.air_log.specs.Lawful.{sent_by, tuned_by}
-use Rattle.lwb_world.specs.WorldDevices.{DeviceState, whole, HappenedBy}
+use Rattle.air_log.specs.DeviceStates.{DeviceState, whole, HappenedBy}
 use Rattle.lwb_world.specs.Fields.{FieldState, IsField, IsKnown, Shows, IsShown, id_of}
 
 -- a list with another element at one place

@@ -13,11 +13,13 @@ use Rattle.bus_rules.specs.Cores.{Setup}
 use Rattle.air_log.specs.Devices.{Device, Listening}
 use Rattle.air_log.specs.Trails.{setup_of}
 use Rattle.air_log.specs.Lawful.{tuned_by, heard_by}
-use Rattle.lwb_world.specs.WorldDevices.{DeviceState, one_more, EndedBefore}
+use Rattle.air_log.specs.DeviceStates.{DeviceState, one_more, EndedBefore}
 use Rattle.lwb_world.specs.Fields.{FieldState, Shows, ids_of, setup_of as setup_in, id_of, end_of, due_of}
 use Rattle.lwb_world.specs.Moments.{Moment}
-use Rattle.lwb_world.specs.Running.{HasPlaces, IsOnTrail, WasTuned, setup_by}
-use Rattle.lwb_world.proofs.TunedBefore.{TunedAt, HasTunedBy, by_later, moment_by}
+use Rattle.lwb_world.specs.Running.{HasPlaces, IsOnTrail, setup_by}
+use Rattle.air_log.specs.TunedTimes.{WasTuned}
+use Rattle.air_log.proofs.TunedBefore.{TunedAt, HasTunedBy, by_later}
+use Rattle.lwb_world.proofs.TunedMoments.{moment_by}
 
 pub mapped : {X Y : Type 0} (f : X → Y) (xs : List X) (p : ℕ) (x : X) → slice_get xs p ≡ Some x → slice_get (map f xs) p ≡ Some (f x)
 mapped f [] p x is = cc

@@ -14,34 +14,35 @@ use Rattle.bus_rules.specs.Cores.{Setup}
 use Rattle.bus_rules.specs.declared.delivery.DropLine.{DropLine}
 use Rattle.air_log.specs.Devices.{Device}
 use Rattle.air_log.specs.ScriptedDevices.{after_line}
-use Rattle.air_log.specs.Trails.{run_end, frame_start, alarmed, begun}
+use Rattle.air_log.specs.Trails.{run_end, frame_start, alarmed, begun, starting}
 use Rattle.air_log.specs.Drops.{drop_by}
 use Rattle.lwb_world.specs.Fields.{FieldState, IsField, Shows}
-use Rattle.lwb_world.specs.FieldSteps.{Acts, EndsSending, Sends, AreSame, starting}
+use Rattle.lwb_world.proofs.GoesOn.{field_goes_on}
+use Rattle.lwb_world.specs.FieldSteps.{GoesOn, Acts, EndsSending, Sends, AreSame}
 use Rattle.lwb_world.specs.Moments.{Moment, InLines, At}
 use Rattle.lwb_world.specs.Running.{IsRunning, HasPlaces}
 use Rattle.lwb_world.proofs.TrailsGoOn.{IsClockAt, AreClocks, same_places, line_trails, alarm_trails, begin_trails}
 use Rattle.lwb_world.proofs.TrailsAtEnds.{end_trails}
 use Rattle.lwb_world.proofs.ToldSoFar.{acts_told, end_told_of, line_told_of}
-use Rattle.lwb_world.proofs.KeptPower.{alarmed_power, begun_power}
+use Rattle.air_log.proofs.KeptPower.{alarmed_power, begun_power}
 use Rattle.lwb_world.proofs.HeardAtEnds.{not_own, heard_at_end, heard_on_at_end}
 use Rattle.lwb_world.proofs.RunsOnAir.{air_after_line, air_after_alarm, air_after_begin, air_after_end}
 use Rattle.lwb_world.proofs.PlacedNodes.{as_many_devices}
 
 module _ (s : ScenarioParts) (clocks : ℕ → ℕ → ℕ) (sound : IsSoundScenario s) (told : List ScriptLine) (t p : ℕ) (n : NodeLine) (here : slice_get s.nodes p ≡ Some n)
-    (old : FieldState) (old_due : List Due) (new : FieldState) (new_due : List Due) (field : IsField new) where
+    (old : FieldState) (old_due : List Due) (new : FieldState) (new_due : List Due) where
   inside : (m : Moment) → IsRunning s clocks told t m old old_due → p < length old.devices
   inside m run = let long = as_many_devices s old old_due run.places in omega (arith, slice_get_within s.nodes p n here, long)
 
-  places_after : (m : Moment) → IsRunning s clocks told t m old old_due → AreSame old old_due new new_due → HasPlaces s new new_due
-  places_after m run same = same_places s old new old_due new_due same field run.places
+  places_after : (m : Moment) (begun : List Sending) → IsRunning s clocks told t m old old_due → AreSame old old_due new new_due → GoesOn t old.medium new.medium begun → HasPlaces s new new_due
+  places_after m begun run same air = same_places s old new old_due new_due same (field_goes_on t begun old new old_due new_due same air run.places.field) run.places
 
   -- a line of the script is told to its node
   pub line_goes_on : (clock : ℕ → ℕ) → IsClockAt s clocks p clock → (l : ScriptLine) → l.node ≡ n.node → frame_start s l.frame ≡ t → (lost : List DropLine)
       → Acts t p (λ x d. after_line clock x t d l) [] lost old old_due new new_due → ((x : Setup) (d : Device) → Shows x t old old_due p d → lost ≡ option_to_list (drop_by l l.act d.power))
       → IsRunning s clocks told t (InLines told) old old_due → IsRunning s clocks (told ++ l ∷ []) t (InLines (told ++ l ∷ [])) new new_due
   line_goes_on clock own_clock l own now lost acts loses run =
-      let places = places_after (InLines told) run acts.same in
+      let places = places_after (InLines told) [] run acts.same acts.air in
       record {
         places = places;
         trails = line_trails s clocks t p clock own_clock old old_due new new_due told l n [] lost sound here own now acts run.trails;
@@ -54,7 +55,7 @@ module _ (s : ScenarioParts) (clocks : ℕ → ℕ → ℕ) (sound : IsSoundScen
     pub alarm_goes_on : (clock : ℕ → ℕ) → IsClockAt s clocks p clock → Acts t p (λ x d. alarmed clock x t d) [] [] old old_due new new_due
         → IsRunning s clocks told t (At Alarm) old old_due → IsRunning s clocks told t (At Alarm) new new_due
     alarm_goes_on clock own_clock acts run =
-        let places = places_after (At Alarm) run acts.same in
+        let places = places_after (At Alarm) [] run acts.same acts.air in
         record {
           places = places;
           trails = alarm_trails s clocks t p clock own_clock old old_due new new_due sound drifts within [] [] acts run.trails;
@@ -67,7 +68,7 @@ module _ (s : ScenarioParts) (clocks : ℕ → ℕ → ℕ) (sound : IsSoundScen
         → ((x : Setup) (d : Device) → Shows x t old old_due p d → starts ≡ starting x t d)
         → IsRunning s clocks told t (At SendingStart) old old_due → IsRunning s clocks told t (At SendingStart) new new_due
     begin_goes_on clock own_clock starts acts are run =
-        let places = places_after (At SendingStart) run acts.same in
+        let places = places_after (At SendingStart) starts run acts.same acts.air in
         record {
           places = places;
           trails = begin_trails s clocks t p clock own_clock old old_due new new_due sound drifts within starts [] acts run.trails;
@@ -80,7 +81,7 @@ module _ (s : ScenarioParts) (clocks : ℕ → ℕ → ℕ) (sound : IsSoundScen
       → (hearers : List ℕ) → EndsSending lines at_places t p x hearers old old_due new new_due
       → IsRunning s clocks told t (At SendingEnd) old old_due → IsRunning s clocks told t (At SendingEnd) new new_due
   end_goes_on lines by_trace at_places own_clocks x now sends next hearers ends run =
-      let places = places_after (At SendingEnd) run ends.same in
+      let places = places_after (At SendingEnd) [] run ends.same ends.air in
       let air = run.air in
       let deaf = not_own s clocks sound lines by_trace at_places t p x now hearers old old_due new new_due ends run.places run.trails sends n here air.scene air.holds (suc t) air.has in
       let heard = heard_at_end s clocks sound lines by_trace at_places t p x now hearers old old_due new new_due ends run.places run.trails sends n here air.scene air.holds (suc t) air.has in

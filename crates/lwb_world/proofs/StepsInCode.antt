@@ -18,7 +18,7 @@ use Rattle.radio_model.specs.Stations.{MediumState, IsTime, nodes_of, after as m
 use Rattle.air_log.specs.declared.entry.Entry.{Entry}
 use Rattle.air_log.specs.declared.entry.TunedEntry.{TunedEntry}
 use Rattle.air_log.specs.Devices.{Device, Listening, Made, obeyed}
-use Rattle.lwb_world.specs.WorldDevices.{DeviceState, whole, with_tuned, EndedBefore, HappenedBy, IsSameNode}
+use Rattle.air_log.specs.DeviceStates.{DeviceState, whole, with_tuned, EndedBefore, HappenedBy, IsSameNode}
 use Rattle.lwb_world.specs.Fields.{FieldState, Shows, IsShown, IsField, IsKnown, entries_of, due_of, channel_of, ids_of, id_of}
 use Rattle.lwb_world.specs.FieldSteps.{Acts}
 use Rattle.lwb_world.proofs.DevicePlaces.{contains_at}

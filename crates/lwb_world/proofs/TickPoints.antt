@@ -20,7 +20,7 @@ use Rattle.air_log.proofs.AlarmRuns.{alarms_are_run}
 use Rattle.air_log.proofs.NextDue.{is_ahead}
 use Rattle.lwb_world.specs.Moments.{At, IsAt, after_point}
 use Rattle.lwb_world.specs.Runs.{standing, end_of, tick_of as start_of}
-use Rattle.lwb_world.proofs.OwnSendings.{none_ends, none_ends_later}
+use Rattle.air_log.proofs.OwnSendings.{none_ends, none_ends_later}
 
 -- no order of the class stands at the tick
 abbrev pub IsOver : Class → ℕ → Device → Type 0

@@ -2,7 +2,7 @@
 use Rattle.std.proofs.Common.{◌≡◌, ◌<◌, ℕ, List, [], ◌∷◌, ◌++◌, set, get_or, length, Bool, true, false, if◌then◌else◌, Option, Some, None, IfSome, option_map, option_to_list, refl, sym, ◌∙◌, ap, subst}
 use Rattle.std.specs.List.{slice_get}
 use Rattle.std.proofs.lemmas.List.{append-nil}
-use Rattle.std.proofs.lemmas.Bool.{cond_both}
+use Rattle.std.proofs.lemmas.Bool.{cond_both, false≢true, true≢false}
 use Rattle.std.proofs.lemmas.Option.{same_Some}
 use Rattle.event_calendar.specs.Orders.{Due, changed, with_tick}
 use Rattle.event_calendar.specs.declared.class.Class.TheVariants.{Alarm as AlarmOf, SendingStart}
@@ -11,18 +11,17 @@ use Rattle.scenario_text.specs.declared.script.Act.{Act}
 use Rattle.scenario_text.specs.declared.script.Act.TheVariants.{On, Off, Declare, Leave, Put}
 use Rattle.scenario_text.specs.declared.script.ScriptLine.{ScriptLine}
 use Rattle.bus_rules.specs.Cores.{Setup}
-use Rattle.bus_rules.specs.Streams.{put, drops}
+use Rattle.bus_rules.specs.States.{refuses, queues}
 use Rattle.bus_rules.specs.declared.delivery.DropLine.{DropLine}
 use Rattle.radio_model.specs.Hearing.{Scene}
 use Rattle.radio_model.specs.Holding.{Holds, after_tuning}
 use Rattle.radio_model.specs.Stations.{MediumState, IsTime, station_of, after as medium_after, retuned}
 use Rattle.node_core.specs.Nodes.{Node}
 use Rattle.air_log.specs.declared.entry.TunedEntry.{TunedEntry}
-use Rattle.air_log.specs.Devices.{Device, Power, PowerOff, PowerOn, Listening, Made, nothing_made, event}
-use Rattle.air_log.specs.ScriptedDevices.{after_act, dropped, with_new_streams}
+use Rattle.air_log.specs.Devices.{Device, Power, PowerOff, PowerOn, Listening, Made, nothing_made, event, is_on}
+use Rattle.air_log.specs.ScriptedDevices.{after_act, dropped, with_new_core}
 use Rattle.air_log.specs.Drops.{drop_by}
-use Rattle.lwb_world.specs.WorldDevices.{DeviceState, whole, with_tuned, with_drop, HappenedBy, IsSameNode}
-use Rattle.lwb_world.specs.DeviceShapes.{power_of}
+use Rattle.air_log.specs.DeviceStates.{DeviceState, whole, with_tuned, with_drop, HappenedBy, IsSameNode}
 use Rattle.lwb_world.specs.Fields.{FieldState, Shows, IsShown, IsField, entries_of, due_of, channel_of}
 use Rattle.lwb_world.specs.FieldSteps.{Acts, IsTold}
 use Rattle.lwb_world.proofs.ActsInTurn.{goes_nowhere, acts_then, acts_as}
@@ -56,7 +55,7 @@ module _ (clock : ℕ → ℕ) (s : Setup) (t frame : ℕ) (d : Device) where
   pub put_stays : (i : ℕ) (payload : List ℕ) (power : Power) → StaysSet d (after_act clock s t frame d (Put i payload) power)
   put_stays i payload (PowerOff boots) = record { listening = refl; alarm = refl; ordered = refl; sending = refl }
   put_stays i payload (PowerOn n) =
-      cond_both (drops n.core.streams i) (dropped s.id frame i d) (with_new_streams d n (put i payload n.core.streams)) (StaysSet d)
+      cond_both (refuses i n.core) (dropped s.id frame i d) (with_new_core d n (queues i payload n.core)) (StaysSet d)
       (λ is. record { listening = refl; alarm = refl; ordered = refl; sending = refl })
       (λ not. record { listening = refl; alarm = refl; ordered = refl; sending = refl })
 
@@ -67,9 +66,9 @@ module _ (clock : ℕ → ℕ) (s : Setup) (t frame : ℕ) (d : Device) where
   pub put_loses : (l : ScriptLine) (i : ℕ) (payload : List ℕ) (power : Power) → l.frame ≡ frame → l.node ≡ s.id → d.made.drops ≡ []
       → (after_act clock s t frame d (Put i payload) power).made.drops ≡ option_to_list (drop_by l (Put i payload) power)
   put_loses l i payload (PowerOff boots) at own none = ap (λ (ds : List DropLine). ds ++ one_drop frame s.id i ∷ []) none ∙ ap (λ (x : DropLine). x ∷ []) (same_drop l i at own)
-  put_loses l i payload (PowerOn n) at own none = by_test (drops n.core.streams i)
+  put_loses l i payload (PowerOn n) at own none = by_test (refuses i n.core)
     where
-      by_test : (b : Bool) → (if b then dropped s.id frame i d else with_new_streams d n (put i payload n.core.streams)).made.drops ≡ option_to_list (if b then Some (one_drop l.frame l.node i) else None)
+      by_test : (b : Bool) → (if b then dropped s.id frame i d else with_new_core d n (queues i payload n.core)).made.drops ≡ option_to_list (if b then Some (one_drop l.frame l.node i) else None)
       by_test true = ap (λ (ds : List DropLine). ds ++ one_drop frame s.id i ∷ []) none ∙ ap (λ (x : DropLine). x ∷ []) (same_drop l i at own)
       by_test false = none
 
@@ -80,16 +79,14 @@ pub record IsOffAfter (d e : Device) : Type 0 where
   pub ordered : e.ordered ≡ None
   pub sending : e.sending ≡ d.sending
 
-module _ (clock : ℕ → ℕ) (s : Setup) (t frame : ℕ) (d : Device) (boots : ℕ) (n : Node) where
-  pub off_stays : (on : Bool) (power : Power) → on ≡ false → power_of on boots n ≡ power → after_act clock s t frame d Off power ≡ d
-  off_stays on power off is = ap (λ (x : Power). after_act clock s t frame d Off x) (sym is) ∙ ap (λ (b : Bool). after_act clock s t frame d Off (power_of b boots n)) off
+module _ (clock : ℕ → ℕ) (s : Setup) (t frame : ℕ) (d : Device) where
+  pub off_stays : (power : Power) → is_on power ≡ false → after_act clock s t frame d Off power ≡ d
+  off_stays (PowerOff boots) off = refl
+  off_stays (PowerOn n) off = absurd (true≢false off)
 
-  pub off_then : (on : Bool) (power : Power) → on ≡ true → power_of on boots n ≡ power → IsOffAfter d (after_act clock s t frame d Off power)
-  off_then on power was is =
-      subst (λ (x : Power). IsOffAfter d (after_act clock s t frame d Off x)) is (
-      subst (λ (b : Bool). IsOffAfter d (after_act clock s t frame d Off (power_of b boots n))) (sym was)
-      (record { listening = refl; alarm = refl; ordered = refl; sending = refl })
-      )
+  pub off_then : (power : Power) → is_on power ≡ true → IsOffAfter d (after_act clock s t frame d Off power)
+  off_then (PowerOff boots) on = absurd (false≢true on)
+  off_then (PowerOn n) on = record { listening = refl; alarm = refl; ordered = refl; sending = refl }
 
 pub as_told : (clock : ℕ → ℕ) (line : ScriptLine) {t p : ℕ} {act what : Act} {v w x : FieldState} {dv dx : List Due} → v ≡ w → act ≡ what → IsTold clock line t p act v dv x dx → IsTold clock line t p what w dv x dx
 as_told clock line {t} {p} {act} {what} {v} {w} {x} {dv} {dx} seen is told =

@@ -13,7 +13,7 @@ use Rattle.scenario_text.specs.declared.lines.NodeLine.{NodeLine}
 use Rattle.scenario_text.specs.declared.script.ScriptLine.{ScriptLine}
 use Rattle.bus_rules.specs.declared.delivery.DropLine.{DropLine}
 use Rattle.bus_rules.specs.Cores.{Setup}
-use Rattle.air_log.specs.Devices.{Device}
+use Rattle.air_log.specs.Devices.{Device, seen_power}
 use Rattle.air_log.specs.ScriptedDevices.{after_line}
 use Rattle.air_log.specs.Trails.{setup_of, frame_start}
 use Rattle.air_log.specs.Lawful.{heard_by}
@@ -21,8 +21,8 @@ use Rattle.air_log.specs.Drops.{before_line, drops_below}
 use Rattle.lwb_world.specs.Fields.{FieldState, Shows}
 use Rattle.lwb_world.specs.FieldSteps.{Acts, EndsSending, told_of_end, told_of_hearing}
 use Rattle.lwb_world.specs.Moments.{Moment, InLines, after_lines}
-use Rattle.lwb_world.specs.Running.{HasPlaces, IsTold, seen_power}
-use Rattle.lwb_world.proofs.KeptPower.{event_power, line_power, turned_more}
+use Rattle.lwb_world.specs.Running.{HasPlaces, IsTold}
+use Rattle.air_log.proofs.KeptPower.{event_power, line_power, turned_more}
 use Rattle.lwb_world.proofs.KeptDrops.{HeardOn, lost_by, drops_more, drops_stay, line_finds}
 use Rattle.lwb_world.proofs.ShownDevices.{node_there, same_power, shows_later}
 use Rattle.lwb_world.proofs.TrailsGoOn.{OnTrails, IsClockAt, heard_same, ids_apart, some_same}

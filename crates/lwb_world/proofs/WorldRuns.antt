@@ -9,9 +9,9 @@ use Rattle.air_log.specs.declared.entry.Entry.{Entry}
 use Rattle.air_log.specs.Trails.{run_end}
 use Rattle.air_log.specs.Deliveries.{comes_before}
 use Rattle.air_log.specs.LogText.{in_order}
-use Rattle.lwb_flood.specs.ClockLists.{clocks_by}
-use Rattle.lwb_world.specs.WorldDevices.{core_in}
-use Rattle.lwb_world.specs.Fields.{FieldState, IsField, IsShown}
+use Rattle.air_log.specs.ClockLists.{clocks_by}
+use Rattle.air_log.specs.DeviceStates.{core_in}
+use Rattle.lwb_world.specs.Fields.{FieldState, IsShown}
 use Rattle.lwb_world.specs.FieldSteps.{IsClosed}
 use Rattle.lwb_world.specs.Moments.{Before}
 use Rattle.lwb_world.specs.Running.{IsRunning}
@@ -22,7 +22,7 @@ use Rattle.lwb_world.proofs.LineSteps.{ids_of_nodes}
 use Rattle.lwb_world.proofs.RunOver.{run_over}
 use Rattle.lwb_world.proofs.RunsOnAir.{hearing_followed}
 
-module _ (s : ScenarioParts) (sound : IsSoundScenario s) (clocks : ℕ → ℕ → ℕ) (w : FieldState) (due : List Due) (run : IsRunning s clocks s.script (run_end s) Before w due) (field : IsField w) where
+module _ (s : ScenarioParts) (sound : IsSoundScenario s) (clocks : ℕ → ℕ → ℕ) (w : FieldState) (due : List Due) (run : IsRunning s clocks s.script (run_end s) Before w due) where
   -- all tunings end at tick t, which is the end of the run
   module _ (t : ℕ) (end : t ≡ run_end s) (closed : FieldState) (closes : (orders : List Due) → ((q : ℕ) → q < length w.devices → IsShown t w orders q) → IsClosed t w orders closed) where
     over : IsClosed (run_end s) w due closed
@@ -32,7 +32,7 @@ module _ (s : ScenarioParts) (sound : IsSoundScenario s) (clocks : ℕ → ℕ �
     pub run_left : (left : FieldState) → left ≡ record closed { deliveries = [] } → (made : List Delivery) → made ≡ in_order comes_before closed.deliveries
         → IsRun s clocks left.air made left.drops (core_of (map core_in left.devices)) × (due ≡ orders_left s clocks left.air)
     run_left left rest made taken =
-        let is = run_over s clocks w due closed sound run over (hearing_followed s clocks s.script w due run field closed over) in
+        let is = run_over s clocks w due closed sound run over (hearing_followed s clocks s.script w due run run.places.field closed over) in
         subst (λ (l : FieldState). IsRun s clocks l.air made l.drops (core_of (map core_in l.devices)) × (due ≡ orders_left s clocks l.air)) (sym rest)
         (subst (λ (ds : List Delivery). IsRun s clocks closed.air ds closed.drops (core_of (map core_in closed.devices))) (sym taken) is.0, is.1)
 

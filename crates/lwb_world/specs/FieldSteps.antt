@@ -1,5 +1,5 @@
 -- What a step of a run does: at one device, on the air, and in the lists.
-use Rattle.std.specs.Prelude.{◌≡◌, ◌≢◌, ◌⊎◌, ◌↔◌, ℕ, ◌<◌, List, [], ◌∷◌, ◌++◌, map, length, slice_get, slice_set, slice_index_or, All, AllPairs, Contains, ◌==◌, if◌then◌else◌, Some, None, option_to_list}
+use Rattle.std.specs.Prelude.{◌≡◌, ◌≢◌, ◌⊎◌, ◌↔◌, ℕ, ◌<◌, List, [], ◌∷◌, ◌++◌, map, length, slice_get, slice_set, slice_index_or, All, AllPairs, Contains, Some, None, option_to_list}
 use Rattle.std.specs.declared.option.Option.{Option}
 use Rattle.std.specs.Option.{IfSome}
 use Rattle.lwb_base.specs.declared.event.Event.TheVariants.{Heard, Sent}
@@ -8,7 +8,7 @@ use Rattle.radio_model.specs.declared.sending.Sending.{Sending}
 use Rattle.radio_model.specs.OnAir.{Hearing}
 use Rattle.radio_model.specs.Hearing.{Scene, Hears}
 use Rattle.radio_model.specs.Holding.{Holds, Agree, as_it_stands, nothing_yet}
-use Rattle.radio_model.specs.Stations.{MediumState, IsTime, nodes_of, first_state}
+use Rattle.radio_model.specs.Stations.{MediumState, IsMedium, IsTime, nodes_of, first_state}
 use Rattle.event_calendar.specs.Orders.{Due}
 use Rattle.bus_rules.specs.declared.delivery.Delivery.{Delivery}
 use Rattle.bus_rules.specs.declared.delivery.DropLine.{DropLine}
@@ -16,16 +16,16 @@ use Rattle.bus_rules.specs.Cores.{Setup}
 use Rattle.air_log.specs.declared.entry.Entry.{Entry}
 use Rattle.air_log.specs.Entries.{sendings_of, hearings_of, node_of}
 use Rattle.air_log.specs.declared.entry.TunedEntry.{TunedEntry}
-use Rattle.air_log.specs.Devices.{Device, Made, PowerOff, Listening, Ordered, event, silenced}
+use Rattle.air_log.specs.Devices.{Device, Made, PowerOff, event, silenced}
 use Rattle.air_log.specs.ScriptedDevices.{after_act}
 use Rattle.air_log.specs.Drops.{drop_by}
-use Rattle.air_log.specs.Trails.{sending_from, setup_of}
+use Rattle.air_log.specs.Trails.{setup_of}
 use Rattle.scenario_text.specs.ScenarioParts.{ScenarioParts}
 use Rattle.scenario_text.specs.declared.lines.NodeLine.{NodeLine}
 use Rattle.scenario_text.specs.declared.script.Act.{Act}
 use Rattle.scenario_text.specs.declared.script.ScriptLine.{ScriptLine}
 use Rattle.node_core.specs.Nodes.{rebooted}
-use Rattle.lwb_world.specs.WorldDevices.{DeviceState, IsCoreAt, whole, with_tuned}
+use Rattle.air_log.specs.DeviceStates.{DeviceState, IsCoreAt, whole, with_tuned}
 use Rattle.lwb_world.specs.Fields.{FieldState, Shows, IsLogged, entries_of, ids_of, setups_of, power_of}
 
 -- a scene that the medium holds after a step at t: these sendings have begun, and nothing has changed before t
@@ -40,6 +40,8 @@ pub record GoesOn (t : ℕ) (old new : MediumState) (begun : List Sending) : Typ
   pub scene : (a : Scene) → Holds old a → (b : Scene) × IsSceneAfter t old new begun a b
   pub time : IsTime new t
   pub nodes : nodes_of new ≡ nodes_of old
+  pub numbers : new.numbers ≡ old.numbers
+  pub still : IsMedium old → IsMedium new
 
 -- the devices stay at their places
 pub record AreSame (old : FieldState) (old_due : List Due) (new : FieldState) (new_due : List Due) : Type 0 where
@@ -65,16 +67,6 @@ abbrev pub IsTold : (ℕ → ℕ) → ScriptLine → ℕ → ℕ → Act → Fie
 IsTold clock line t p act old old_due new new_due =
     (lost : List DropLine) × Acts t p (λ s d. after_act clock s t line.frame d act d.power) [] lost old old_due new new_due
     × ((s : Setup) (d : Device) → Shows s t old old_due p d → lost ≡ option_to_list (drop_by line act d.power))
-
--- the sending that starts at t at a device, if one does
-abbrev pub starting_by : Setup → ℕ → Option Ordered → Option Listening → Option Sending → List Sending
-starting_by s t None l sending = []
-starting_by s t (Some o) None sending = []
-starting_by s t (Some o) (Some l) (Some x) = []
-starting_by s t (Some o) (Some l) None = if o.tick == t then sending_from s t o.packet l ∷ [] else []
-
-abbrev pub starting : Setup → ℕ → Device → List Sending
-starting s t d = starting_by s t d.ordered d.listening d.sending
 
 -- what the clock at a place reads; past them it is the true tick
 abbrev pub reading_of : {C : Type 0} → (C → ℕ → ℕ) → Option C → ℕ → ℕ

@@ -15,7 +15,7 @@ use Rattle.air_log.specs.declared.entry.Entry.TheVariants.{Tuned}
 use Rattle.air_log.specs.declared.entry.TunedEntry.{TunedEntry}
 use Rattle.air_log.specs.Devices.{Device, Power, Made, Listening, Ordered}
 use Rattle.air_log.specs.Lawful.{sent_by, tuned_by}
-use Rattle.lwb_world.specs.WorldDevices.{DeviceState, whole, EndedBefore, HappenedBy}
+use Rattle.air_log.specs.DeviceStates.{DeviceState, whole, EndedBefore, HappenedBy}
 
 -- deliveries and drops stand in the order in which they were made
 pub record FieldState : Type 0 where

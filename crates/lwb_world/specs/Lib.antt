@@ -1,5 +1,3 @@
-pub mod WorldDevices
-pub mod DeviceShapes
 pub mod Fields
 pub mod FieldSteps
 pub mod FieldHearings
@@ -9,3 +7,7 @@ pub mod Runs
 pub mod Worlds
 pub mod WorldShapes
 pub mod Frames
+-- what the clauses of the floods cite
+pub use Rattle.air_log.specs.FloodLaw
+pub use Rattle.air_log.specs.ClockLists
+pub use Rattle.bus_model.specs.FloodOfText

@@ -6,7 +6,7 @@ use Rattle.scenario_text.specs.ScenarioFacts.{turned}
 use Rattle.scenario_text.specs.declared.lines.NodeLine.{NodeLine}
 use Rattle.scenario_text.specs.declared.script.ScriptLine.{ScriptLine}
 use Rattle.radio_model.specs.declared.sending.Sending.{Sending}
-use Rattle.radio_model.specs.OnAir.{Hearing, Tuning}
+use Rattle.radio_model.specs.OnAir.{Hearing}
 use Rattle.radio_model.specs.Hearing.{Scene, IsTuned, Hears}
 use Rattle.radio_model.specs.Holding.{Holds, as_it_stands}
 use Rattle.radio_model.specs.Stations.{MediumState, IsTime, sending_of, station_of}
@@ -15,7 +15,8 @@ use Rattle.bus_rules.specs.declared.delivery.Delivery.{Delivery}
 use Rattle.bus_rules.specs.Cores.{Setup}
 use Rattle.air_log.specs.declared.entry.Entry.{Entry}
 use Rattle.air_log.specs.Entries.{sendings_of, hearings_of, node_of, IsHeard}
-use Rattle.air_log.specs.Devices.{Device, Power, PowerOff, PowerOn, Listening}
+use Rattle.air_log.specs.Devices.{Device, seen_power}
+use Rattle.air_log.specs.TunedTimes.{WasTuned}
 use Rattle.air_log.specs.Trails.{setup_of, frame_start}
 use Rattle.air_log.specs.Lawful.{comes_before, AreInTurn, heard_by}
 use Rattle.air_log.specs.Drops.{drops_below}
@@ -40,19 +41,6 @@ pub record IsOnTrail (s : ScenarioParts) (clocks : ℕ → ℕ → ℕ) (t : ℕ
 -- the sending is on the air
 abbrev pub Runs : MediumState → Sending → Type 0
 Runs m x = sending_of (station_of m x.node) ≡ Some x
-
--- before the present tick the device was tuned to the channel at tick k
-abbrev pub listened : ℕ → ℕ → Option Listening → Type 0
-listened r k None = ⊥
-listened r k (Some l) = (l.rank ≡ r) × (l.since ≤ k)
-
-pub record IsIn (r k : ℕ) (e : Tuning) : Type 0 where
-  pub rank : e.rank ≡ r
-  pub since : e.start ≤ k
-  pub until : k < e.end
-
-abbrev pub WasTuned : Device → ℕ → ℕ → Type 0
-WasTuned d r k = ((e : Tuning) × Contains d.made.tuned e × IsIn r k e) ⊎ listened r k d.listening
 
 -- the scene that the medium holds is that of the log and the devices
 pub record HoldsScene (s : ScenarioParts) (t : ℕ) (w : FieldState) (due : List Due) (a : Scene) : Type 0 where
@@ -81,11 +69,6 @@ pub record IsOnAir (s : ScenarioParts) (over t : ℕ) (w : FieldState) (due : Li
   pub scene : Scene
   pub holds : HoldsScene s t w due scene
   pub has : HasHearings over t w scene
-
--- whether a node is on, and how often it booted
-abbrev pub seen_power : Power → Bool × ℕ
-seen_power (PowerOff boots) = (false, boots)
-seen_power (PowerOn n) = (true, n.core.boot)
 
 -- these lines of the script have been told
 pub record IsTold (s : ScenarioParts) (clocks : ℕ → ℕ → ℕ) (told : List ScriptLine) (t : ℕ) (w : FieldState) (due : List Due) : Type 0 where

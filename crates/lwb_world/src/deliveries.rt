@@ -11,10 +11,8 @@ use lwb_base::Memory;
 pub(crate) fn sort_deliveries(deliveries: &mut Vec<Delivery>) -> Result<(), Memory>
     ensures { OnOk result (deliveries.new.items ≡ in_order comes_before deliveries.old.items) }
 {
-    match deliveries.sort_by_key(|delivery| place(delivery)) {
-        Ok(()) => Ok(()),
-        Err(_) => Err(Memory),
-    }
+    deliveries.sort_by_key(|delivery| place(delivery))?;
+    Ok(())
 }
 
 // What the order goes by.

@@ -8,13 +8,12 @@ ghost use Rattle.radio_model.specs.Stations.{IsTime};
 ghost use Rattle.radio_model.specs.declared.sending.Sending.{Sending as SendingOf};
 ghost use Rattle.air_log.specs.AlarmRuns.{IsAlarmRun};
 ghost use Rattle.air_log.specs.Devices.{Device as DeviceOf, obeyed, event as event_at};
-ghost use Rattle.air_log.specs.Trails.{is_due, alarmed, begun as begun_at};
-ghost use Rattle.lwb_world.specs.WorldDevices.{IsTimely};
+ghost use Rattle.air_log.specs.Trails.{is_due, alarmed, begun as begun_at, starting};
+ghost use Rattle.air_log.specs.DeviceStates.{IsTimely};
 ghost use Rattle.lwb_world.specs.Fields.{Shows, IsShown, entries_of};
-ghost use Rattle.lwb_world.specs.FieldSteps.{Acts, IsFirst, IsClosed, starting};
+ghost use Rattle.lwb_world.specs.FieldSteps.{Acts, IsFirst, IsClosed};
 
-use crate::device::Device;
-use air_log::{Air, Entry, SentEntry, TunedEntry};
+use air_log::{Air, Device, Entry, SentEntry, TunedEntry};
 use bus_rules::{Delivery, DropLine};
 use event_calendar::{Class, Orders};
 use lwb_base::{Event, Memory, NodeId, Order, RecordingRadio};
@@ -102,7 +101,7 @@ impl Field {
         ensures { OnOk result (Acts t place (λ s d. obeyed (C.readings clock.now) s.id t d order) [] [] self.old (Q.map orders.old) self.new (Q.map orders.new)) }
     {
         let device = &mut self.devices[usize::from(place)];
-        let node = device.node;
+        let node = device.node();
         match order {
             Order::Listen(rank) => {
                 let closed = device.listen(rank, t);

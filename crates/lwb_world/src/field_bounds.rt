@@ -1,16 +1,15 @@
 //! A field at the beginning and at the end of a run.
 
 ghost use Rattle.std.specs.Prelude.{◌≡◌, ◌≤◌, ◌<◌, ◌^◌, ℕ, List, [], OnOk, IfOk, length, map, slice_get, Some, Contains};
-ghost use Rattle.lwb_world.specs.Fields.{IsShown, IsField, ids_of};
+ghost use Rattle.lwb_world.specs.Fields.{IsShown, ids_of};
 ghost use Rattle.lwb_world.specs.FieldSteps.{IsFirst, IsClosed, GoesSilent, first_device, node_id};
 ghost use Rattle.event_calendar.specs.Orders.{Due as DueOf};
 ghost use Rattle.air_log.specs.LogText.{in_order};
 ghost use Rattle.air_log.specs.Deliveries.{comes_before};
 
 use crate::deliveries::sort_deliveries;
-use crate::device::Device;
 use crate::field::Field;
-use air_log::Air;
+use air_log::{Air, Device};
 use bus_rules::Delivery;
 use lwb_base::{Memory, NodeId};
 use radio_model::Medium;
@@ -73,11 +72,12 @@ impl Field {
         self.air
     }
 
-    // What holds of a field at all times.
-    pub(crate) fn look(&self)
-        ensures { IsField self.now }
+    // How many places there are.
+    pub(crate) fn places(&self) -> u8
+        ensures value { result ≡ length self.now.devices }
+        ensures range { (1 ≤ result) × (result ≤ 64) }
     {
-        let _air = &self.air;
+        self.devices.as_slice().len() as u8
     }
 
     // The place of a node, counted from 0.
@@ -86,7 +86,7 @@ impl Field {
         ensures { slice_get (ids_of self.now) result ≡ Some node }
     {
         for (place, device) in self.devices.iter().enumerate() {
-            if device.node == node {
+            if device.node() == node {
                 return place as u8;
             }
         }
@@ -99,9 +99,7 @@ fn node_ids(alloc: Global, lines: &[NodeLine]) -> Result<Vec<NodeId>, Memory>
 {
     let mut nodes = Vec::new(alloc);
     for line in lines {
-        if nodes.push(line.node).is_err() {
-            return Err(Memory);
-        }
+        nodes.push(line.node)?;
     }
     Ok(nodes)
 }
@@ -113,9 +111,7 @@ fn devices(alloc: Global, s: &Scenario) -> Result<Vec<Device>, Memory>
     let mut devices = Vec::new(alloc);
     for line in s.nodes() {
         let device = Device::new(alloc, &profile, line.node, s.hosts(), s.sends())?;
-        if devices.push(device).is_err() {
-            return Err(Memory);
-        }
+        devices.push(device)?;
     }
     Ok(devices)
 }

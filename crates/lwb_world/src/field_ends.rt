@@ -11,7 +11,6 @@ ghost use Rattle.lwb_world.specs.Fields.{Shows, IsShown, ids_of};
 ghost use Rattle.lwb_world.specs.FieldHearings.{ArePlaces, AllHear};
 ghost use Rattle.lwb_world.specs.FieldSteps.{EndsSending, Sends, readings_at};
 
-use crate::device_steps::copy_of_packet;
 use crate::field::Field;
 use air_log::{Entry, HeardEntry};
 use event_calendar::{Class, Orders};
@@ -41,7 +40,7 @@ impl Field {
         requires ends { (s : Setup) (d : DeviceOf) → Shows s t self.old (Q.map orders.old) place d → Ends self.old.medium s.id t }
         ensures { (x : SendingOf) → Sends t self.old (Q.map orders.old) place x → OnOk result ((hearers : List ℕ) × EndsSending (M.lines links.now) (readings_at C.readings clocks.now) t place x hearers self.old (Q.map orders.old) self.new (Q.map orders.new)) }
     {
-        let node = self.devices[usize::from(place)].node;
+        let node = self.devices[usize::from(place)].node();
         let hearers = self.medium.end(links, node, t);
         orders.clear(place, Class::SendingEnd);
         let Some(x) = self.devices[usize::from(place)].end_sending(t) else {
@@ -90,14 +89,14 @@ impl Field {
     {
         let entry = HeardEntry {
             rank: x.rank,
-            node: self.devices[usize::from(place)].node,
+            node: self.devices[usize::from(place)].node(),
             from: x.node,
             start: x.start,
             end: x.end,
-            packet: copy_of_packet(&x.packet),
+            packet: x.packet.copy(),
         };
         self.air.push(Entry::Heard(entry))?;
-        let heard = Event::Heard(copy_of_packet(&x.packet));
+        let heard = Event::Heard(x.packet.copy());
         self.tell(orders, clock, place, x.end, heard)
     }
 }

@@ -8,7 +8,7 @@ ghost use Rattle.scenario_text.specs.declared.script.Act.TheVariants.{On as OnOf
 ghost use Rattle.radio_model.specs.Stations.{IsTime};
 ghost use Rattle.air_log.specs.Devices.{Device as DeviceOf};
 ghost use Rattle.air_log.specs.ScriptedDevices.{after_act};
-ghost use Rattle.lwb_world.specs.WorldDevices.{DeviceState as DeviceStateOf, CanBoot};
+ghost use Rattle.air_log.specs.DeviceStates.{DeviceState as DeviceStateOf, CanBoot};
 ghost use Rattle.lwb_world.specs.Fields.{Shows, IsShown};
 ghost use Rattle.lwb_world.specs.FieldSteps.{Acts, IsTold};
 
@@ -79,10 +79,10 @@ impl Field {
         ensures { (clock : ℕ → ℕ) (frame : ℕ) → OnOk result (Acts t place (λ s d. after_act clock s t frame d OffOf d.power) [] [] self.old (Q.map orders.old) self.new (Q.map orders.new)) }
     {
         let device = &mut self.devices[usize::from(place)];
-        if !device.on {
+        if !device.is_on() {
             return Ok(());
         }
-        let node = device.node;
+        let node = device.node();
         let closed = device.switch_off(t);
         self.medium.tune(node, None, t);
         orders.clear(place, Class::Alarm);
@@ -112,9 +112,7 @@ impl Field {
             node: line.node,
             stream,
         };
-        if self.drops.push(drop).is_err() {
-            return Err(Memory);
-        }
+        self.drops.push(drop)?;
         Ok(())
     }
 }

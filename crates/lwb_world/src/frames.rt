@@ -3,9 +3,10 @@
 ghost use Rattle.std.specs.Prelude.{◌≡◌, ◌<◌, ◌≤◌, ◌+◌, ℕ, List, [], ◌∷◌, ◌++◌, Some, IfOk, OnOk, length};
 ghost use Rattle.event_calendar.specs.Orders.{IsNext};
 ghost use Rattle.event_calendar.specs.declared.class.Class.TheVariants.{SendingEnd as EndOf, Alarm as AlarmOf, SendingStart as StartOf};
+ghost use Rattle.scenario_text.specs.ScenarioFacts.{IsSoundScenario};
 ghost use Rattle.scenario_text.specs.declared.script.ScriptLine.{ScriptLine as LineOf};
 ghost use Rattle.air_log.specs.Trails.{run_end, frame_start};
-ghost use Rattle.lwb_flood.specs.ClockLists.{clocks_by};
+ghost use Rattle.air_log.specs.ClockLists.{clocks_by};
 ghost use Rattle.lwb_world.specs.Moments.{Before, InLines, At};
 ghost use Rattle.lwb_world.specs.Running.{IsRunning};
 ghost use Rattle.lwb_world.specs.Frames.{told_before, IsCut, IsNextLine, IsPast};
@@ -24,11 +25,11 @@ impl Field {
         s: &Scenario,
         clocks: &[C],
     ) -> Result<(), Memory>
+        requires sound { IsSoundScenario s.now }
         requires clocks { length clocks.now ≡ length s.now.nodes }
         requires running { IsRunning s.now (clocks_by C.readings s.now.nodes clocks.now) [] 0 Before self.old (Q.map orders.old) }
         ensures { OnOk result (IsRunning s.now (clocks_by C.readings s.now.nodes clocks.now) s.now.script (run_end s.now) Before self.new (Q.map orders.new)) }
     {
-        let _said = s.profile();
         let mut told = 0;
         for frame in 0..s.frames() {
             told = self.lines(orders, s, clocks, frame, told)?;
@@ -46,6 +47,7 @@ impl Field {
         frame: u32,
         first: usize,
     ) -> Result<usize, Memory>
+        requires sound { IsSoundScenario s.now }
         requires clocks { length clocks.now ≡ length s.now.nodes }
         requires frame { frame < s.now.frames }
         requires first { IsCut s.now first frame }
@@ -74,15 +76,14 @@ impl Field {
         t: u64,
         line: &ScriptLine,
     ) -> Result<(), Memory>
+        requires sound { IsSoundScenario s.now }
         requires clocks { length clocks.now ≡ length s.now.nodes }
         requires next { (told : List LineOf) × IsNextLine s.now t told line.now × IsRunning s.now (clocks_by C.readings s.now.nodes clocks.now) told t (InLines told) self.old (Q.map orders.old) }
         ensures { (told : List LineOf) → IsNextLine s.now t told line.now → IsRunning s.now (clocks_by C.readings s.now.nodes clocks.now) told t (InLines told) self.old (Q.map orders.old)
             → OnOk result (IsRunning s.now (clocks_by C.readings s.now.nodes clocks.now) (told ++ line.now ∷ []) t (InLines (told ++ line.now ∷ [])) self.new (Q.map orders.new)) }
     {
-        let _said = s.profile();
         let place = self.place_of(line.node);
         self.act(orders, &clocks[usize::from(place)], place, t, line)?;
-        self.look();
         Ok(())
     }
 
@@ -94,6 +95,7 @@ impl Field {
         clocks: &[C],
         frame: u32,
     ) -> Result<(), Memory>
+        requires sound { IsSoundScenario s.now }
         requires clocks { length clocks.now ≡ length s.now.nodes }
         requires frame { frame < s.now.frames }
         requires running { IsRunning s.now (clocks_by C.readings s.now.nodes clocks.now) (told_before s.now (frame + 1)) (frame_start s.now frame) (At EndOf) self.old (Q.map orders.old) }
@@ -119,6 +121,7 @@ impl Field {
         class: Class,
         place: u8,
     ) -> Result<(), Memory>
+        requires sound { IsSoundScenario s.now }
         requires clocks { length clocks.now ≡ length s.now.nodes }
         requires within { t < run_end s.now }
         requires next { IsNext (Q.map orders.old) (Some (t, class, place)) }
@@ -142,6 +145,7 @@ impl Field {
         t: u64,
         place: u8,
     ) -> Result<(), Memory>
+        requires sound { IsSoundScenario s.now }
         requires clocks { length clocks.now ≡ length s.now.nodes }
         requires within { t < run_end s.now }
         requires next { IsNext (Q.map orders.old) (Some (t, EndOf, place)) }
@@ -149,9 +153,7 @@ impl Field {
         ensures { (told : List LineOf) → IsRunning s.now (clocks_by C.readings s.now.nodes clocks.now) told t (At EndOf) self.old (Q.map orders.old)
             → OnOk result (IsRunning s.now (clocks_by C.readings s.now.nodes clocks.now) told t (At EndOf) self.new (Q.map orders.new) × IsPast t EndOf place (Q.map orders.new)) }
     {
-        let _said = s.profile();
         self.end(orders, s.trace(), clocks, place, t)?;
-        self.look();
         Ok(())
     }
 
@@ -164,6 +166,7 @@ impl Field {
         t: u64,
         place: u8,
     ) -> Result<(), Memory>
+        requires sound { IsSoundScenario s.now }
         requires clocks { length clocks.now ≡ length s.now.nodes }
         requires within { t < run_end s.now }
         requires next { IsNext (Q.map orders.old) (Some (t, AlarmOf, place)) }
@@ -171,9 +174,7 @@ impl Field {
         ensures { (told : List LineOf) → IsRunning s.now (clocks_by C.readings s.now.nodes clocks.now) told t (At AlarmOf) self.old (Q.map orders.old)
             → OnOk result (IsRunning s.now (clocks_by C.readings s.now.nodes clocks.now) told t (At AlarmOf) self.new (Q.map orders.new) × IsPast t AlarmOf place (Q.map orders.new)) }
     {
-        let _said = s.profile();
         self.alarm(orders, &clocks[usize::from(place)], place, t)?;
-        self.look();
         Ok(())
     }
 
@@ -186,6 +187,7 @@ impl Field {
         t: u64,
         place: u8,
     ) -> Result<(), Memory>
+        requires sound { IsSoundScenario s.now }
         requires clocks { length clocks.now ≡ length s.now.nodes }
         requires within { t < run_end s.now }
         requires next { IsNext (Q.map orders.old) (Some (t, StartOf, place)) }
@@ -193,9 +195,7 @@ impl Field {
         ensures { (told : List LineOf) → IsRunning s.now (clocks_by C.readings s.now.nodes clocks.now) told t (At StartOf) self.old (Q.map orders.old)
             → OnOk result (IsRunning s.now (clocks_by C.readings s.now.nodes clocks.now) told t (At StartOf) self.new (Q.map orders.new) × IsPast t StartOf place (Q.map orders.new)) }
     {
-        let _said = s.profile();
         self.begin(orders, place, t)?;
-        self.look();
         Ok(())
     }
 }

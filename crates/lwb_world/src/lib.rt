@@ -2,9 +2,6 @@
 #![tactic(auto)]
 
 mod deliveries;
-mod device;
-mod device_script;
-mod device_steps;
 mod field;
 mod field_bounds;
 mod field_ends;
@@ -12,4 +9,5 @@ mod field_script;
 mod frames;
 mod world;
 
+pub use lwb_flood::{flood, flood_air};
 pub use world::World;

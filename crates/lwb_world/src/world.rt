@@ -2,7 +2,7 @@
 
 ghost use Rattle.std.specs.Prelude.{◌≡◌, false, IfOk, OnOk, length, replicate, option_copied};
 ghost use Rattle.event_calendar.specs.Orders.{nothing_due};
-ghost use Rattle.lwb_flood.specs.ClockLists.{clocks_by};
+ghost use Rattle.air_log.specs.ClockLists.{clocks_by};
 ghost use Rattle.lwb_world.specs.Runs.{orders_left};
 ghost use Rattle.lwb_world.specs.Worlds.{new_world, core_of, HasRun};
 
@@ -32,7 +32,7 @@ impl<'a, C: DriftClock> Model for World<'a, C> {
     ghost use Rattle.std.specs.Prelude.{List, ◌≡◌, length, map};
     ghost use Rattle.lwb_world.specs.Worlds.{WorldState};
     ghost use Rattle.lwb_world.specs.WorldShapes.{IsWorld};
-    ghost use Rattle.lwb_world.specs.WorldDevices.{core_in};
+    ghost use Rattle.air_log.specs.DeviceStates.{core_in};
 
     ghost Value = { WorldState × List C };
 
@@ -64,9 +64,7 @@ impl<'a, C: DriftClock> World<'a, C> {
         ensures run { OnOk result (HasRun (clocks_by C.readings self.old.0.scenario.nodes self.old.1) self.old.0 self.new.0) }
         ensures clocks { OnOk result (self.new.1 ≡ self.old.1) }
     {
-        let _said = self.scenario.profile();
-        let places = self.scenario.nodes().len() as u8;
-        let mut calendar = Calendar::new(alloc, places)?;
+        let mut calendar = Calendar::new(alloc, self.field.places())?;
         self.run_with(alloc, &mut calendar)
     }
 
@@ -81,11 +79,9 @@ impl<'a, C: DriftClock> World<'a, C> {
         ensures left { OnOk result (Q.map orders.new ≡ orders_left self.old.0.scenario (clocks_by C.readings self.old.0.scenario.nodes self.old.1) self.new.0.air) }
     {
         let profile = self.scenario.profile();
-        self.field.look();
         self.ran = true;
         self.field
             .frames(orders, self.scenario, self.clocks.as_slice())?;
-        self.field.look();
         let end = u64::from(self.scenario.frames()) * profile.frame();
         self.field.close(end)?;
         let deliveries = self.field.take_deliveries(alloc)?;
@@ -119,8 +115,8 @@ impl<'a, C: DriftClock> World<'a, C> {
         ensures { option_copied result ≡ core_of self.now.0.cores node }
     {
         for device in &self.field.devices {
-            if device.node == node {
-                return Some(&device.core);
+            if device.node() == node {
+                return Some(device.core());
             }
         }
         None

@@ -1,8 +1,7 @@
-use Rattle.std.proofs.Common.{◌≡◌, ℕ, List, take, ap, subst, sym, ◌∙◌}
+use Rattle.std.proofs.Common.{◌≡◌, ℕ, List, take, ap, subst, sym, ◌∙◌, Some}
 use Rattle.std.specs.Prelude.{Contains}
 use Rattle.lwb_base.specs.Profile.{one}
 use Rattle.radio_model.specs.Stations.{IsTime, MediumState, after, retuned}
-use Rattle.std.proofs.Common.{Some}
 use Rattle.lwb_flood.specs.FloodWorlds.{opened}
 use Rattle.lwb_flood.proofs.FloodOpening.{IsOpening, at_first, opened_is, in_time, opened_more}
 use Rattle.lwb_flood.proofs.flood_beginning.open.Goals as goal

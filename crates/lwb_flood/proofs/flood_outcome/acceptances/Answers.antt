@@ -6,7 +6,7 @@ use Rattle.scenario_text.specs.declared.lines.NodeLine.{NodeLine}
 use Rattle.lwb_flood.specs.LogReading.{step_of}
 use Rattle.lwb_flood.proofs.LogReading.{accepting_more}
 use Rattle.lwb_flood.proofs.flood_outcome.acceptances.Goals as goal
-use Rattle.lwb_flood.proofs.flood_outcome.acceptances.Goals.{in-Some+else-is_err, in_default}
+use Rattle.lwb_flood.proofs.flood_outcome.acceptances.Goals.{in-Some+in_ok-push, in_default}
 
 pub loop-line-preserved : goal.loop-line-preserved
 loop-line-preserved c =
@@ -21,7 +21,7 @@ loop-line-preserved c =
     let got : c.step_of.result ≡ step line.node = c.step_of.ensures ∙ ap (λ (s : ℕ). step_of s c.args.firsts.now line.node) c.start.ensures.value in
     let more = ap with_step got ∙ accepting_more step nodes i line items below at c.loop-line.invariant in
     elim c.match-step_of.branch [
-      | in-Some+else-is_err w ↦
+      | in-Some+in_ok-push w ↦
           (let pushed : w.push.new.self.items ≡ items ++ (line.node, w.in-Some.step) ∷ [] = search rules in
           ap (λ (v : Vec (ℕ × ℕ) Global). v.items) w.accepts-is ∙ pushed ∙ ap with_step (sym w.in-Some.is) ∙ more)
       | in_default w ↦

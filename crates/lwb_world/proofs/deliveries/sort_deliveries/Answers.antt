@@ -5,8 +5,8 @@ use Rattle.air_log.proofs.StableSorts.{sorted_by_insertion}
 use Rattle.lwb_world.proofs.DeliveriesInOrder.{place_of, is_order}
 use Rattle.lwb_world.proofs.deliveries.sort_deliveries.Goals as goal
 
-pub returns-in-Ok : goal.returns-in-Ok
-returns-in-Ok c =
+pub returns : goal.returns
+returns c =
     sorted_by_insertion comes_before is_order c.args.deliveries.now.items c.sort_by_key.new.self.items
-    (c.in-Ok.ensures.sorted place_of (answers_always _ _ _ (λ f a r g h. search rules)))
+    (c.in_ok-sort_by_key.ensures.sorted place_of (answers_always _ _ _ (λ f a r g h. search rules)))
     (c.sort_by_key.ensures.stable place_of (answers_always _ _ _ (λ f a r g h. search rules)))

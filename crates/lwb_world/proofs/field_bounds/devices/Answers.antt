@@ -1,7 +1,7 @@
 use Rattle.std.proofs.Common.{◌≡◌, ◌++◌, ◌∷◌, [], ◌∙◌, ap, rules, arith, length}
 use Rattle.scenario_text.proofs.SoundScenarios.{sound}
 use Rattle.air_log.specs.Trails.{setup_of}
-use Rattle.lwb_flood.proofs.WorldLists.{map_pushed}
+use Rattle.air_log.proofs.Elements.{map_pushed}
 use Rattle.lwb_world.specs.FieldSteps.{first_device}
 use Rattle.lwb_world.proofs.FirstField.{new_device}
 use Rattle.lwb_world.proofs.field_bounds.devices.Goals as goal

@@ -6,7 +6,7 @@ use Rattle.scenario_text.specs.declared.script.Act.TheVariants.{Declare, Leave, 
 use Rattle.radio_model.specs.Stations.{IsTime}
 use Rattle.bus_rules.specs.Cores.{Setup}
 use Rattle.air_log.specs.Devices.{nothing_made}
-use Rattle.lwb_world.specs.WorldDevices.{DeviceState, whole}
+use Rattle.air_log.specs.DeviceStates.{DeviceState, whole}
 use Rattle.lwb_world.specs.Fields.{FieldState, IsShown}
 use Rattle.lwb_world.proofs.StepsInCode.{field_as_was, state_happened}
 use Rattle.lwb_world.proofs.ToldInCode.{as_told, declare_stays, leave_stays, wish_told}

@@ -6,7 +6,7 @@ use Rattle.event_calendar.specs.declared.class.Class.TheVariants.{SendingEnd, Se
 use Rattle.radio_model.specs.declared.sending.Sending.{Sending}
 use Rattle.air_log.specs.Devices.{Made}
 use Rattle.air_log.specs.Trails.{begun}
-use Rattle.lwb_world.specs.WorldDevices.{whole, with_sent}
+use Rattle.air_log.specs.DeviceStates.{whole, with_sent}
 use Rattle.lwb_world.specs.Fields.{FieldState, IsField, IsShown}
 use Rattle.lwb_world.proofs.ShownPlaces.{read_there}
 use Rattle.lwb_world.proofs.BegunSendings.{not_begun, has_begun, has_station, silent_is_field, begun_is_field, as_given}

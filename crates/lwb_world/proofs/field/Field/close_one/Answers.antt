@@ -1,10 +1,10 @@
 use Rattle.std.proofs.Common.{◌≡◌, ◌<◌, ◌++◌, ℕ, length, set, Some, Option, refl, sym, ◌∙◌, ap, subst, arith, IfSome}
 use Rattle.std.specs.Prelude.{slice_get}
 use Rattle.std.proofs.lemmas.Option.{slice_get_read}
+use Rattle.std.proofs.lemmas.Result.{on_ok_weaker}
 use Rattle.air_log.specs.declared.entry.TunedEntry.{TunedEntry}
 use Rattle.bus_rules.specs.Cores.{Setup}
-use Rattle.lwb_flood.proofs.EndOfSending.{on_ok}
-use Rattle.lwb_world.specs.WorldDevices.{DeviceState, with_tuned}
+use Rattle.air_log.specs.DeviceStates.{DeviceState, with_tuned}
 use Rattle.lwb_world.specs.Fields.{FieldState, entries_of}
 use Rattle.lwb_world.proofs.DeviceSteps.{field_stays}
 use Rattle.lwb_world.proofs.field.Field.close_one.Goals as goal
@@ -29,7 +29,7 @@ returns c =
     let new = c.hand_out-last.new.self in
     let below : c.args.place < length w.devices = omega (arith, c.requires, ap (λ (f : FieldState). length f.devices) c.self.view_is) in
     let at : slice_get w.devices c.args.place ≡ Some old = slice_get_read w.devices (length w.devices) c.args.place old refl below c.index_mut-device.ensures.value in
-    on_ok c.log_tuning-2.result _ _ (λ logged. record {
+    on_ok_weaker c.log_tuning-2.result (λ logged. record {
       state = old;
       there = ap (λ (f : FieldState). slice_get f.devices c.args.place) (sym c.self.view_is) ∙ at;
       silent = new;

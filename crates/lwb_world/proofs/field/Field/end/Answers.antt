@@ -8,7 +8,7 @@ use Rattle.radio_model.specs.Stations.{IsTime, Ends, sending_of, station_of}
 use Rattle.event_calendar.specs.Orders.{Due}
 use Rattle.air_log.specs.Devices.{event}
 use Rattle.lwb_base.specs.declared.event.Event.TheVariants.{Sent}
-use Rattle.lwb_world.specs.WorldDevices.{DeviceState}
+use Rattle.air_log.specs.DeviceStates.{DeviceState}
 use Rattle.lwb_world.specs.Fields.{FieldState, IsField, IsShown}
 use Rattle.lwb_world.specs.FieldSteps.{Acts, EndsSending, Sends, readings_at}
 use Rattle.lwb_world.specs.FieldHearings.{AllHear}
@@ -24,9 +24,9 @@ end-hearers-requires-clause-sends g c =
     let p = c.args.place in
     let due : List Due = g.Q.Orders.map c.args.orders.now in
     let first = c.index.result.now in
-    let u = c.behind-self.inside.node in
+    let u = c.node-node.result in
     let before = is_ending t c.from.result p w c.args.self.now due first c.self.view_is c.from.ensures c.self.invariant c.index.ensures c.requires.within c.requires.shown c.requires.time c.requires.ends in
-    let named : u ≡ first.setup.id = c.behind-self.invariant.id ∙ ap (λ (d : DeviceState). d.setup.id) c.behind-self.view_is in
+    let named : u ≡ first.setup.id = c.node-node.ensures in
     subst (λ (v : ℕ). Ends w.medium v t) (sym named) before.1.ends
 
 pub clear-requires : goal.clear-requires
@@ -36,9 +36,9 @@ clear-requires g c =
     let p = c.args.place in
     let due : List Due = g.Q.Orders.map c.args.orders.now in
     let first = c.index.result.now in
-    let u = c.behind-self.inside.node in
+    let u = c.node-node.result in
     let before = is_ending t c.from.result p w c.args.self.now due first c.self.view_is c.from.ensures c.self.invariant c.index.ensures c.requires.within c.requires.shown c.requires.time c.requires.ends in
-    let named : u ≡ first.setup.id = c.behind-self.invariant.id ∙ ap (λ (d : DeviceState). d.setup.id) c.behind-self.view_is in
+    let named : u ≡ first.setup.id = c.node-node.ensures in
     set_there t p w due first before.0 before.1
 
 pub invariant_of-self : goal.invariant_of-self
@@ -68,9 +68,9 @@ invariant_of-self-2 g c =
     let p = c.args.place in
     let due : List Due = g.Q.Orders.map c.args.orders.now in
     let first = c.index.result.now in
-    let u = c.behind-self.inside.node in
+    let u = c.node-node.result in
     let before = is_ending t c.from.result p w c.args.self.now due first c.self.view_is c.from.ensures c.self.invariant c.index.ensures c.requires.within c.requires.shown c.requires.time c.requires.ends in
-    let named : u ≡ first.setup.id = c.behind-self.invariant.id ∙ ap (λ (d : DeviceState). d.setup.id) c.behind-self.view_is in
+    let named : u ≡ first.setup.id = c.node-node.ensures in
     let st = c.index_mut.result.now in
     let e = is_ending t c.from-2.result p w c.args.self.now due st c.self.view_is c.from-2.ensures c.self.invariant c.index_mut.ensures.value c.requires.within c.requires.shown c.requires.time c.requires.ends in
     let node : u ≡ st.setup.id = named ∙ ap (λ (d : DeviceState). d.setup.id) (one_there w.devices p first st before.1.here e.1.here) in
@@ -86,9 +86,9 @@ hear_all-requires-clause-nodes g c =
     let p = c.args.place in
     let due : List Due = g.Q.Orders.map c.args.orders.now in
     let first = c.index.result.now in
-    let u = c.behind-self.inside.node in
+    let u = c.node-node.result in
     let before = is_ending t c.from.result p w c.args.self.now due first c.self.view_is c.from.ensures c.self.invariant c.index.ensures c.requires.within c.requires.shown c.requires.time c.requires.ends in
-    let named : u ≡ first.setup.id = c.behind-self.invariant.id ∙ ap (λ (d : DeviceState). d.setup.id) c.behind-self.view_is in
+    let named : u ≡ first.setup.id = c.node-node.ensures in
     let st = c.index_mut.result.now in
     let e = is_ending t c.from-2.result p w c.args.self.now due st c.self.view_is c.from-2.ensures c.self.invariant c.index_mut.ensures.value c.requires.within c.requires.shown c.requires.time c.requires.ends in
     let node : u ≡ st.setup.id = named ∙ ap (λ (d : DeviceState). d.setup.id) (one_there w.devices p first st before.1.here e.1.here) in
@@ -113,9 +113,9 @@ hear_all-requires-clause-shown g c =
     let p = c.args.place in
     let due : List Due = g.Q.Orders.map c.args.orders.now in
     let first = c.index.result.now in
-    let u = c.behind-self.inside.node in
+    let u = c.node-node.result in
     let before = is_ending t c.from.result p w c.args.self.now due first c.self.view_is c.from.ensures c.self.invariant c.index.ensures c.requires.within c.requires.shown c.requires.time c.requires.ends in
-    let named : u ≡ first.setup.id = c.behind-self.invariant.id ∙ ap (λ (d : DeviceState). d.setup.id) c.behind-self.view_is in
+    let named : u ≡ first.setup.id = c.node-node.ensures in
     let st = c.index_mut.result.now in
     let e = is_ending t c.from-2.result p w c.args.self.now due st c.self.view_is c.from-2.ensures c.self.invariant c.index_mut.ensures.value c.requires.within c.requires.shown c.requires.time c.requires.ends in
     let node : u ≡ st.setup.id = named ∙ ap (λ (d : DeviceState). d.setup.id) (one_there w.devices p first st before.1.here e.1.here) in
@@ -142,9 +142,9 @@ hear_all-requires-clause-time g c =
     let p = c.args.place in
     let due : List Due = g.Q.Orders.map c.args.orders.now in
     let first = c.index.result.now in
-    let u = c.behind-self.inside.node in
+    let u = c.node-node.result in
     let before = is_ending t c.from.result p w c.args.self.now due first c.self.view_is c.from.ensures c.self.invariant c.index.ensures c.requires.within c.requires.shown c.requires.time c.requires.ends in
-    let named : u ≡ first.setup.id = c.behind-self.invariant.id ∙ ap (λ (d : DeviceState). d.setup.id) c.behind-self.view_is in
+    let named : u ≡ first.setup.id = c.node-node.ensures in
     let st = c.index_mut.result.now in
     let e = is_ending t c.from-2.result p w c.args.self.now due st c.self.view_is c.from-2.ensures c.self.invariant c.index_mut.ensures.value c.requires.within c.requires.shown c.requires.time c.requires.ends in
     let node : u ≡ st.setup.id = named ∙ ap (λ (d : DeviceState). d.setup.id) (one_there w.devices p first st before.1.here e.1.here) in
@@ -171,9 +171,9 @@ tell-requires-clause-shown g c =
     let p = c.args.place in
     let due : List Due = g.Q.Orders.map c.args.orders.now in
     let first = c.index.result.now in
-    let u = c.behind-self.inside.node in
+    let u = c.node-node.result in
     let before = is_ending t c.from.result p w c.args.self.now due first c.self.view_is c.from.ensures c.self.invariant c.index.ensures c.requires.within c.requires.shown c.requires.time c.requires.ends in
-    let named : u ≡ first.setup.id = c.behind-self.invariant.id ∙ ap (λ (d : DeviceState). d.setup.id) c.behind-self.view_is in
+    let named : u ≡ first.setup.id = c.node-node.ensures in
     let st = c.index_mut.result.now in
     let e = is_ending t c.from-2.result p w c.args.self.now due st c.self.view_is c.from-2.ensures c.self.invariant c.index_mut.ensures.value c.requires.within c.requires.shown c.requires.time c.requires.ends in
     let node : u ≡ st.setup.id = named ∙ ap (λ (d : DeviceState). d.setup.id) (one_there w.devices p first st before.1.here e.1.here) in
@@ -208,9 +208,9 @@ returns g c =
     let p = c.args.place in
     let due : List Due = g.Q.Orders.map c.args.orders.now in
     let first = c.index.result.now in
-    let u = c.behind-self.inside.node in
+    let u = c.node-node.result in
     let before = is_ending t c.from.result p w c.args.self.now due first c.self.view_is c.from.ensures c.self.invariant c.index.ensures c.requires.within c.requires.shown c.requires.time c.requires.ends in
-    let named : u ≡ first.setup.id = c.behind-self.invariant.id ∙ ap (λ (d : DeviceState). d.setup.id) c.behind-self.view_is in
+    let named : u ≡ first.setup.id = c.node-node.ensures in
     let st = c.index_mut.result.now in
     let e = is_ending t c.from-2.result p w c.args.self.now due st c.self.view_is c.from-2.ensures c.self.invariant c.index_mut.ensures.value c.requires.within c.requires.shown c.requires.time c.requires.ends in
     let node : u ≡ st.setup.id = named ∙ ap (λ (d : DeviceState). d.setup.id) (one_there w.devices p first st before.1.here e.1.here) in

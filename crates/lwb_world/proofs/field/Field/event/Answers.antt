@@ -1,6 +1,6 @@
 use Rattle.std.proofs.Common.{OnOk, sym, subst}
 use Rattle.event_calendar.specs.declared.class.Class.{Class}
-use Rattle.lwb_flood.specs.ClockLists.{clocks_by}
+use Rattle.air_log.specs.ClockLists.{clocks_by}
 use Rattle.lwb_world.specs.Moments.{At}
 use Rattle.lwb_world.specs.Running.{IsRunning}
 use Rattle.lwb_world.specs.Frames.{IsPast}

@@ -1,5 +1,5 @@
 use Rattle.std.proofs.Common.{◌+◌}
-use Rattle.lwb_flood.specs.ClockLists.{clocks_by}
+use Rattle.air_log.specs.ClockLists.{clocks_by}
 use Rattle.lwb_world.specs.Frames.{told_before}
 use Rattle.lwb_world.proofs.EventsInCode.{IsWithin, keys_left}
 use Rattle.lwb_world.proofs.field.Field.events.Given as goal

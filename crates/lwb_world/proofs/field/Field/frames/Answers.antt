@@ -1,6 +1,5 @@
 use Rattle.std.proofs.Common.{arith}
-use Rattle.scenario_text.proofs.SoundScenarios.{sound}
-use Rattle.lwb_flood.specs.ClockLists.{clocks_by}
+use Rattle.air_log.specs.ClockLists.{clocks_by}
 use Rattle.lwb_world.proofs.FramesInCode.{first_frame, last_frame}
 use Rattle.lwb_world.proofs.field.Field.frames.Goals as goal
 
@@ -20,5 +19,5 @@ pub returns : goal.returns
 returns g c =
     let over = c.loop-frame-test.false in
     let within = c.loop-frame.auto.frame-end in
-    last_frame c.args.s.now (clocks_by g.C.DriftClock.readings c.args.s.now.nodes c.args.clocks.now) (sound c.args.s.now c.profile-said.ensures.said) c.loop-frame.told c.loop-frame.frame c.loop-frame.self (g.Q.Orders.map c.loop-frame.orders)
+    last_frame c.args.s.now (clocks_by g.C.DriftClock.readings c.args.s.now.nodes c.args.clocks.now) c.requires.sound c.loop-frame.told c.loop-frame.frame c.loop-frame.self (g.Q.Orders.map c.loop-frame.orders)
     (omega (arith, over, within, c.frames-frame-end.ensures)) c.loop-frame.invariant

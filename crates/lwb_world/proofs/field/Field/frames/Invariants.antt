@@ -1,4 +1,4 @@
-use Rattle.lwb_flood.specs.ClockLists.{clocks_by}
+use Rattle.air_log.specs.ClockLists.{clocks_by}
 use Rattle.lwb_world.proofs.FramesInCode.{IsAtFrame}
 use Rattle.lwb_world.proofs.field.Field.frames.Given as goal
 

@@ -1,7 +1,6 @@
 use Rattle.std.proofs.Common.{◌*◌, arith}
 use Rattle.std.proofs.lemmas.Option.{slice_get_within}
-use Rattle.scenario_text.proofs.SoundScenarios.{sound}
-use Rattle.lwb_flood.specs.ClockLists.{clocks_by}
+use Rattle.air_log.specs.ClockLists.{clocks_by}
 use Rattle.lwb_world.proofs.ClocksAtPlaces.{all_drift}
 use Rattle.lwb_world.proofs.LinesInCode.{tick_of, read_line, none_read, none_told, next_told, one_more_told, later_line, no_line, all_told}
 use Rattle.lwb_world.proofs.field.Field.lines.Goals as goal
@@ -10,7 +9,7 @@ pub loop-line-init : goal.loop-line-init
 loop-line-init g c =
     let s = c.args.s.now in
     let R = g.C.DriftClock.readings in
-    none_told s (clocks_by R s.nodes c.args.clocks.now) (sound s c.profile.ensures.said) (all_drift R g.met.C.DriftClock.keeps_drift_law s.nodes c.args.clocks.now) c.args.frame c.args.first c.args.self.now (g.Q.Orders.map c.args.orders.now)
+    none_told s (clocks_by R s.nodes c.args.clocks.now) c.requires.sound (all_drift R g.met.C.DriftClock.keeps_drift_law s.nodes c.args.clocks.now) c.args.frame c.args.first c.args.self.now (g.Q.Orders.map c.args.orders.now)
     c.requires.first c.requires.running
 
 pub returns-then-line-frame-clause-next : goal.returns-then-line-frame-clause-next
@@ -19,7 +18,7 @@ returns-then-line-frame-clause-next g c =
     let R = g.C.DriftClock.readings in
     let k = c.loop-line.told in
     let line = c.in-Some.line.now in
-    later_line s (clocks_by R s.nodes c.args.clocks.now) (sound s c.profile.ensures.said) (all_drift R g.met.C.DriftClock.keeps_drift_law s.nodes c.args.clocks.now) c.args.frame k c.loop-line.self (g.Q.Orders.map c.loop-line.orders)
+    later_line s (clocks_by R s.nodes c.args.clocks.now) c.requires.sound (all_drift R g.met.C.DriftClock.keeps_drift_law s.nodes c.args.clocks.now) c.args.frame k c.loop-line.self (g.Q.Orders.map c.loop-line.orders)
     c.loop-line.invariant line (read_line s.script c.script.result.now k line c.script.ensures c.in-Some.ensures.lookup.0 c.in-Some.ensures.lookup.1) c.if-line-frame.true
 
 pub returns-then-line-frame-clause-running : goal.returns-then-line-frame-clause-running
@@ -30,9 +29,9 @@ returns-then-line-frame-clause-running g c =
     let line = c.in-Some.line.now in
     let clocks = clocks_by R s.nodes c.args.clocks.now in
     let drifts = all_drift R g.met.C.DriftClock.keeps_drift_law s.nodes c.args.clocks.now in
-    let cut = later_line s clocks (sound s c.profile.ensures.said) drifts c.args.frame k c.loop-line.self (g.Q.Orders.map c.loop-line.orders)
+    let cut = later_line s clocks c.requires.sound drifts c.args.frame k c.loop-line.self (g.Q.Orders.map c.loop-line.orders)
     c.loop-line.invariant line (read_line s.script c.script.result.now k line c.script.ensures c.in-Some.ensures.lookup.0 c.in-Some.ensures.lookup.1) c.if-line-frame.true in
-    all_told s clocks (sound s c.profile.ensures.said) drifts c.args.frame k c.loop-line.self (g.Q.Orders.map c.loop-line.orders) c.loop-line.invariant cut
+    all_told s clocks c.requires.sound drifts c.args.frame k c.loop-line.self (g.Q.Orders.map c.loop-line.orders) c.loop-line.invariant cut
 
 pub line-requires-clause-next : goal.line-requires-clause-next
 line-requires-clause-next g c =
@@ -40,8 +39,8 @@ line-requires-clause-next g c =
     let R = g.C.DriftClock.readings in
     let k = c.loop-line.told in
     let line = c.in-Some.line.now in
-    let now = tick_of s c.args.frame c.from.result c.frame.result c.profile.result c.from.ensures c.frame.ensures c.profile.ensures.value in
-    next_told s (clocks_by R s.nodes c.args.clocks.now) (sound s c.profile.ensures.said) (all_drift R g.met.C.DriftClock.keeps_drift_law s.nodes c.args.clocks.now) c.args.frame k c.loop-line.self (g.Q.Orders.map c.loop-line.orders)
+    let now = tick_of s c.args.frame c.from.result c.frame.result c.profile.result c.from.ensures c.frame.ensures.value c.profile.ensures.value in
+    next_told s (clocks_by R s.nodes c.args.clocks.now) c.requires.sound (all_drift R g.met.C.DriftClock.keeps_drift_law s.nodes c.args.clocks.now) c.args.frame k c.loop-line.self (g.Q.Orders.map c.loop-line.orders)
     c.loop-line.invariant line (read_line s.script c.script.result.now k line c.script.ensures c.in-Some.ensures.lookup.0 c.in-Some.ensures.lookup.1) c.if-line-frame.false (c.from.result * c.frame.result) now
 
 pub loop-line-smaller : goal.loop-line-smaller
@@ -58,9 +57,9 @@ loop-line-preserved g c =
     let R = g.C.DriftClock.readings in
     let k = c.loop-line.told in
     let line = c.in-Some.line.now in
-    let now = tick_of s c.args.frame c.from.result c.frame.result c.profile.result c.from.ensures c.frame.ensures c.profile.ensures.value in
+    let now = tick_of s c.args.frame c.from.result c.frame.result c.profile.result c.from.ensures c.frame.ensures.value c.profile.ensures.value in
     let at = read_line s.script c.script.result.now k line c.script.ensures c.in-Some.ensures.lookup.0 c.in-Some.ensures.lookup.1 in
-    one_more_told s (clocks_by R s.nodes c.args.clocks.now) (sound s c.profile.ensures.said) (all_drift R g.met.C.DriftClock.keeps_drift_law s.nodes c.args.clocks.now) c.args.frame k c.loop-line.self (g.Q.Orders.map c.loop-line.orders)
+    one_more_told s (clocks_by R s.nodes c.args.clocks.now) c.requires.sound (all_drift R g.met.C.DriftClock.keeps_drift_law s.nodes c.args.clocks.now) c.args.frame k c.loop-line.self (g.Q.Orders.map c.loop-line.orders)
     c.loop-line.invariant line at c.if-line-frame.false (c.from.result * c.frame.result) now (slice_get_within s.script k line at)
     c.line.new.self (g.Q.Orders.map c.line.new.orders) c.in_ok-line.ensures
 
@@ -69,7 +68,7 @@ returns-clause-next g c =
     let s = c.args.s.now in
     let R = g.C.DriftClock.readings in
     let k = c.loop-line.told in
-    no_line s (clocks_by R s.nodes c.args.clocks.now) (sound s c.profile.ensures.said) (all_drift R g.met.C.DriftClock.keeps_drift_law s.nodes c.args.clocks.now) c.args.frame k c.loop-line.self (g.Q.Orders.map c.loop-line.orders)
+    no_line s (clocks_by R s.nodes c.args.clocks.now) c.requires.sound (all_drift R g.met.C.DriftClock.keeps_drift_law s.nodes c.args.clocks.now) c.args.frame k c.loop-line.self (g.Q.Orders.map c.loop-line.orders)
     c.loop-line.invariant (none_read s.script c.script.result.now k c.script.ensures c.in_default.ensures.lookup.0)
 
 pub returns-clause-running : goal.returns-clause-running
@@ -79,6 +78,6 @@ returns-clause-running g c =
     let k = c.loop-line.told in
     let clocks = clocks_by R s.nodes c.args.clocks.now in
     let drifts = all_drift R g.met.C.DriftClock.keeps_drift_law s.nodes c.args.clocks.now in
-    let cut = no_line s clocks (sound s c.profile.ensures.said) drifts c.args.frame k c.loop-line.self (g.Q.Orders.map c.loop-line.orders)
+    let cut = no_line s clocks c.requires.sound drifts c.args.frame k c.loop-line.self (g.Q.Orders.map c.loop-line.orders)
     c.loop-line.invariant (none_read s.script c.script.result.now k c.script.ensures c.in_default.ensures.lookup.0) in
-    all_told s clocks (sound s c.profile.ensures.said) drifts c.args.frame k c.loop-line.self (g.Q.Orders.map c.loop-line.orders) c.loop-line.invariant cut
+    all_told s clocks c.requires.sound drifts c.args.frame k c.loop-line.self (g.Q.Orders.map c.loop-line.orders) c.loop-line.invariant cut

@@ -1,5 +1,5 @@
 use Rattle.std.proofs.Common.{length, ◌-◌}
-use Rattle.lwb_flood.specs.ClockLists.{clocks_by}
+use Rattle.air_log.specs.ClockLists.{clocks_by}
 use Rattle.lwb_world.proofs.LinesInCode.{AreTold}
 use Rattle.lwb_world.proofs.field.Field.lines.Given as goal
 

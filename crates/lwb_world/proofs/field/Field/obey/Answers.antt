@@ -3,7 +3,7 @@ use Rattle.std.proofs.lemmas.Result.{on_ok_weaker}
 use Rattle.std.specs.Prelude.{Contains}
 use Rattle.radio_model.specs.Stations.{IsTime, nodes_of}
 use Rattle.air_log.specs.Devices.{Listening, obeyed}
-use Rattle.lwb_world.specs.WorldDevices.{DeviceState, whole, with_tuned}
+use Rattle.air_log.specs.DeviceStates.{DeviceState, whole, with_tuned}
 use Rattle.lwb_world.specs.Fields.{FieldState, IsShown, channel_of}
 use Rattle.lwb_world.proofs.DeviceRetuned.{listens_after, silent_after}
 use Rattle.lwb_world.proofs.ActsInTurn.{acts_seen}
@@ -17,7 +17,7 @@ invariant_of-self g c =
     let orders = g.Q.Orders.map c.args.orders.now in
     let old : FieldState = record { medium = c.self.inside.medium; devices = c.self.inside.devices.items; air = c.self.inside.air; deliveries = c.self.inside.deliveries.items; drops = c.self.inside.drops.items } in
     let shown : IsShown t old orders p = subst (λ (w : FieldState). IsShown t w orders p) (sym c.self.view_is) c.requires.shown in
-    field_retuned t p old orders shown c.from.result c.from.ensures c.index_mut-device.result.now c.index_mut-device.ensures.value c.self.invariant c.listen-closed.new.self c.listen-closed.ensures.node.setup c.self.inside.air c.device.inside.node (Some c.in-Listen.rank) c.tune.new.self c.tune.ensures.state
+    field_retuned t p old orders shown c.from.result c.from.ensures c.index_mut-device.result.now c.index_mut-device.ensures.value c.self.invariant c.listen-closed.new.self c.listen-closed.ensures.node.setup c.self.inside.air c.node-node.result (Some c.in-Listen.rank) c.tune.new.self c.tune.ensures.state
 
 pub tune-requires-in-Off-clause-node : goal.tune-requires-in-Off-clause-node
 tune-requires-in-Off-clause-node g c =
@@ -27,7 +27,7 @@ tune-requires-in-Off-clause-node g c =
     let old : FieldState = record { medium = c.self.inside.medium; devices = c.self.inside.devices.items; air = c.self.inside.air; deliveries = c.self.inside.deliveries.items; drops = c.self.inside.drops.items } in
     let shown : IsShown t old orders p = subst (λ (w : FieldState). IsShown t w orders p) (sym c.self.view_is) c.requires.shown in
     let state = c.index_mut-device.result.now in
-    let id : c.device.inside.node ≡ state.setup.id = c.device.invariant.id ∙ ap (λ (d : DeviceState). d.setup.id) c.device.view_is in
+    let id : c.node-node.result ≡ state.setup.id = c.node-node.ensures in
     subst (λ (v : ℕ). Contains (nodes_of old.medium) v) (sym id) (in_medium t p old orders shown c.from.result c.from.ensures c.index_mut-device.result.now c.index_mut-device.ensures.value c.self.invariant)
 
 pub invariant_of-self-in-Off : goal.invariant_of-self-in-Off
@@ -37,7 +37,7 @@ invariant_of-self-in-Off g c =
     let orders = g.Q.Orders.map c.args.orders.now in
     let old : FieldState = record { medium = c.self.inside.medium; devices = c.self.inside.devices.items; air = c.self.inside.air; deliveries = c.self.inside.deliveries.items; drops = c.self.inside.drops.items } in
     let shown : IsShown t old orders p = subst (λ (w : FieldState). IsShown t w orders p) (sym c.self.view_is) c.requires.shown in
-    field_retuned t p old orders shown c.from.result c.from.ensures c.index_mut-device.result.now c.index_mut-device.ensures.value c.self.invariant c.silence-closed.new.self c.silence-closed.ensures.node.setup c.self.inside.air c.device.inside.node None c.tune-in-Off.new.self c.tune-in-Off.ensures.state
+    field_retuned t p old orders shown c.from.result c.from.ensures c.index_mut-device.result.now c.index_mut-device.ensures.value c.self.invariant c.silence-closed.new.self c.silence-closed.ensures.node.setup c.self.inside.air c.node-node.result None c.tune-in-Off.new.self c.tune-in-Off.ensures.state
 
 pub set-requires : goal.set-requires
 set-requires g c =
@@ -85,14 +85,14 @@ returns-in-Listen g c =
     let time : IsTime old.medium t = subst (λ (w : FieldState). IsTime w.medium t) (sym c.self.view_is) c.requires.time in
     let clock = g.C.DriftClock.readings c.args.clock.now in
     let state = c.index_mut-device.result.now in
-    let id : c.device.inside.node ≡ state.setup.id = c.device.invariant.id ∙ ap (λ (d : DeviceState). d.setup.id) c.device.view_is in
+    let id : c.node-node.result ≡ state.setup.id = c.node-node.ensures in
     let after = c.listen-closed.new.self in
     let closed = c.listen-closed.result in
     let made = shown.shows.made in
     let on = listens_after clock state.setup.id t c.in-Listen.rank state after made (with_tuned closed made) (c.listen-closed.ensures.whole clock made shown.shows.ended) in
     on_ok_weaker c.log_tuning.result
     (λ is. acts_seen c.self.view_is (
-    retuned_acts t p old orders shown c.from.result c.from.ensures c.index_mut-device.result.now c.index_mut-device.ensures.value c.self.invariant time after closed (Some c.in-Listen.rank) c.device.inside.node c.tune.new.self c.log_tuning.new.self
+    retuned_acts t p old orders shown c.from.result c.from.ensures c.index_mut-device.result.now c.index_mut-device.ensures.value c.self.invariant time after closed (Some c.in-Listen.rank) c.node-node.result c.tune.new.self c.log_tuning.new.self
     id c.tune.ensures.state c.tune.ensures.holds is c.listen-closed.ensures.node c.listen-closed.ensures.own c.listen-closed.ensures.before c.listen-closed.ensures.time on.0 on.1
     (λ s d. obeyed clock s.id t d c.args.order)
     (λ made ended. ap (obeyed clock state.setup.id t (whole state made)) c.in-Listen.is ∙ c.listen-closed.ensures.whole clock made ended)))
@@ -108,7 +108,7 @@ returns-in-Off g c =
     let time : IsTime old.medium t = subst (λ (w : FieldState). IsTime w.medium t) (sym c.self.view_is) c.requires.time in
     let clock = g.C.DriftClock.readings c.args.clock.now in
     let state = c.index_mut-device.result.now in
-    let id : c.device.inside.node ≡ state.setup.id = c.device.invariant.id ∙ ap (λ (d : DeviceState). d.setup.id) c.device.view_is in
+    let id : c.node-node.result ≡ state.setup.id = c.node-node.ensures in
     let after = c.silence-closed.new.self in
     let closed = c.silence-closed.result in
     let made = shown.shows.made in
@@ -116,7 +116,7 @@ returns-in-Off g c =
     let happened = c.silence-closed.ensures.time (state_happened t p old orders shown c.from.result c.from.ensures c.index_mut-device.result.now c.index_mut-device.ensures.value) in
     on_ok_weaker c.log_tuning-in-Off.result
     (λ is. acts_seen c.self.view_is (
-    retuned_acts t p old orders shown c.from.result c.from.ensures c.index_mut-device.result.now c.index_mut-device.ensures.value c.self.invariant time after closed None c.device.inside.node c.tune-in-Off.new.self c.log_tuning-in-Off.new.self
+    retuned_acts t p old orders shown c.from.result c.from.ensures c.index_mut-device.result.now c.index_mut-device.ensures.value c.self.invariant time after closed None c.node-node.result c.tune-in-Off.new.self c.log_tuning-in-Off.new.self
     id c.tune-in-Off.ensures.state c.tune-in-Off.ensures.holds is c.silence-closed.ensures.node c.silence-closed.ensures.own c.silence-closed.ensures.before happened off (ap (λ (l : Option Listening). option_map channel_of l) c.silence-closed.ensures.off)
     (λ s d. obeyed clock s.id t d c.args.order)
     (λ made ended. ap (obeyed clock state.setup.id t (whole state made)) c.in-Off.is ∙ c.silence-closed.ensures.whole made)))

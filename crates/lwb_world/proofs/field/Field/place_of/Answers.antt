@@ -1,5 +1,5 @@
 use Rattle.std.proofs.Common.{◌≡◌, ℕ, List, map, subst, sym, ◌∙◌, ap, arith, Contains}
-use Rattle.lwb_world.specs.WorldDevices.{DeviceState}
+use Rattle.air_log.specs.DeviceStates.{DeviceState}
 use Rattle.lwb_world.specs.Fields.{id_of, ids_of}
 use Rattle.lwb_world.proofs.DevicesOfNodes.{somewhere}
 use Rattle.lwb_world.proofs.field.Field.place_of.Goals as goal

@@ -1,5 +1,5 @@
 use Rattle.std.proofs.Common.{◌≡◌, ◌<◌, ℕ, get_or}
-use Rattle.lwb_world.specs.WorldDevices.{DeviceState}
+use Rattle.air_log.specs.DeviceStates.{DeviceState}
 use Rattle.lwb_world.proofs.field.Field.place_of.Given as goal
 
 abbrev pub invariant-loop-place : goal.invariant-loop-place

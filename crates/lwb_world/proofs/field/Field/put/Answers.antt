@@ -20,8 +20,8 @@ invariant_of-self c =
     slice_get_read w.devices (length w.devices) c.from.result state refl (omega (arith, c.requires.within, c.from.ensures, ap (λ (f : FieldState). length f.devices) c.self.view_is)) c.index_mut-device.ensures.value in
     field_stays c.from.result w (record w { devices = set w.devices c.from.result c.put.new.self }) state c.put.new.self c.self.invariant at c.put.ensures.node.setup refl c.self.invariant.medium refl refl
 
-pub invariant_of-self-then-is_err : goal.invariant_of-self-then-is_err
-invariant_of-self-then-is_err c =
+pub invariant_of-self-in_err-push : goal.invariant_of-self-in_err-push
+invariant_of-self-in_err-push c =
     let w : FieldState = record { medium = c.self.inside.medium; devices = c.self.inside.devices.items; air = c.self.inside.air; deliveries = c.self.inside.deliveries.items; drops = c.self.inside.drops.items } in
     let state = c.index_mut-device.result.now in
     let at : slice_get w.devices c.from.result ≡ Some state =

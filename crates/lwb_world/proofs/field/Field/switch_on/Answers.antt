@@ -4,7 +4,7 @@ use Rattle.scenario_text.specs.declared.script.Act.TheVariants.{On}
 use Rattle.radio_model.specs.Stations.{IsTime}
 use Rattle.air_log.specs.Devices.{nothing_made}
 use Rattle.air_log.specs.ScriptedDevices.{after_act}
-use Rattle.lwb_world.specs.WorldDevices.{DeviceState, whole, CanBoot}
+use Rattle.air_log.specs.DeviceStates.{DeviceState, whole, CanBoot}
 use Rattle.lwb_world.specs.Fields.{FieldState, IsShown}
 use Rattle.lwb_world.proofs.ActsInTurn.{acts_seen}
 use Rattle.lwb_world.proofs.StepsInCode.{field_as_was, state_happened, state_taken}

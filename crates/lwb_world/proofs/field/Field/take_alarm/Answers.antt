@@ -1,7 +1,7 @@
 use Rattle.std.proofs.Common.{◌≡◌, Bool, if◌then◌else◌, None, sym, ◌∙◌, ap, subst, true≢false}
 use Rattle.radio_model.specs.Stations.{IsTime}
 use Rattle.air_log.specs.Trails.{is_due}
-use Rattle.lwb_world.specs.WorldDevices.{DeviceState}
+use Rattle.air_log.specs.DeviceStates.{DeviceState}
 use Rattle.lwb_world.specs.Fields.{FieldState, Shows, IsShown}
 use Rattle.lwb_world.proofs.ActsInTurn.{acts_seen}
 use Rattle.lwb_world.proofs.StepsInCode.{field_as_was, taken_acts, alarm_shown}

@@ -5,7 +5,7 @@ use Rattle.radio_model.specs.OnAir.{Sending}
 use Rattle.radio_model.specs.Stations.{IsTime}
 use Rattle.node_core.specs.Runs.{orders_by}
 use Rattle.air_log.specs.Devices.{obeyed}
-use Rattle.lwb_world.specs.WorldDevices.{DeviceState, whole, row_of, made_by}
+use Rattle.air_log.specs.DeviceStates.{DeviceState, whole, row_of, made_by}
 use Rattle.lwb_world.specs.Fields.{FieldState, IsShown}
 use Rattle.lwb_world.proofs.ActsInTurn.{acts_seen}
 use Rattle.lwb_world.proofs.ObeyedInTurn.{shown_still}

@@ -1,5 +1,5 @@
 use Rattle.std.proofs.Common.{◌≡◌, rules, map}
-use Rattle.lwb_world.specs.WorldDevices.{core_in}
+use Rattle.air_log.specs.DeviceStates.{core_in}
 use Rattle.lwb_world.specs.Worlds.{new_core}
 use Rattle.lwb_world.proofs.FirstField.{first_cores}
 use Rattle.lwb_world.proofs.world.World.new.Goals as goal

@@ -1,5 +1,5 @@
 use Rattle.std.proofs.Common.{◌≡◌, drop, map}
-use Rattle.lwb_world.specs.WorldDevices.{core_in}
+use Rattle.air_log.specs.DeviceStates.{core_in}
 use Rattle.lwb_world.specs.Worlds.{core_of}
 use Rattle.lwb_world.proofs.world.World.node.Given as goal
 

@@ -2,13 +2,16 @@ use Rattle.std.proofs.Common.{◌≡◌, ◌*◌, false, length, replicate, List
 use Rattle.scenario_text.proofs.SoundScenarios.{sound}
 use Rattle.event_calendar.specs.Orders.{nothing_due}
 use Rattle.air_log.specs.Trails.{run_end}
-use Rattle.lwb_flood.specs.ClockLists.{clocks_by}
+use Rattle.air_log.specs.ClockLists.{clocks_by}
 use Rattle.lwb_world.specs.Moments.{Before}
 use Rattle.lwb_world.specs.Running.{IsRunning}
 use Rattle.lwb_world.specs.Worlds.{WorldState}
 use Rattle.lwb_world.proofs.RunsBegin.{run_begins}
 use Rattle.lwb_world.proofs.WorldRuns.{run_left, cores_left, has_run, has_left}
 use Rattle.lwb_world.proofs.world.World.run_with.Goals as goal
+
+pub frames-requires-clause-sound : goal.frames-requires-clause-sound
+frames-requires-clause-sound g c = sound c.self.inside.scenario.now c.profile-profile.ensures.said
 
 pub frames-requires-clause-running : goal.frames-requires-clause-running
 frames-requires-clause-running g c =
@@ -17,7 +20,7 @@ frames-requires-clause-running g c =
     let none : g.Q.Orders.map c.args.orders.now ≡ replicate (length s.nodes) nothing_due =
     c.requires.empty ∙ ap (λ (w : WorldState × List g.row.C.Denot). replicate (length w.0.scenario.nodes) nothing_due) (sym c.self.view_is) in
     run_begins s (clocks_by g.C.DriftClock.readings s.nodes c.as_slice.result.now) (sound s c.profile-profile.ensures.said) c.self.inside.field (g.Q.Orders.map c.args.orders.now)
-    (c.self.invariant.first not_yet).0 c.look.ensures none
+    (c.self.invariant.first not_yet).0 none
 
 pub returns-clause-run : goal.returns-clause-run
 returns-clause-run g c =
@@ -28,9 +31,9 @@ returns-clause-run g c =
     let run : IsRunning s (clocks_by g.C.DriftClock.readings s.nodes cs) s.script (run_end s) Before w due =
     subst (λ (l : List g.row.C.Denot). IsRunning s (clocks_by g.C.DriftClock.readings s.nodes l) s.script (run_end s) Before w due) c.as_slice.ensures.value c.in_ok-frames.ensures in
     let end : c.from.result * c.frame.result ≡ run_end s = search rules in
-    let left = run_left s (sound s c.profile-profile.ensures.said) (clocks_by g.C.DriftClock.readings s.nodes cs) w due run c.look-2.ensures (c.from.result * c.frame.result) end c.close.new.self c.in_ok-close.ensures
+    let left = run_left s (sound s c.profile-profile.ensures.said) (clocks_by g.C.DriftClock.readings s.nodes cs) w due run (c.from.result * c.frame.result) end c.close.new.self c.in_ok-close.ensures
     c.take_deliveries.new.self c.take_deliveries.ensures.rest c.in_ok-deliveries.deliveries.items c.in_ok-deliveries.ensures.taken in
-    let ids = cores_left s (sound s c.profile-profile.ensures.said) (clocks_by g.C.DriftClock.readings s.nodes cs) w due run c.look-2.ensures (c.from.result * c.frame.result) end c.close.new.self c.in_ok-close.ensures
+    let ids = cores_left s (sound s c.profile-profile.ensures.said) (clocks_by g.C.DriftClock.readings s.nodes cs) w due run (c.from.result * c.frame.result) end c.close.new.self c.in_ok-close.ensures
     c.take_deliveries.new.self c.take_deliveries.ensures.rest in
     has_run g.C.DriftClock.readings _ c.args.self.now c.self.view_is _ (record { scenario = refl; ran = refl; run = left.0; nodes = ids })
 
@@ -43,6 +46,6 @@ returns-clause-left g c =
     let run : IsRunning s (clocks_by g.C.DriftClock.readings s.nodes cs) s.script (run_end s) Before w due =
     subst (λ (l : List g.row.C.Denot). IsRunning s (clocks_by g.C.DriftClock.readings s.nodes l) s.script (run_end s) Before w due) c.as_slice.ensures.value c.in_ok-frames.ensures in
     let end : c.from.result * c.frame.result ≡ run_end s = search rules in
-    let left = run_left s (sound s c.profile-profile.ensures.said) (clocks_by g.C.DriftClock.readings s.nodes cs) w due run c.look-2.ensures (c.from.result * c.frame.result) end c.close.new.self c.in_ok-close.ensures
+    let left = run_left s (sound s c.profile-profile.ensures.said) (clocks_by g.C.DriftClock.readings s.nodes cs) w due run (c.from.result * c.frame.result) end c.close.new.self c.in_ok-close.ensures
     c.take_deliveries.new.self c.take_deliveries.ensures.rest c.in_ok-deliveries.deliveries.items c.in_ok-deliveries.ensures.taken in
     has_left g.C.DriftClock.readings _ c.args.self.now c.self.view_is c.take_deliveries.new.self.air due left.1

@@ -4,31 +4,26 @@ use Rattle.link_trace.specs.Passes.{Lines}
 use Rattle.air_log.specs.declared.entry.Entry.{Entry}
 use Rattle.air_log.specs.FloodLaw.{FloodLaw}
 use Rattle.lwb_flood.specs.declared.member.Member.{Member}
-use Rattle.lwb_flood.specs.ClockLists.{clocks_by}
+use Rattle.air_log.specs.ClockLists.{clocks_by}
 use Rattle.lwb_flood.specs.FloodLog.{HasClocks}
 use Rattle.lwb_flood.specs.FloodWorlds.{World, node_of, CanStep, Stepped, readings_at}
 use Rattle.lwb_flood.proofs.FloodLoop.{IsRunning, running_first, can_step, step_on, closing, same_clocks, has_clocks}
 use Rattle.lwb_flood.proofs.FloodClosing.{closing_time, closed_law}
 use Rattle.lwb_flood.proofs.FloodHearers.{some_member}
 use Rattle.lwb_flood.proofs.FloodSteps.{same_at}
-use Rattle.lwb_flood.proofs.true_time.flood_air.Goals as goal
-
-abbrev IsId : ℕ → Type 0
-IsId n = (1 ≤ n) × (n ≤ 200)
+use Rattle.lwb_flood.proofs.true_time.flood_log.Goals as goal
 
 pub loop-place-init : goal.loop-place-init
 loop-place-init g c =
     let clocks = clocks_by g.C.DriftClock.readings c.args.f.now.nodes c.args.clocks.items in
-    let has : HasClocks c.args.f.now clocks = has_clocks g.C.DriftClock.readings g.met.C.DriftClock.keeps_drift_law c.args.f.now c.args.clocks.items c.start-start.ensures.sound
-    (subst IsId c.start-start.ensures.value c.number-number.ensures.range) c.requires in
-    subst (IsRunning c.args.f.now clocks) (sym c.in_ok-world.ensures) (running_first c.args.f.now clocks has)
+    let has : HasClocks c.args.f.now clocks = has_clocks g.C.DriftClock.readings g.met.C.DriftClock.keeps_drift_law c.args.f.now c.args.clocks.items c.in_ok-world.ensures.sound c.in_ok-world.ensures.start c.requires in
+    subst (IsRunning c.args.f.now clocks) (sym c.in_ok-world.ensures.world) (running_first c.args.f.now clocks has)
 
 pub step-requires-clause-can : goal.step-requires-clause-can
 step-requires-clause-can g c =
     λ d.
     let clocks = clocks_by g.C.DriftClock.readings c.args.f.now.nodes c.args.clocks.items in
-    let has : HasClocks c.args.f.now clocks = has_clocks g.C.DriftClock.readings g.met.C.DriftClock.keeps_drift_law c.args.f.now c.args.clocks.items c.start-start.ensures.sound
-    (subst IsId c.start-start.ensures.value c.number-number.ensures.range) c.requires in
+    let has : HasClocks c.args.f.now clocks = has_clocks g.C.DriftClock.readings g.met.C.DriftClock.keeps_drift_law c.args.f.now c.args.clocks.items c.in_ok-world.ensures.sound c.in_ok-world.ensures.start c.requires in
     let w = c.loop-place.world in
     let m : Member = get_or w.members c.in-Some.place d in
     let there : Contains w.members m = (c.in-Some.place, c.in-Some.ensures.some.0, same_at w.members c.in-Some.place m d c.in-Some.ensures.some.0) in
@@ -37,8 +32,7 @@ step-requires-clause-can g c =
 pub loop-place-smaller : goal.loop-place-smaller
 loop-place-smaller g c =
     let clocks = clocks_by g.C.DriftClock.readings c.args.f.now.nodes c.args.clocks.items in
-    let has : HasClocks c.args.f.now clocks = has_clocks g.C.DriftClock.readings g.met.C.DriftClock.keeps_drift_law c.args.f.now c.args.clocks.items c.start-start.ensures.sound
-    (subst IsId c.start-start.ensures.value c.number-number.ensures.range) c.requires in
+    let has : HasClocks c.args.f.now clocks = has_clocks g.C.DriftClock.readings g.met.C.DriftClock.keeps_drift_law c.args.f.now c.args.clocks.items c.in_ok-world.ensures.sound c.in_ok-world.ensures.start c.requires in
     let R = g.C.DriftClock.readings in
     let w = c.loop-place.world in
     let some : Member = some_member w.members c.in-Some.place c.in-Some.ensures.some.0 in
@@ -57,8 +51,7 @@ loop-place-smaller g c =
 pub loop-place-preserved : goal.loop-place-preserved
 loop-place-preserved g c =
     let clocks = clocks_by g.C.DriftClock.readings c.args.f.now.nodes c.args.clocks.items in
-    let has : HasClocks c.args.f.now clocks = has_clocks g.C.DriftClock.readings g.met.C.DriftClock.keeps_drift_law c.args.f.now c.args.clocks.items c.start-start.ensures.sound
-    (subst IsId c.start-start.ensures.value c.number-number.ensures.range) c.requires in
+    let has : HasClocks c.args.f.now clocks = has_clocks g.C.DriftClock.readings g.met.C.DriftClock.keeps_drift_law c.args.f.now c.args.clocks.items c.in_ok-world.ensures.sound c.in_ok-world.ensures.start c.requires in
     let R = g.C.DriftClock.readings in
     let w = c.loop-place.world in
     let some : Member = some_member w.members c.in-Some.place c.in-Some.ensures.some.0 in
@@ -77,15 +70,17 @@ loop-place-preserved g c =
 pub close-requires : goal.close-requires
 close-requires g c =
     let clocks = clocks_by g.C.DriftClock.readings c.args.f.now.nodes c.args.clocks.items in
-    let has : HasClocks c.args.f.now clocks = has_clocks g.C.DriftClock.readings g.met.C.DriftClock.keeps_drift_law c.args.f.now c.args.clocks.items c.start-start.ensures.sound
-    (subst IsId c.start-start.ensures.value c.number-number.ensures.range) c.requires in
+    let has : HasClocks c.args.f.now clocks = has_clocks g.C.DriftClock.readings g.met.C.DriftClock.keeps_drift_law c.args.f.now c.args.clocks.items c.in_ok-world.ensures.sound c.in_ok-world.ensures.start c.requires in
     closing_time c.args.f.now clocks has c.loop-place.world (closing c.args.f.now clocks has c.loop-place.world c.loop-place.invariant c.in_default.ensures.none)
 
-pub returns : goal.returns
-returns g c =
+pub returns-clause-law : goal.returns-clause-law
+returns-clause-law g c =
     let clocks = clocks_by g.C.DriftClock.readings c.args.f.now.nodes c.args.clocks.items in
-    let has : HasClocks c.args.f.now clocks = has_clocks g.C.DriftClock.readings g.met.C.DriftClock.keeps_drift_law c.args.f.now c.args.clocks.items c.start-start.ensures.sound
-    (subst IsId c.start-start.ensures.value c.number-number.ensures.range) c.requires in
+    let has : HasClocks c.args.f.now clocks = has_clocks g.C.DriftClock.readings g.met.C.DriftClock.keeps_drift_law c.args.f.now c.args.clocks.items c.in_ok-world.ensures.sound c.in_ok-world.ensures.start c.requires in
     let w = c.loop-place.world in
     let law = closed_law c.args.f.now clocks has (map node_of w.members) c.loop-place.invariant.so.nodes w (closing c.args.f.now clocks has w c.loop-place.invariant c.in_default.ensures.none) in
     subst (λ (air : List Entry). FloodLaw c.args.f.now clocks air) (sym (c.into_air.ensures ∙ ap (λ (z : World). z.air) c.in_ok-close.ensures)) law
+
+pub returns-clause-clocks : goal.returns-clause-clocks
+returns-clause-clocks g c =
+    has_clocks g.C.DriftClock.readings g.met.C.DriftClock.keeps_drift_law c.args.f.now c.args.clocks.items c.in_ok-world.ensures.sound c.in_ok-world.ensures.start c.requires

@@ -1,7 +1,7 @@
-use Rattle.lwb_flood.specs.ClockLists.{clocks_by}
+use Rattle.air_log.specs.ClockLists.{clocks_by}
 use Rattle.lwb_flood.proofs.FloodLoop.{IsRunning}
 use Rattle.lwb_flood.proofs.FloodMeasure.{remaining}
-use Rattle.lwb_flood.proofs.true_time.flood_air.Given as goal
+use Rattle.lwb_flood.proofs.true_time.flood_log.Given as goal
 
 abbrev pub invariant-loop-place : goal.invariant-loop-place
 invariant-loop-place g l = IsRunning l.f (clocks_by g.C.DriftClock.readings l.f.nodes l.clocks.items) l.world
