@@ -1,5 +1,5 @@
 -- The rates of each node, and the clocks made of them.
-use Rattle.std.proofs.Common.{◌≡◌, ℕ, ℤ, zero, suc, ◌+◌, ◌<◌, ◌≤◌, ◌^◌, List, [], ◌∷◌, ◌++◌, Bool, true, false, ◌==◌, if◌then◌else◌, Option, Some, None, option_map, map, filter, length, get_or, set, drop, replicate, refl, sym, ◌∙◌, ap, arith, All}
+use Rattle.std.proofs.Common.{◌≡◌, ℕ, ℤ, zero, suc, ◌+◌, ◌<◌, ◌≤◌, ◌^◌, List, [], ◌∷◌, ◌++◌, Bool, true, false, ◌==◌, if◌then◌else◌, Option, Some, None, option_map, map, filter, length, get_or, set, drop, replicate, refl, sym, ◌∙◌, ap, subst, arith, All, ◌||◌}
 use Rattle.std.specs.Prelude.{◌≢◌}
 use Rattle.std.proofs.lemmas.Bool.{cond_both, cond-true, cond-false, eqb-true, eqb-false, le-ltb, lt-leb}
 use Rattle.std.proofs.lemmas.List.{length-set, get_or-set_same, get_or-set_other, map-append, append-nil, length-replicate}
@@ -10,12 +10,13 @@ use Rattle.std.specs.List.{AllByRecursion, AllPairs, zip, position, position_fro
 use Rattle.tick_clock.specs.ClockReadings.{segment_clock_reads}
 use Rattle.tick_clock.specs.Rates.{is_wild, is_late, wild_at, unordered_at, segment_reading}
 use Rattle.tick_clock.specs.declared.segment_clock.SegmentClock.{SegmentClock}
+use Rattle.scenario_text.specs.FloodParts.{knows}
 use Rattle.scenario_text.specs.declared.lines.NodeLine.{NodeLine}
 use Rattle.scenario_text.specs.declared.lines.RateLine.{RateLine}
 use Rattle.air_log.proofs.Elements.{pairs_tail}
-use Rattle.lwb_flood.specs.ClockLists.{clocks_by}
+use Rattle.air_log.specs.ClockLists.{clocks_by}
 use Rattle.lwb_flood.specs.StatedClocks.{entry_of, rates_of, stated_by}
-use Rattle.replay_tool.specs.NodeRates.{AreRatesOf, AreClocks}
+use Rattle.replay_tool.specs.NodeRates.{AreRatesOf, AreClocks, IsId}
 
 -- a rate more
 rates_more : (rs : List RateLine) (r : RateLine) (v : ℕ) → rates_of (rs ++ r ∷ []) v ≡ rates_of rs v ++ map entry_of (filter (λ s. s.node == v) (r ∷ []))
@@ -98,24 +99,49 @@ none_late v rs all = ap (λ (o : Option ℕ). option_map (λ i. i + 1) o) (nowhe
 
 -- a clock more
 pub clock_more : (rates : List RateLine) (ns : List NodeLine) (cs : List SegmentClock) (n : NodeLine) (c : SegmentClock) → AreClocks rates ns cs
-    → segment_clock_reads c ≡ segment_reading n.offset (rates_of rates n.node) → AreClocks rates (ns ++ n ∷ []) (cs ++ c ∷ [])
-clock_more rates [] [] n c are reads = (reads, tt)
-clock_more rates [] (d ∷ cs) n c are reads = absurd are
-clock_more rates (m ∷ ns) [] n c are reads = absurd are
-clock_more rates (m ∷ ns) (d ∷ cs) n c are reads = (are.0, clock_more rates ns cs n c are.1 reads)
+    → segment_clock_reads c ≡ segment_reading n.offset (rates_of rates n.node) → IsId n → AreClocks rates (ns ++ n ∷ []) (cs ++ c ∷ [])
+clock_more rates [] [] n c are reads id = (reads, id, tt)
+clock_more rates [] (d ∷ cs) n c are reads id = absurd are
+clock_more rates (m ∷ ns) [] n c are reads id = absurd are
+clock_more rates (m ∷ ns) (d ∷ cs) n c are reads id = (are.0, are.1, clock_more rates ns cs n c are.2 reads id)
 
 pub as_many : (rates : List RateLine) (ns : List NodeLine) (cs : List SegmentClock) → AreClocks rates ns cs → length cs ≡ length ns
 as_many rates [] [] are = refl
 as_many rates [] (d ∷ cs) are = absurd are
 as_many rates (m ∷ ns) [] are = absurd are
-as_many rates (m ∷ ns) (d ∷ cs) are = ap suc (as_many rates ns cs are.1)
+as_many rates (m ∷ ns) (d ∷ cs) are = ap suc (as_many rates ns cs are.2)
 
 pub read_as_stated : (rates : List RateLine) (ns : List NodeLine) (cs : List SegmentClock) (v : ℕ) → AreClocks rates ns cs → clocks_by segment_clock_reads ns cs v ≡ stated_by ns rates v
 read_as_stated rates [] [] v are = refl
 read_as_stated rates [] (d ∷ cs) v are = absurd are
 read_as_stated rates (m ∷ ns) [] v are = absurd are
-read_as_stated rates (m ∷ ns) (d ∷ cs) v are = by_test (m.node == v) are.0 (read_as_stated rates ns cs v are.1)
+read_as_stated rates (m ∷ ns) (d ∷ cs) v are = by_test (m.node == v) are.0 (read_as_stated rates ns cs v are.2)
   where
     by_test : {a b c d : ℕ → ℕ} (t : Bool) → a ≡ b → c ≡ d → (if t then a else c) ≡ (if t then b else d)
     by_test true first other = first
     by_test false first other = other
+
+-- nodes with clocks have ids in range
+ids_by_recursion : (rates : List RateLine) (ns : List NodeLine) (cs : List SegmentClock) → AreClocks rates ns cs → AllByRecursion IsId ns
+ids_by_recursion rates [] [] are = tt
+ids_by_recursion rates [] (d ∷ cs) are = absurd are
+ids_by_recursion rates (m ∷ ns) [] are = absurd are
+ids_by_recursion rates (m ∷ ns) (d ∷ cs) are = (are.1, ids_by_recursion rates ns cs are.2)
+
+pub ids_in_range : (rates : List RateLine) (ns : List NodeLine) (cs : List SegmentClock) → AreClocks rates ns cs → All IsId ns
+ids_in_range rates ns cs are = All-from_recursion IsId ns (ids_by_recursion rates ns cs are)
+
+-- and so has a node that is one of them
+no_node : false ≡ true → ⊥
+no_node is = cc
+
+known_by_recursion : (ns : List NodeLine) (v : ℕ) → AllByRecursion IsId ns → knows ns v ≡ true → (1 ≤ v) × (v ≤ 200)
+known_by_recursion [] v ids known = absurd (no_node known)
+known_by_recursion (n ∷ ns) v ids known = by_test (n.node == v) refl known (λ later. known_by_recursion ns v ids.1 later)
+  where
+    by_test : (b : Bool) → (n.node == v) ≡ b → (b || knows ns v) ≡ true → (knows ns v ≡ true → (1 ≤ v) × (v ≤ 200)) → (1 ≤ v) × (v ≤ 200)
+    by_test true is any later = subst (λ (w : ℕ). (1 ≤ w) × (w ≤ 200)) (eqb-true n.node v is) ids.0
+    by_test false is any later = later any
+
+pub known_id : (ns : List NodeLine) (v : ℕ) → All IsId ns → knows ns v ≡ true → (1 ≤ v) × (v ≤ 200)
+known_id ns v ids known = known_by_recursion ns v (recursion_from_All IsId ns ids) known

@@ -97,6 +97,10 @@ WholeRead old new P = (b : List ℕ) × Consumes old new b × IsAtEnd new × (le
 abbrev pub TooMuchRead : Option (List ℕ) → Option (List ℕ) → Type 0
 TooMuchRead old new = Took old new (λ n. n ≡ INPUT_LIMIT + 1)
 
+-- some bytes were taken, at most so many as are allowed, and what is left is what was left less these
+abbrev pub PartRead : Option (List ℕ) → Option (List ℕ) → Type 0
+PartRead old new = Took old new (λ n. n ≤ INPUT_LIMIT)
+
 -- a report is due, by the words and by what the source had left before and after, and the log of what was run is given
 abbrev pub ReportDue : List (List ℕ) → Option (List ℕ) → Option (List ℕ) → List Entry → List ℕ → Type 0
 ReportDue words old new air text = (c : Command) × Asks words c × WholeRead old new (λ b. IsReport c b air text)

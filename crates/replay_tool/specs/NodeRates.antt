@@ -21,9 +21,13 @@ pub record AreRatesOf (rates : List RateLine) (lists : List (List (ℕ × ℤ)))
   pub ids : length lists ≡ 201
   pub each : (v : ℕ) → get_or lists v [] ≡ rates_of rates v
 
+-- ids of nodes
+abbrev pub IsId : NodeLine → Type 0
+IsId n = (1 ≤ n.node) × (n.node ≤ 200)
+
 -- each clock reads what its node's offset and rates say
 abbrev pub AreClocks : List RateLine → List NodeLine → List SegmentClock → Type 0
 AreClocks rates [] [] = ⊤
 AreClocks rates [] (c ∷ cs) = ⊥
 AreClocks rates (n ∷ ns) [] = ⊥
-AreClocks rates (n ∷ ns) (c ∷ cs) = (segment_clock_reads c ≡ segment_reading n.offset (rates_of rates n.node)) × AreClocks rates ns cs
+AreClocks rates (n ∷ ns) (c ∷ cs) = (segment_clock_reads c ≡ segment_reading n.offset (rates_of rates n.node)) × IsId n × AreClocks rates ns cs

@@ -20,10 +20,7 @@ pub enum Answer {
 pub fn fault_answer(alloc: Global, line: u32, kind: FaultKind) -> Result<Answer, Memory>
     ensures { (c : CommandOf) (b : List ℕ) → HasFault c b line kind → IfOk result (λ a. Answers c b a) }
 {
-    match fault_line(alloc, line, kind) {
-        Ok(fault) => Ok(Answer::Fault(fault)),
-        Err(_) => Err(Memory),
-    }
+    Ok(Answer::Fault(fault_line(alloc, line, kind)?))
 }
 
 fn fault_line(alloc: Global, line: u32, kind: FaultKind) -> Result<String, AllocError>

@@ -3,9 +3,10 @@
 ghost use Rattle.std.specs.Prelude.{◌≡◌, IfOk, OnOk};
 ghost use Rattle.lwb_base.specs.Profile.{one};
 
+use crate::cases::ONE_PACKET;
 use crate::run_answer::stated_world;
-use crate::run_tests::{ONE_PACKET, scenario};
-use air_log::{Air, Entry, SentEntry};
+use crate::run_tests::scenario;
+use air_log::{Air, Entry, HeardEntry, SentEntry};
 use lwb_base::{Event, NodeId, Order, Packet, Payload, Profile, Rank, RecordingRadio};
 use node_core::Node;
 use std::alloc::Global;
@@ -142,6 +143,46 @@ impl Driven {
             None => false,
         }
     }
+
+    // It hears what an entry of a log has, at the end of the hearing.
+    fn hears(&mut self, heard: &HeardEntry) -> Result<(), Fail> {
+        self.come_to(heard.end)?;
+        let packet = Packet::new(heard.packet.bytes()).ok_or("length")?;
+        self.tell(heard.end, Event::Heard(packet))
+    }
+
+    // It has ordered the sending that an entry has, and begins to send.
+    fn sends(&mut self, sent: &SentEntry) -> Result<(), Fail> {
+        self.come_to(sent.start.saturating_add(1))?;
+        if !self.begins(sent) {
+            return Err("another sending")?;
+        }
+        Ok(())
+    }
+
+    // Follows an entry of a log if that is of this node, and says whether it is a sending.
+    fn follows(&mut self, entry: &Entry, node: u8) -> Result<bool, Fail> {
+        match entry {
+            Entry::Heard(heard) if heard.node.number() == node => {
+                self.hears(heard)?;
+                Ok(false)
+            }
+            Entry::Sent(sent) if sent.node.number() == node => {
+                self.sends(sent)?;
+                Ok(true)
+            }
+            _ => Ok(false),
+        }
+    }
+
+    // Nothing stands that was to begin before this tick, and its radio goes off then.
+    fn ends(&mut self, t: u64) -> Result<(), Fail> {
+        self.come_to(t)?;
+        if self.is_late_by(t) {
+            return Err("late")?;
+        }
+        self.turn(None, t)
+    }
 }
 
 // Drives a node through what it hears in a log, up to a tick, at which its radio goes off. What it orders to be sent is
@@ -149,27 +190,13 @@ impl Driven {
 fn drive(driven: &mut Driven, air: &Air, node: u8, end: u64) -> Result<bool, Fail> {
     let mut has_sent = false;
     for i in 0..air.len() {
-        match air.at(i) {
-            Some(Entry::Heard(heard)) if heard.node.number() == node => {
-                driven.come_to(heard.end)?;
-                let packet = Packet::new(heard.packet.bytes()).ok_or("length")?;
-                driven.tell(heard.end, Event::Heard(packet))?;
-            }
-            Some(Entry::Sent(sent)) if sent.node.number() == node => {
-                driven.come_to(sent.start.saturating_add(1))?;
-                if !driven.begins(sent) {
-                    return Err("another sending")?;
-                }
-                has_sent = true;
-            }
-            Some(_) | None => {}
+        if let Some(entry) = air.at(i)
+            && driven.follows(entry, node)?
+        {
+            has_sent = true;
         }
     }
-    driven.come_to(end)?;
-    if driven.is_late_by(end) {
-        return Err("late")?;
-    }
-    driven.turn(None, end)?;
+    driven.ends(end)?;
     Ok(has_sent)
 }
 
@@ -186,24 +213,41 @@ fn tuned(alloc: Global, air: &Air, node: u8) -> Result<Vec<(Rank, u64, u64)>, Fa
     Ok(tuned)
 }
 
+// The end of the run: twelve frames of the first profile.
+const END: u64 = 12 * 256_000_000;
+
+// Whether a node that is driven through a log sends something, and is tuned when the log says.
+fn orders_what_the_log_has(
+    alloc: Global,
+    driven: &mut Driven,
+    air: &Air,
+    node: u8,
+) -> Result<bool, Fail> {
+    let has_sent = drive(driven, air, node, END)?;
+    let by_log = tuned(alloc, air, node)?;
+    Ok(has_sent && driven.tuned.as_slice() == by_log.as_slice())
+}
+
 #[test]
-fn cores_order_what_the_log_has(rt: HostRuntime) -> Result<(), Fail> {
+fn host_orders_what_the_log_has(rt: HostRuntime) -> Result<(), Fail> {
     let alloc = rt.alloc();
     let s = scenario(alloc, ONE_PACKET)?;
     let mut world = stated_world(alloc, &s)?;
     world.run(alloc)?;
-    let end = 12 * 256_000_000;
+    let mut host = booted(alloc, 1)?;
+    assert!(rt; orders_what_the_log_has(alloc, &mut host, world.air(), 1)?);
+    Ok(())
+}
 
-    let mut one = booted(alloc, 1)?;
-    assert!(rt; drive(&mut one, world.air(), 1, end)?);
-    let by_log = tuned(alloc, world.air(), 1)?;
-    assert_eq!(rt; one.tuned.as_slice(), by_log.as_slice());
-
-    let mut two = booted(alloc, 2)?;
-    two.core.declare(0, 4);
-    two.core.put(0, &Payload::new(&[0xaa]).ok_or("length")?);
-    assert!(rt; drive(&mut two, world.air(), 2, end)?);
-    let by_log = tuned(alloc, world.air(), 2)?;
-    assert_eq!(rt; two.tuned.as_slice(), by_log.as_slice());
+#[test]
+fn sender_orders_what_the_log_has(rt: HostRuntime) -> Result<(), Fail> {
+    let alloc = rt.alloc();
+    let s = scenario(alloc, ONE_PACKET)?;
+    let mut world = stated_world(alloc, &s)?;
+    world.run(alloc)?;
+    let mut sender = booted(alloc, 2)?;
+    sender.core.declare(0, 4);
+    sender.core.put(0, &Payload::new(&[0xaa]).ok_or("length")?);
+    assert!(rt; orders_what_the_log_has(alloc, &mut sender, world.air(), 2)?);
     Ok(())
 }

@@ -26,19 +26,15 @@ pub fn flood_answer(alloc: Global, bytes: &[u8]) -> Result<Answer, Memory>
     };
     let air = stated_air(alloc, &text)?;
     let result = outcome_of(alloc, &text, &air)?;
-    match flood_report(alloc, &result) {
-        Ok(report) => Ok(Answer::Report(report, air)),
-        Err(_) => Err(Memory),
-    }
+    let report = flood_report(alloc, &result)?;
+    Ok(Answer::Report(report, air))
 }
 
 // The log of the flood over the clocks that the text states.
 fn stated_air(alloc: Global, f: &FloodText) -> Result<Air, Memory>
     ensures law { IfOk result (λ air. FloodLaw f.now (stated_clock f.now) air) }
-    ensures clocks { HasClocks f.now (stated_clock f.now) }
+    ensures clocks { IfOk result (λ air. HasClocks f.now (stated_clock f.now)) }
 {
-    // What a text keeps to is known from this call.
-    let _start = f.start().number();
     let clocks = stated_clocks(alloc, f.nodes(), f.rates())?;
     flood_air(alloc, f, clocks)
 }

@@ -1,4 +1,4 @@
-ghost use Rattle.std.specs.Prelude.{◌≡◌, ◌++◌, ◌∷◌, [], OnOk};
+ghost use Rattle.std.specs.Prelude.{◌≡◌, ◌++◌, ◌∷◌, [], OnErr, OnOk};
 
 use lwb_base::Memory;
 use std::alloc::Global;
@@ -29,12 +29,11 @@ impl NodeRates {
 
     /// Adds a rate behind those that are there. After `Memory` they are as they were.
     pub fn push(&mut self, from: u64, ppm: i8) -> Result<(), Memory>
-        ensures { OnOk result (self.new ≡ self.old ++ (from, ppm) ∷ []) }
+        ensures added { OnOk result (self.new ≡ self.old ++ (from, ppm) ∷ []) }
+        ensures kept { OnErr result (self.new ≡ self.old) }
     {
-        match self.entries.push((from, ppm)) {
-            Ok(()) => Ok(()),
-            Err(_) => Err(Memory),
-        }
+        self.entries.push((from, ppm))?;
+        Ok(())
     }
 
     pub fn entries(&self) -> &[(u64, i8)]

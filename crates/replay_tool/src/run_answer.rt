@@ -1,7 +1,8 @@
 ghost use Rattle.std.specs.Prelude.{◌≡◌, ◌<◌, ◌^◌, ℕ, IfOk, length, string_bytes};
 ghost use Rattle.tick_clock.specs.ClockReadings.{segment_clock_reads};
+ghost use Rattle.scenario_text.specs.ScenarioGrammar.{IsScenario};
 ghost use Rattle.air_log.specs.Lawful.{Lawful};
-ghost use Rattle.lwb_flood.specs.ClockLists.{clocks_by};
+ghost use Rattle.air_log.specs.ClockLists.{clocks_by};
 ghost use Rattle.lwb_world.specs.Worlds.{new_world};
 ghost use Rattle.replay_tool.specs.Answers.{Answers};
 ghost use Rattle.replay_tool.specs.CommandLine.{scenario_clock};
@@ -40,9 +41,7 @@ pub fn log_answer(alloc: Global, bytes: &[u8]) -> Result<Answer, Memory>
     match run_answer(alloc, bytes)? {
         Answer::Report(mut report, air) => {
             let log = text(alloc, &air)?;
-            if report.push_str(log.as_str()).is_err() {
-                return Err(Memory);
-            }
+            report.push_str(log.as_str())?;
             Ok(Answer::Report(report, air))
         }
         Answer::Fault(fault) => Ok(Answer::Fault(fault)),
@@ -51,24 +50,22 @@ pub fn log_answer(alloc: Global, bytes: &[u8]) -> Result<Answer, Memory>
 
 // The report and the log of the run over the clocks that the scenario states.
 fn stated_run(alloc: Global, s: &Scenario) -> Result<(String, Air), Memory>
+    requires { IsScenario s.now }
     ensures law { IfOk result (λ r. Lawful s.now (scenario_clock s.now) r.1) }
     ensures report { IfOk result (λ r. string_bytes r.0 ≡ report_of s.now (scenario_clock s.now) r.1) }
 {
     let mut world = stated_world(alloc, s)?;
     world.run(alloc)?;
-    match run_report(alloc, world.deliveries(), world.drops()) {
-        Ok(report) => Ok((report, world.into_air())),
-        Err(_) => Err(Memory),
-    }
+    let report = run_report(alloc, world.deliveries(), world.drops())?;
+    Ok((report, world.into_air()))
 }
 
 /// The world of a scenario before its run, over the clocks that it states.
 pub fn stated_world(alloc: Global, s: &Scenario) -> Result<World<'_, SegmentClock>, Memory>
+    requires { IsScenario s.now }
     ensures new { IfOk result (λ w. w.0 ≡ new_world s.now) }
     ensures clocks { IfOk result (λ w. (v : ℕ) → clocks_by segment_clock_reads s.now.nodes w.1 v ≡ scenario_clock s.now v) }
 {
-    // What a scenario keeps to is known from this call.
-    let _profile = s.profile();
     let clocks = stated_clocks(alloc, s.nodes(), s.rates())?;
     World::new(alloc, s, clocks)
 }

@@ -1,9 +1,9 @@
 ghost use Rattle.std.specs.Prelude.{◌≡◌, ℕ, ◌^◌, ◌≤◌, ◌<◌, ◌++◌, ◌∷◌, [], IfOk, OnOk, All, get_or, length, set};
 ghost use Rattle.tick_clock.specs.ClockReadings.{segment_clock_reads};
 ghost use Rattle.tick_clock.specs.Rates.{segment_reading, unordered_at, wild_at};
-ghost use Rattle.lwb_flood.specs.ClockLists.{clocks_by};
+ghost use Rattle.air_log.specs.ClockLists.{clocks_by};
 ghost use Rattle.lwb_flood.specs.StatedClocks.{entry_of, stated_by};
-ghost use Rattle.replay_tool.specs.NodeRates.{AreRatesOf, CanState};
+ghost use Rattle.replay_tool.specs.NodeRates.{AreRatesOf, CanState, IsId};
 
 use crate::node_rates::NodeRates;
 use lwb_base::{Memory, NodeId};
@@ -22,15 +22,14 @@ pub fn stated_clocks(
 ) -> Result<Vec<SegmentClock>, Memory>
     requires { CanState nodes.now rates.now }
     ensures count { IfOk result (λ clocks. length clocks.items ≡ length nodes.now) }
+    ensures ids { IfOk result (λ clocks. All IsId nodes.now) }
     ensures stated { IfOk result (λ clocks. (v : ℕ) → clocks_by segment_clock_reads nodes.now clocks.items v ≡ stated_by nodes.now rates.now v) }
 {
     let rates = rates_by_id(alloc, rates)?;
     let mut clocks = Vec::new(alloc);
     for line in nodes {
         let clock = clock_of(alloc, line.offset, rates_of(&rates, line.node))?;
-        if clocks.push(clock).is_err() {
-            return Err(Memory);
-        }
+        clocks.push(clock)?;
     }
     Ok(clocks)
 }
@@ -53,7 +52,8 @@ fn clock_of(alloc: Global, offset: u64, rates: &[(u64, i8)]) -> Result<SegmentCl
 
 fn rates_of(lists: &[NodeRates], node: NodeId) -> &[(u64, i8)]
     requires { length lists.now ≡ IDS }
-    ensures { result.now ≡ get_or lists.now node [] }
+    ensures value { result.now ≡ get_or lists.now node [] }
+    ensures range { (1 ≤ node) × (node ≤ 200) }
 {
     lists[node.number() as usize].entries()
 }
@@ -74,9 +74,7 @@ fn no_rates(alloc: Global) -> Result<Vec<NodeRates>, Memory>
 {
     let mut lists = Vec::new(alloc);
     for _ in 0..IDS {
-        if lists.push(NodeRates::new(alloc)).is_err() {
-            return Err(Memory);
-        }
+        lists.push(NodeRates::new(alloc))?;
     }
     Ok(lists)
 }

@@ -1,7 +1,7 @@
 ghost use Rattle.std.specs.Prelude.{◌≡◌, ◌≢◌, ◌⊎◌, ◌≤◌, ◌<◌, ◌^◌, ℕ, List, [], Option, Some, length, take, IfOk, map, string_bytes};
 ghost use Rattle.std.specs.Io.KnownBytes.{Appends};
 ghost use Rattle.lwb_base.specs.Causes.{Rose};
-ghost use Rattle.replay_tool.specs.CommandLine.{Asks, IsCommand, ReportDue, FaultDue, UsageDue, SomeDue, IsComplete, Written, PartWritten};
+ghost use Rattle.replay_tool.specs.CommandLine.{Asks, IsCommand, ReportDue, FaultDue, UsageDue, SomeDue, IsComplete, PartRead, Written, PartWritten};
 ghost use Rattle.replay_tool.specs.Answers.{Answers};
 ghost use Rattle.replay_tool.specs.declared.command.Command.{Command as CommandOf};
 
@@ -41,11 +41,11 @@ pub fn top<S: Source, K: Sink>(
     ensures fault { result.status ≡ 1 → Written (K.held sink.old) (K.held sink.new) (FaultDue (map string_bytes words.now) (S.left source.old) (S.left source.new)) }
     ensures usage { result.status ≡ 2 → Written (K.held sink.old) (K.held sink.new) (UsageDue (map string_bytes words.now)) }
 
-    // A source that failed, a sink that failed, and want of memory.
-    ensures read_fault { result.status ≡ 3 → IsCommand (map string_bytes words.now) × Rose (S.faults source.old) (S.faults source.new) × (sink.new ≡ sink.old) }
+    // A source that failed, a sink that failed, and want of memory. What was taken before is gone from the source, and no more is.
+    ensures read_fault { result.status ≡ 3 → IsCommand (map string_bytes words.now) × Rose (S.faults source.old) (S.faults source.new) × PartRead (S.left source.old) (S.left source.new) × (sink.new ≡ sink.old) }
     ensures write_fault { result.status ≡ 4 → Rose (K.faults sink.old) (K.faults sink.new)
         × PartWritten (K.held sink.old) (K.held sink.new) (SomeDue (map string_bytes words.now) (S.left source.old) (S.left source.new) result.air) }
-    ensures memory { result.status ≡ 5 → IsCommand (map string_bytes words.now) × (sink.new ≡ sink.old) }
+    ensures memory { result.status ≡ 5 → IsCommand (map string_bytes words.now) × PartRead (S.left source.old) (S.left source.new) × (sink.new ≡ sink.old) }
 
     ensures no_log { result.status ≢ 0 → result.status ≢ 4 → result.air ≡ [] }
 
