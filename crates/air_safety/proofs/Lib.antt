@@ -1,0 +1,4 @@
+mod Elements
+mod LifeSteps
+mod LifeLaws
+mod LifeExamples
