@@ -1,0 +1,26 @@
+use lwb_base::{NodeId, Owner};
+
+/// A stream with deadlines, in frames. It has a job for each m from 0: its release is `start + m * period`, and its end
+/// is `deadline` after that.
+#[derive(Clone, Copy, Debug, PartialEq, Eq)]
+pub struct DeadlineStream {
+    pub owner: Owner,
+    /// 0 to 1,023.
+    pub start: u32,
+    /// 1 to 64.
+    pub period: u8,
+    /// 1 to 64.
+    pub deadline: u8,
+}
+
+/// What stands in a place of a list that holds no stream yet.
+impl Default for DeadlineStream {
+    fn default() -> DeadlineStream {
+        DeadlineStream {
+            owner: Owner::new(NodeId::new(1).unwrap(), 0),
+            start: 0,
+            period: 1,
+            deadline: 1,
+        }
+    }
+}
