@@ -1,0 +1,9 @@
+pub mod LaterWords
+pub mod Ranges
+pub mod MadeNodes
+pub mod MadeTrace
+pub mod MadeScript
+pub mod MadeInOrder
+pub mod LoopSteps
+pub mod PartsMade
+pub mod MadeExample
