@@ -1,0 +1,167 @@
+#!/usr/bin/env bash
+# Runs the built program and says what it does other than it should: on each example, whose report in examples/expected was
+# worked out from the rules; on words that are no command, texts that are refused, and ends that fail; and, built by the
+# second compiler, on each example again. The last line is 'N passed, M failed', and the status is 0 where M is 0.
+# Usage: tests/program.sh [PROGRAM [OTHER]]. OTHER is the same program as the second compiler builds it. By default they are
+# what the gate built, or they are built.
+set -u
+top=$(cd "$(dirname "$0")/.." && pwd) || exit 1
+folder=$(mktemp -d) || exit 1
+trap 'rm -rf "$folder"' EXIT
+passed=0
+failed=0
+
+# Whether a file is there that runs, and no source is newer.
+is_built() {
+    [ -x "$1" ] && [ -z "$(find "$top/crates.txt" "$top/crates" -path '*/out' -prune -o -type f -newer "$1" -print -quit)" ]
+}
+
+# Builds the program by that compiler and keeps it in the folder of this run.
+build() {
+    echo "building the program by $1 .." >&2
+    if ! (cd "$top/crates/foldcairn" && rt run --backend "$1" -- flood) < "$top/crates/foldcairn/stdin" > "$folder/build" 2>&1; then
+        tail -n 20 "$folder/build" >&2
+        echo "0 passed, 1 failed"
+        exit 1
+    fi
+    cp "$top/crates/foldcairn/out/foldcairn" "$folder/by-$1"
+}
+
+by_gate=$top/crates/foldcairn/out/foldcairn
+if [ $# -ge 1 ]; then
+    program=$1
+    other=${2:-}
+elif is_built "$by_gate" && is_built "$by_gate.by-rattle"; then
+    program=$by_gate
+    other=$by_gate.by-rattle
+else
+    # The build that is kept in the crate is the first compiler's, so that one comes last.
+    build rattle
+    build llvm
+    program=$folder/by-llvm
+    other=$folder/by-rattle
+fi
+
+# says NAME CONDITION..: counts whether the condition holds.
+says() {
+    local name=$1
+    shift
+    if "$@"; then
+        passed=$((passed + 1))
+    else
+        failed=$((failed + 1))
+        echo "FAILED: $name"
+    fi
+}
+
+# ends NAME STATUS TEXT: whether the last run ended with that status and wrote that text to $folder/out.
+ends() {
+    local name=$1 wanted=$2 text=$3
+    printf '%s' "$text" > "$folder/wanted"
+    says "$name: status $status, not $wanted" [ "$status" -eq "$wanted" ]
+    says "$name: other output" cmp -s "$folder/wanted" "$folder/out"
+}
+
+# A run of the program on a text: its words, with the text as standard input.
+run_on() {
+    local text=$1
+    shift
+    printf '%s' "$text" > "$folder/in"
+    "$program" "$@" < "$folder/in" > "$folder/out"
+    status=$?
+}
+
+examples() {
+    local file name word
+    for file in "$top"/examples/*.flood "$top"/examples/*.scenario; do
+        name=$(basename "$file")
+        word=run
+        [ "${name##*.}" = flood ] && word=flood
+        "$program" "$word" < "$file" > "$folder/out"
+        status=$?
+        says "$name: status $status" [ "$status" -eq 0 ]
+        says "$name: other report" cmp -s "$folder/out" "$top/examples/expected/${name%.*}.report"
+    done
+}
+
+# What the second compiler's program writes, to the byte. A log is compared too.
+by_both() {
+    local file name words word theirs
+    for file in "$top"/examples/*.flood "$top"/examples/*.scenario; do
+        name=$(basename "$file")
+        words="run log"
+        [ "${name##*.}" = flood ] && words=flood
+        for word in $words; do
+            "$program" "$word" < "$file" > "$folder/out"
+            status=$?
+            "$other" "$word" < "$file" > "$folder/other"
+            theirs=$?
+            says "$word of $name by both compilers: status $status and $theirs" [ "$status" -eq 0 -a "$theirs" -eq 0 ]
+            says "$word of $name by both compilers: other bytes" cmp -s "$folder/out" "$folder/other"
+        done
+    done
+}
+
+usage=$'usage: flood | run | log\n'
+line=$'sends 2\nnode 1 0\nnode 2 0\nnode 3 0\npair 1 2\npair 2 3\nstart 1\n'
+base=$'sends 2\nnode 1 0\nnode 2 0\nhost 0 1\npair 1 2\n'
+
+words_and_texts() {
+    run_on "$line"
+    ends "no word" 2 "$usage"
+    run_on "$line" flood x
+    ends "a word behind the command" 2 "$usage"
+    run_on "$line" floods
+    ends "an unknown word" 2 "$usage"
+    run_on "$line" ""
+    ends "an empty word" 2 "$usage"
+    # Such words are no text, so the program cannot say what they ask for.
+    run_on "$line" $'\xff'
+    ends "a word that is no UTF-8" 6 ""
+    run_on "" run
+    ends "an empty text" 1 $'fault line 1: Missing\n'
+    run_on $'frames 6\n'"$base"$'rate 1 0 21\n' run
+    ends "a rate out of range" 1 $'fault line 7: Range\n'
+    run_on $'frames 1\nsends 1\nnode 1 0\nnode 2 0\npair 1 2\nlink 1 2\n' log
+    ends "a link that is there" 1 $'fault line 6: Twice\n'
+    run_on $'node 1 \xff\n' flood
+    ends "a line that is no UTF-8" 1 $'fault line 1: NotUtf8\n'
+    head -c 4194305 /dev/zero | tr '\0' '#' > "$folder/long"
+    "$program" run < "$folder/long" > "$folder/out"
+    status=$?
+    ends "one byte more than may come" 1 $'fault too long\n'
+    # A comment of the greatest length before a text that is sound.
+    { head -c $((4194303 - ${#line})) "$folder/long"; printf '\n%s' "$line"; } > "$folder/longest"
+    "$program" flood < "$folder/longest" > "$folder/out"
+    status=$?
+    ends "as many bytes as may come" 0 $'accept 2 0\naccept 3 1\nsent 6\n'
+}
+
+ends_that_fail() {
+    "$program" flood < "$folder" > "$folder/out" 2> "$folder/err"
+    status=$?
+    ends "a folder as input" 3 ""
+    printf '%s' "$line" > "$folder/in"
+    if [ -w /dev/full ]; then
+        "$program" flood < "$folder/in" > /dev/full
+        says "a full device: status $?, not 4" [ $? -eq 4 ]
+    fi
+    # The reader of this pipe is gone before anything is written.
+    (sleep 0.3; "$program" flood < "$folder/in" 2> "$folder/err"; echo $? > "$folder/status") | true
+    says "a closed pipe: status $(cat "$folder/status"), not 4" [ "$(cat "$folder/status")" = 4 ]
+}
+
+# With so little memory that a text of 4 MiB has no room, and the program still starts.
+little_memory() {
+    (ulimit -v 6000; "$program" flood < "$folder/longest" > "$folder/out")
+    status=$?
+    ends "little memory" 5 ""
+}
+
+examples
+words_and_texts
+ends_that_fail
+little_memory
+[ -n "$other" ] && by_both
+echo "$passed passed, $failed failed"
+[ "$failed" -eq 0 ]
