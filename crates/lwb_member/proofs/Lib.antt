@@ -1,9 +1,11 @@
-pub mod Meanings
+-- kept for the crates above
 pub mod Spoken
 pub mod Lengths
 pub mod Told
-pub mod Beginning
-pub mod Accepting
 pub mod Answering
 pub mod HostPlanned
+-- for this crate alone
+pub mod Meanings
+pub mod Beginning
+pub mod Accepting
 pub mod KeptTables

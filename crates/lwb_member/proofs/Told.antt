@@ -1,8 +1,10 @@
 -- A packet says what its initiator said.
-use Rattle.std.proofs.Common.{◌≡◌, ◌≤◌, ◌&&◌, ◌==◌, ℕ, zero, suc, List, Bool, true, false, Some, length, slice_index, nat_le, option_map, refl, ap, ◌∙◌, arith}
-use Rattle.std.proofs.lemmas.Bool.{cond-true, cond-false, ne_eqb, cases_eq}
+use Rattle.std.proofs.Common.{◌≡◌, ◌≤◌, ◌&&◌, ◌==◌, ℕ, zero, suc, List, Bool, true, false, Some, None, Option, IfSome, if◌then◌else◌, sym, subst, length, slice_index, option_map, refl, ap, ◌∙◌, arith}
+use Rattle.std.proofs.lemmas.Bool.{cond-true, cond-false, ne_eqb}
 use Rattle.std.proofs.lemmas.Bool.Decides.{nat_tests}
-use Rattle.lwb_base.specs.Messages.{Schedule}
+use Rattle.lwb_base.specs.Messages.{Ask, Schedule}
+use Rattle.std.specs.Option.{option_and_then}
+use Rattle.lwb_packets.specs.declared.kind.Kind.TheVariants as Kinds
 use Rattle.lwb_packets.specs.Ranges.{between}
 use Rattle.lwb_packets.specs.DataPackets as data_packets
 use Rattle.lwb_packets.specs.Requests as requests
@@ -13,7 +15,7 @@ use Rattle.schedule_codec.specs.Spelling.{spelling, kind_byte, in_range}
 use Rattle.schedule_codec.proofs.Readings.{schedule_spelled}
 use Rattle.bus_rules.specs.Slots.{Message, ScheduleOf, DataOf, RequestOf}
 use Rattle.lwb_member.specs.declared.message.Heard.TheVariants.{Data as HeardData, Request as HeardRequest}
-use Rattle.lwb_member.specs.Said.{MaySay, bytes_of, message_of, meaning, data_in, request_in, data_packet, request_packet}
+use Rattle.lwb_member.specs.Said.{IsSaid, MaySay, bytes_of, said_in, message_of, meaning, data_in, request_in, data_packet, request_packet}
 use Rattle.lwb_member.proofs.Meanings.{joined}
 
 pub told_data : (d : DataPacket) → data_packets.InRange d → 1 ≤ d.node → d.node ≤ 200 → length d.payload ≤ 96 → message_of (data_packets.spelling d) ≡ Some (meaning (HeardData d))
@@ -52,3 +54,18 @@ pub told : (m : Message) (j : ℕ) → MaySay j m → message_of (bytes_of m j) 
 told (ScheduleOf s) j may = told_schedule (spelling s j 0) s j (schedule_spelled s j 0 may) refl
 told (DataOf d) j may = told_data (data_packet d j) may.0 may.1 may.2 may.3
 told (RequestOf a) j may = told_request (request_packet a j) may.0 may.1 may.2
+
+-- a request that is spelled says itself
+asked : (a : Ask) (j : ℕ) (p : List ℕ) → p ≡ bytes_of (RequestOf a) j → IsSaid Kinds.Request p → message_of p ≡ Some (RequestOf a)
+asked a j p is said =
+    let q = bytes_of (RequestOf a) j in
+    let spelled : requests.is_request q ≡ true = ap requests.is_request (sym is) ∙ said.spelled in
+    ap message_of is ∙ cond-true (requests.is_request q) (Some (RequestOf (request_in q))) (option_map ScheduleOf (schedule_of q)) spelled
+
+pub told_asked : (b : Bool) (g : ℕ → Ask) (o : Option ℕ) (j : ℕ) (result : Option (List ℕ))
+    → result ≡ option_map (said_in j) (if b then option_map (λ i. RequestOf (g i)) o else None) → IfSome result (IsSaid Kinds.Request)
+    → option_and_then message_of result ≡ (if b then option_map (λ i. RequestOf (g i)) o else None)
+told_asked false g o j result is said = ap (option_and_then message_of) is
+told_asked true g None j result is said = ap (option_and_then message_of) is
+told_asked true g (Some i) j result is said =
+    ap (option_and_then message_of) is ∙ asked (g i) j (bytes_of (RequestOf (g i)) j) refl (subst (λ (r : Option (List ℕ)). IfSome r (IsSaid Kinds.Request)) is said)

@@ -1,7 +1,7 @@
 ghost use Rattle.std.specs.Prelude.{◌≡◌, ◌≤◌, ◌<◌, Some, None, IfOk, IfSome, length, is_some, [], if◌then◌else◌};
 ghost use Rattle.bus_rules.specs.Plans.{last_slot as last_slot_of};
 ghost use Rattle.bus_rules.specs.Tuning.{rank_of};
-ghost use Rattle.bus_rules.specs.Cores.{booted, frame_ended, begins_host as begins};
+ghost use Rattle.bus_rules.specs.Cores.{booted, frame_ended, is_fresh, begins_host as begins};
 ghost use Rattle.bus_rules.specs.Slots.{part_of, hosts_now};
 ghost use Rattle.bus_rules.specs.Streams as rule;
 ghost use Rattle.stream_source.specs.declared.stream.Put.TheVariants.{Queued, Dropped};
@@ -175,6 +175,13 @@ impl Member {
             Tune::Host(_, due) => due == frame,
             Tune::Hold(..) | Tune::Scan(..) => false,
         }
+    }
+
+    /// Whether it accepted this frame's opening as a scanner, and so takes part in its round.
+    pub fn is_fresh(&self) -> bool
+        ensures { result ≡ is_fresh self.now.core }
+    {
+        self.own_slot.is_some()
     }
 
     /// This frame ends, which is at most 16,777,215. Whether the node begins to host with the next one.

@@ -12,7 +12,7 @@ ghost use Rattle.bus_rules.specs.Tables.{after_request};
 ghost use Rattle.bus_rules.specs.HostPlans.{with_ack, answer, answered, serve, served};
 ghost use Rattle.bus_rules.specs.Slots.{host_closes};
 ghost use Rattle.lwb_member.specs.Members.{IsBoot};
-ghost use Rattle.lwb_member.specs.Said.{said_in, IsSaid};
+ghost use Rattle.lwb_member.specs.Said.{said_in, message_of, IsSaid};
 ghost use Rattle.lwb_member.specs.Planning.{AreAnswers, AreKept, IsEarly, from_code};
 
 use crate::kept::Kept;
@@ -195,6 +195,7 @@ impl Member {
         requires frame { frame ≤ 16777215 }
         requires early { IsEarly frame self.old.core.table }
         ensures packet { Some result ≡ option_map (said_in (last_slot_of self.old.core.plan)) (host_closes self.old.setup frame self.old.core).message }
+        ensures told { message_of result ≡ (host_closes self.old.setup frame self.old.core).message }
         ensures said { IsSaid OfSchedule result }
         ensures core { self.new ≡ record self.old { core = (host_closes self.old.setup frame self.old.core).core } }
         ensures early { IsEarly frame self.new.core.table }

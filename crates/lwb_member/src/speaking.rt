@@ -1,11 +1,11 @@
 //! What a member says in the slots of its round.
 
 ghost use Rattle.std.specs.Prelude.{◌≡◌, ◌≤◌, IfSome};
-ghost use Rattle.std.specs.Option.{option_map};
+ghost use Rattle.std.specs.Option.{option_map, option_and_then};
 ghost use Rattle.lwb_packets.specs.declared.kind.Kind.TheVariants.{Schedule as OfSchedule, Payload as OfData, Request as OfRequest};
 ghost use Rattle.bus_rules.specs.Slots.{opened, data_opened, contention_opened};
 ghost use Rattle.bus_rules.specs.declared.part.Part.TheVariants.{Opening, Closing};
-ghost use Rattle.lwb_member.specs.Said.{said_in, IsSaid};
+ghost use Rattle.lwb_member.specs.Said.{said_in, message_of, IsSaid};
 ghost use Rattle.lwb_member.specs.Planning.{IsEarly};
 ghost use Rattle.lwb_member.specs.Places.{IsPlaced, kind_for};
 
@@ -35,6 +35,23 @@ impl Member {
         }
     }
 
+    /// The slot of this part opens, as for `speak`, in whatever place. The packet that it says reads as what it says.
+    pub fn say(&mut self, part: &Part, frame: u32) -> Option<Packet>
+        requires frame { frame ≤ 16777215 }
+        requires early { IsEarly frame self.old.core.table }
+        ensures told { option_and_then message_of result ≡ (opened self.old.setup frame part.now self.old.core).message }
+        ensures core { self.new ≡ record self.old { core = (opened self.old.setup frame part.now self.old.core).core } }
+        ensures early { IsEarly frame self.new.core.table }
+    {
+        match part {
+            Part::Opening => self.open_round(frame),
+            Part::Data(owner) => self.send_data(*owner, 1),
+            Part::Contention(own) => self.ask(*own),
+            Part::Closing if self.hosts_now(frame) => Some(self.plan_next(frame)),
+            Part::Closing => None,
+        }
+    }
+
     // The last slot: a host plans, and closes its round.
     fn close_round(&mut self, frame: u32, slot: u8) -> Option<Packet>
         requires slot { IsPlaced self.old.core.plan slot Closing }
@@ -52,9 +69,10 @@ impl Member {
     }
 
     // Slot 0: a host opens its round.
-    #[tactic(auto, using(crate::proofs::Spoken::schedule_spoken))]
+    #[tactic(auto, using(crate::proofs::Spoken::schedule_spoken, crate::proofs::Told::told_schedule))]
     fn open_round(&mut self, frame: u32) -> Option<Packet>
         ensures packet { result ≡ option_map (said_in 0) (opened self.old.setup frame Opening self.old.core).message }
+        ensures told { option_and_then message_of result ≡ (opened self.old.setup frame Opening self.old.core).message }
         ensures said { IfSome result (IsSaid OfSchedule) }
         ensures core { self.new ≡ self.old }
     {
@@ -66,10 +84,11 @@ impl Member {
     }
 
     // A data slot: of its own stream the node sends the packet that waits longest.
-    #[tactic(auto, using(crate::proofs::Spoken::data_spoken))]
+    #[tactic(auto, using(crate::proofs::Spoken::data_spoken, crate::proofs::Told::told_data))]
     fn send_data(&mut self, owner: Owner, slot: u8) -> Option<Packet>
         requires { (1 ≤ slot) × (slot ≤ 40) }
         ensures packet { result ≡ option_map (said_in slot) (data_opened self.old.setup.id owner self.old.core).message }
+        ensures told { option_and_then message_of result ≡ (data_opened self.old.setup.id owner self.old.core).message }
         ensures said { IfSome result (IsSaid OfData) }
         ensures core { self.new ≡ record self.old { core = (data_opened self.old.setup.id owner self.old.core).core } }
     {
@@ -112,5 +131,13 @@ impl Member {
             })),
             None => None,
         }
+    }
+
+    // A request as the others read it.
+    fn ask(&mut self, own: u8) -> Option<Packet>
+        ensures told { option_and_then message_of result ≡ (contention_opened self.old.setup.id own self.old.core).message }
+        ensures core { self.new ≡ record self.old { core = (contention_opened self.old.setup.id own self.old.core).core } }
+    {
+        self.request(own, 1)
     }
 }
