@@ -1,0 +1,12 @@
+pub mod Picks
+pub mod OffersRead
+pub mod HeardByMasks
+pub mod SteppedByMasks
+pub mod TextFloods
+pub mod MembersOfSlots
+pub mod ListsInPlace
+pub mod SaidBehind
+pub mod ClosedBehind
+pub mod HeardOrigins
+pub mod SlotsClosed
+pub mod SlotsRun

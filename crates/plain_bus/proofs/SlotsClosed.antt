@@ -1,0 +1,156 @@
+-- What the closing of a slot changes and delivers is what the round's definition says of each node.
+use Rattle.std.proofs.Common.{◌≡◌, ℕ, List, Bool, true, false, ◌&&◌, ◌||◌, ◌==◌, Option, Some, None, is_some, refl, sym, ◌∙◌, ap, if◌then◌else◌, option_map, option_and_then}
+use Rattle.std.proofs.lemmas.Bool.{false≢true, eq-eqb, and_parts}
+use Rattle.lwb_base.specs.Messages.{Schedule, node_of, stream_of}
+use Rattle.bus_rules.specs.Streams.{Waiting, first_waiting, requested}
+use Rattle.scenario_text.specs.ScenarioParts.{ScenarioParts}
+use Rattle.bus_rules.specs.Slots.{Message, ScheduleOf, DataOf, RequestOf, Opened, Closed, opened, data_of, request_of, is_own, is_schedule_part}
+use Rattle.bus_rules.specs.Cores.{Core, is_member, is_fresh}
+use Rattle.bus_rules.specs.Tuning.{rank_of, hosts, hosts_in, holds_in, scans}
+use Rattle.bus_rules.specs.declared.tune.Tune.{Tune}
+use Rattle.bus_rules.specs.declared.tune.Tune.TheVariants.{Scan, Hold, Host}
+use Rattle.bus_rules.specs.declared.part.Part.{Part}
+use Rattle.bus_rules.specs.declared.part.Part.TheVariants.{Opening, Data as DataSlot, Contention, Closing}
+use Rattle.bus_rules.specs.States.{State, StateOff, StateOn}
+use Rattle.bus_model.specs.Rounds.{opened_at, said_in, takes_part, closed_by, left_by}
+use Rattle.bus_model.specs.ScriptedStates.{setup_in}
+use Rattle.bus_model.proofs.OtherRanks.{IsElsewhere, no_window}
+use Rattle.plain_bus.specs.BusNodes.{window_of, state_opened, closed_of, MayAcceptIn}
+use Rattle.plain_bus.specs.SlotFloods.{Seen, seen_by}
+use Rattle.plain_bus.proofs.MembersOfSlots.{window_at}
+
+-- a node of another rank is seen as one that is off
+not_scanner : (rank : ℕ) (t : Tune) → (rank_of t == rank) ≡ false → scans rank t ≡ false
+not_scanner rank (Scan r w) other = other
+not_scanner rank (Hold r d) other = refl
+not_scanner rank (Host r d) other = refl
+
+pub none_takes : (rank : ℕ) (part : Part) (x : State) → IsElsewhere rank x → takes_part rank part (StateOff 0) None ≡ takes_part rank part x None
+none_takes rank part (StateOff boots) other = refl
+none_takes rank part (StateOn c) other = ap (λ (b : Bool). is_schedule_part part && b) (sym (not_scanner rank c.tune other))
+
+module _ (s : ScenarioParts) (rank f : ℕ) (part : Part) (v : ℕ) (x : State) where
+  abbrev window : Option Opened
+  window = opened_at s rank f part v x
+
+  pub seen_mixed : (b : Bool) (o : State) → (b ≡ false → IsElsewhere rank x)
+      → (let y : State = if b then (if b then x else o) else StateOff 0 in seen_by rank part y (window_of (setup_in s v) rank f part y)) ≡ seen_by rank part x window
+  seen_mixed true o other = ap (λ (w : Option Opened). seen_by rank part x w) (window_at s rank f part v x)
+  seen_mixed false o other =
+      ap (λ (t : Bool). record { is_open = false; takes_part = t; initiates = false; message = None }) (none_takes rank part x (other refl))
+      ∙ ap (λ (w : Option Opened). seen_by rank part x w) (sym (no_window s rank f part v x (other refl)))
+
+-- what a closing leaves of the state that the opening left
+pub left_opened : (s : ScenarioParts) (rank f : ℕ) (part : Part) (v : ℕ) (x : State) (heard : Option Message)
+    → left_by (state_opened (setup_in s v) rank f part x) (closed_by s f part v (opened_at s rank f part v x) heard x) ≡ left_by x (closed_by s f part v (opened_at s rank f part v x) heard x)
+left_opened s rank f part v (StateOff boots) None = refl
+left_opened s rank f part v (StateOff boots) (Some m) = refl
+left_opened s rank f part v (StateOn c) heard = by_member (is_member rank f c) heard
+  where
+    by_member : (b : Bool) (heard : Option Message)
+        → (let window : Option Opened = if b then Some (opened (setup_in s v) f part c) else None in
+        left_by (StateOn (if b then (opened (setup_in s v) f part c).core else c)) (closed_by s f part v window heard (StateOn c)) ≡ left_by (StateOn c) (closed_by s f part v window heard (StateOn c)))
+    by_member true heard = refl
+    by_member false None = refl
+    by_member false (Some m) = refl
+
+-- a node of no window that accepts nothing is left alone
+pub untouched : (s : ScenarioParts) (f : ℕ) (part : Part) (v : ℕ) (x : State) → closed_of (setup_in s v) f part false false None x ≡ None
+untouched s f part v (StateOff boots) = refl
+untouched s f part v (StateOn c) = refl
+
+-- a host of this round says its schedule
+hosts_own : (rank f : ℕ) (t : Tune) → hosts_in rank f t ≡ true → hosts_in (rank_of t) f t ≡ true
+hosts_own rank f (Scan r w) is = absurd (false≢true is)
+hosts_own rank f (Hold r d) is = absurd (false≢true is)
+hosts_own rank f (Host r d) is = rw (eq-eqb r r refl) (and_parts (r == rank) (d == f) is).1
+
+host_says : (s : ScenarioParts) (rank f : ℕ) (part : Part) (v : ℕ) (c : Core) → is_schedule_part part ≡ true → hosts_in rank f c.tune ≡ true
+    → is_some (opened (setup_in s v) f part c).message ≡ true
+host_says s rank f (DataSlot o) v c sched host = absurd (false≢true sched)
+host_says s rank f (Contention o) v c sched host = absurd (false≢true sched)
+host_says s rank f Opening v c sched host = rw (hosts_own rank f c.tune host) refl
+host_says s rank f Closing v c sched host = rw (hosts_own rank f c.tune host) refl
+
+hosts_none : (rank f : ℕ) (t : Tune) → hosts t ≡ false → hosts_in rank f t ≡ false
+hosts_none rank f (Scan r w) is = refl
+hosts_none rank f (Hold r d) is = refl
+hosts_none rank f (Host r d) is = absurd (false≢true (sym is))
+
+-- who does not host does not by an opening
+tune_opened : (s : ScenarioParts) (f : ℕ) (part : Part) (v : ℕ) (c : Core) → hosts c.tune ≡ false → hosts (opened (setup_in s v) f part c).core.tune ≡ false
+tune_opened s f Opening v c is = is
+tune_opened s f (DataSlot o) v c is = is
+tune_opened s f (Contention i) v c is = is
+tune_opened s f Closing v c is = rw (hosts_none (rank_of c.tune) f c.tune is) is
+
+member_host : (rank f : ℕ) (t : Tune) (fresh : Bool) → hosts t ≡ true → (hosts_in rank f t || holds_in rank f t || (scans rank t && fresh)) ≡ true → hosts_in rank f t ≡ true
+member_host rank f (Scan r w) fresh host is = absurd (false≢true host)
+member_host rank f (Hold r d) fresh host is = absurd (false≢true host)
+member_host rank f (Host r d) fresh host is = by_test ((r == rank) && (d == f)) is
+  where
+    by_test : (a : Bool) → (a || false || (false && fresh)) ≡ true → a ≡ true
+    by_test true is = refl
+    by_test false is = is
+
+host_scans_not : (rank : ℕ) (t : Tune) → hosts t ≡ true → scans rank t ≡ false
+host_scans_not rank (Scan r w) host = absurd (false≢true host)
+host_scans_not rank (Hold r d) host = absurd (false≢true host)
+host_scans_not rank (Host r d) host = refl
+
+never : (m : Message) → ◌≡◌ {A = Option Message} (Some m) None → ⊥
+never m is = cc
+
+and_false : (a b : Bool) → b ≡ false → (a && b) ≡ false
+and_false true b is = is
+and_false false b is = refl
+
+-- a host accepts no schedule: in its own round it says one itself, and otherwise it takes no part
+pub may_accept : (s : ScenarioParts) (rank f : ℕ) (part : Part) (v : ℕ) (x : State) (heard : Option Message)
+    → (is_some (said_in (opened_at s rank f part v x)) ≡ true → heard ≡ None) → (takes_part rank part x (opened_at s rank f part v x) ≡ false → heard ≡ None)
+    → (is_schedule_part part ≡ false → (m : Schedule) → heard ≡ Some (ScheduleOf m) → ⊥)
+    → MayAcceptIn (state_opened (setup_in s v) rank f part x) heard
+may_accept s rank f part v (StateOff boots) heard quiet outside plain = tt
+may_accept s rank f part v (StateOn c) None quiet outside plain = tt
+may_accept s rank f part v (StateOn c) (Some (DataOf d)) quiet outside plain = tt
+may_accept s rank f part v (StateOn c) (Some (RequestOf a)) quiet outside plain = tt
+may_accept s rank f part v (StateOn c) (Some (ScheduleOf m)) quiet outside plain =
+    by_tests (is_member rank f c) (hosts c.tune) (is_schedule_part part) refl refl refl quiet outside
+  where
+    by_tests : (b h t : Bool) → is_member rank f c ≡ b → hosts c.tune ≡ h → is_schedule_part part ≡ t
+        → (is_some (said_in (if b then Some (opened (setup_in s v) f part c) else None)) ≡ true → ◌≡◌ {A = Option Message} (Some (ScheduleOf m)) None)
+        → (takes_part rank part (StateOn c) (if b then Some (opened (setup_in s v) f part c) else None) ≡ false → ◌≡◌ {A = Option Message} (Some (ScheduleOf m)) None)
+        → hosts (if b then (opened (setup_in s v) f part c).core else c).tune ≡ false
+    by_tests b h false is host sched quiet outside = absurd (plain sched m refl)
+    by_tests true false true is host sched quiet outside = tune_opened s f part v c host
+    by_tests false false true is host sched quiet outside = host
+    by_tests true true true is host sched quiet outside =
+        absurd (never (ScheduleOf m) (quiet (host_says s rank f part v c sched (member_host rank f c.tune (is_fresh c) host is))))
+    by_tests false true true is host sched quiet outside =
+        absurd (never (ScheduleOf m) (outside (and_false (is_schedule_part part) (scans rank c.tune) (host_scans_not rank c.tune host))))
+
+-- a schedule is said in the first slot and the last alone
+pub no_schedule : (s : ScenarioParts) (rank f : ℕ) (part : Part) (v : ℕ) (x : State) (m : Schedule) → is_schedule_part part ≡ false
+    → said_in (opened_at s rank f part v x) ≡ Some (ScheduleOf m) → ⊥
+no_schedule s rank f part v (StateOff boots) m plain is = cc
+no_schedule s rank f part v (StateOn c) m plain is = by_member (is_member rank f c) is
+  where
+    by_part : (part : Part) → is_schedule_part part ≡ false → (opened (setup_in s v) f part c).message ≡ Some (ScheduleOf m) → ⊥
+    by_part Opening plain is = false≢true (sym plain)
+    by_part Closing plain is = false≢true (sym plain)
+    by_part (DataSlot owner) plain is = by_owner (node_of owner == v) (first_waiting c.streams (stream_of owner)) is
+      where
+        by_owner : (b : Bool) (w : Option Waiting) → (if b then option_map (data_of v c (stream_of owner)) w else None) ≡ Some (ScheduleOf m) → ⊥
+        by_owner false w is = cc
+        by_owner true None is = cc
+        by_owner true (Some w) is = cc
+    by_part (Contention i) plain is = by_own (is_own c.own_slot i) (requested c.streams) is
+      where
+        by_own : (b : Bool) (w : Option ℕ) → (if b then option_map (request_of v c) w else None) ≡ Some (ScheduleOf m) → ⊥
+        by_own false w is = cc
+        by_own true None is = cc
+        by_own true (Some w) is = cc
+
+    by_member : (b : Bool) → said_in (if b then Some (opened (setup_in s v) f part c) else None) ≡ Some (ScheduleOf m) → ⊥
+    by_member true is = by_part part plain is
+    by_member false is = cc

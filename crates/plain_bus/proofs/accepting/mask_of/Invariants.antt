@@ -1,0 +1,7 @@
+use Rattle.std.proofs.Common.{◌==◌}
+use Rattle.link_trace.specs.Masks.{IsMaskUpto}
+use Rattle.bus_model.specs.FloodOfText.{ids}
+use Rattle.plain_bus.proofs.accepting.mask_of.Given as goal
+
+abbrev pub invariant-loop-i : goal.invariant-loop-i
+invariant-loop-i l = IsMaskUpto (λ v. v == l.node) (ids l.nodes) l.i l.mask

@@ -1,0 +1,74 @@
+use Rattle.std.proofs.Common.{◌≡◌, ◌<◌, ◌++◌, ◌∷◌, [], ℕ, List, All, Option, length, map, take, get_or, set, filter_map, option_to_list, option_map, subst, sym, ◌∙◌, ap, arith, ◌+◌}
+use Rattle.std.proofs.lemmas.List.{take_all, length-map, get_or_default, take_more_set}
+use Rattle.std.proofs.lemmas.List.Elements.{All-push}
+use Rattle.bus_rules.specs.Slots.{Message}
+use Rattle.lwb_member.specs.Said.{meaning}
+use Rattle.plain_bus.specs.BusNodes.{BusNode, IsEarlyState}
+use Rattle.plain_bus.specs.Closings.{Behind, IsBehind, AllMay, closed_node, delivers_node}
+use Rattle.plain_bus.proofs.ListsInPlace.{same_place, rest_unchanged}
+use Rattle.plain_bus.proofs.ClosedBehind.{closed_more, delivered_more, origin_here, may_here}
+use Rattle.plain_bus.proofs.closing.close_all.Goals as goal
+
+pub close-delivery-requires-clause-early : goal.close-delivery-requires-clause-early
+close-delivery-requires-clause-early c =
+    let i = c.loop-node.node-index in
+    let olds = c.args.nodes.now in
+    let n : BusNode = get_or c.loop-node.nodes i c.node-item.result in
+    let size = c.loop-node.auto.nodes in
+    let below : i < length olds = omega (arith, c.loop-node-test.true, size) in
+    let at : n ≡ get_or olds i n = same_place c.loop-node.nodes olds i c.node-item.result c.loop-node.invariant.todo ∙ get_or_default olds i c.node-item.result n below in
+    subst (λ (x : BusNode). IsEarlyState c.args.frame x.state) (sym at) (c.requires.early i n below)
+
+pub loop-node-preserved : goal.loop-node-preserved
+loop-node-preserved c =
+    let i = c.loop-node.node-index in
+    let olds = c.args.nodes.now in
+    let now = c.loop-node.nodes in
+    let ws = c.args.windows.now in
+    let xs = c.args.stations.now in
+    let f = c.args.frame in
+    let part = c.args.part.now in
+    let n : BusNode = get_or now i c.node-item.result in
+    let y = c.close-delivery.new.self in
+    let w = c.index-windows-place.result in
+    let x = c.index-stations-place.result in
+    let h : Option Message = option_map meaning c.heard_by-accepted.result in
+    let size = c.loop-node.auto.nodes in
+    let place = c.loop-node.invariant.place in
+    let below : i < length olds = omega (arith, c.loop-node-test.true, size) in
+    let there : i < length now = omega (arith, c.loop-node-test.true, size) in
+    let in_ws : i < length ws = omega (arith, below, c.requires.windows) in
+    let in_xs : i < length xs = omega (arith, below, c.requires.stations) in
+    let at : n ≡ get_or olds i n = same_place now olds i c.node-item.result c.loop-node.invariant.todo ∙ get_or_default olds i c.node-item.result n below in
+    let w_at : w ≡ get_or ws i w = c.index-windows-place.is ∙ ap (λ (k : ℕ). get_or ws k w) place in
+    let x_at : x ≡ get_or xs i x = c.index-stations-place.is ∙ ap (λ (k : ℕ). get_or xs k x) place in
+    let same : length ws ≡ length xs = c.requires.windows ∙ sym c.requires.stations in
+    record {
+      place = ap (λ (k : ℕ). k + 1) place;
+      done = λ b ids g behind are may.
+          (let heard = c.heard_by-accepted.ensures.value b ids behind (origin_here b ids ws xs behind same g olds are may i in_xs w w_at x x_at n at) in
+          closed_more b ids ws xs behind same g olds are may i in_xs w w_at x x_at n at h heard f part now y there
+          (c.close-delivery.ensures.state (may_here b ids ws xs behind same g olds are may i in_xs w w_at x x_at n at h heard))
+          (c.loop-node.invariant.done b ids g behind are may));
+      todo = rest_unchanged olds now i y c.loop-node.invariant.todo;
+      log = λ b ids g behind are may.
+          (let heard = c.heard_by-accepted.ensures.value b ids behind (origin_here b ids ws xs behind same g olds are may i in_xs w w_at x x_at n at) in
+          delivered_more b ids ws xs behind same g olds are may i in_xs w w_at x x_at n at h heard c.args.rank f c.args.slot part c.args.log.now.items c.loop-node.log.items c.push_some.new.log.items c.close-delivery.result
+          (c.close-delivery.ensures.delivery (may_here b ids ws xs behind same g olds are may i in_xs w w_at x x_at n at h heard))
+          (c.loop-node.invariant.log b ids g behind are may) c.in_ok-push_some.ensures);
+      early = subst (λ (l : List BusNode). All (λ (z : BusNode). IsEarlyState f z.state) l) (sym (take_more_set now i y there))
+          (All-push (λ (z : BusNode). IsEarlyState f z.state) (take i now) y c.loop-node.invariant.early c.close-delivery.ensures.early);
+    }
+
+pub returns-clause-early : goal.returns-clause-early
+returns-clause-early c =
+    subst (λ (l : List BusNode). All (λ (z : BusNode). IsEarlyState c.args.frame z.state) l)
+    (take_all c.loop-node.node-index c.loop-node.nodes (let size = c.loop-node.auto.nodes in omega (arith, c.loop-node-test.false, size)))
+    c.loop-node.invariant.early
+
+pub returns-clause-log : goal.returns-clause-log
+returns-clause-log c b ids n behind are may =
+    let g = delivers_node b c.args.rank c.args.frame c.args.slot c.args.part.now n in
+    let size = c.loop-node.auto.nodes in
+    c.loop-node.invariant.log b ids n behind are may
+    ∙ ap (λ (l : List ℕ). c.args.log.now.items ++ filter_map g l) (take_all c.loop-node.node-index ids (omega (arith, c.loop-node-test.false, size, ap length are, length-map ids n)))

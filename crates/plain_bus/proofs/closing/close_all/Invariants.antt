@@ -1,0 +1,15 @@
+use Rattle.std.proofs.Common.{◌≡◌, ◌++◌, ℕ, List, All, map, take, drop, filter_map}
+use Rattle.plain_bus.specs.BusNodes.{BusNode, IsEarlyState}
+use Rattle.plain_bus.specs.Closings.{Behind, IsBehind, AllMay, closed_node, delivers_node}
+use Rattle.plain_bus.proofs.closing.close_all.Given as goal
+
+abbrev pub invariant-loop-node : goal.invariant-loop-node
+invariant-loop-node l = record {
+  place : l.place ≡ l.node-index;
+  done : (b : Behind) (ids : List ℕ) (n : ℕ → BusNode) → IsBehind b ids l.windows l.stations → l.fn.nodes ≡ map n ids → AllMay b ids n
+      → take l.node-index l.nodes ≡ take l.node-index (map (closed_node b l.frame l.part n) ids);
+  todo : drop l.node-index l.nodes ≡ drop l.node-index l.fn.nodes;
+  log : (b : Behind) (ids : List ℕ) (n : ℕ → BusNode) → IsBehind b ids l.windows l.stations → l.fn.nodes ≡ map n ids → AllMay b ids n
+      → l.log.items ≡ l.fn.log.items ++ filter_map (delivers_node b l.rank l.frame l.slot l.part n) (take l.node-index ids);
+  early : All (λ (x : BusNode). IsEarlyState l.frame x.state) (take l.node-index l.nodes);
+}

@@ -1,0 +1,33 @@
+use Rattle.std.proofs.Common.{◌≡◌, ◌≤◌, ℕ, All, length, subst, sym, ◌∙◌, ap, arith}
+use Rattle.std.proofs.lemmas.List.{length-map}
+use Rattle.scenario_text.specs.declared.lines.NodeLine.{NodeLine}
+use Rattle.bus_model.specs.Flooding.{Moment, moment}
+use Rattle.plain_bus.specs.FloodMasks.{AreAt}
+use Rattle.plain_bus.specs.declared.station.Station.{Station}
+use Rattle.plain_bus.proofs.SteppedByMasks.{known_at, moment_first, moment_more}
+use Rattle.plain_bus.proofs.stepping.flooded.Goals as goal
+
+pub loop-step-init : goal.loop-step-init
+loop-step-init c = record {
+  at = λ s flood. subst (λ (m : Moment). AreAt m c.args.trace.now.nodes c.first-now.result) (sym (moment_first s)) (c.first-now.ensures.at s c.args.trace.now c.requires.sealed flood);
+  length = c.first-now.ensures.length ∙ sym (ap length c.requires.sealed ∙ length-map c.args.nodes.now (λ (n : NodeLine). n.node));
+  times = c.first-now.ensures.times;
+}
+
+pub loop-step-preserved : goal.loop-step-preserved
+loop-step-preserved c = record {
+  at = λ s flood.
+      subst (λ (m : Moment). AreAt m c.args.trace.now.nodes c.behind-now.result) (sym (moment_more s c.loop-step.step))
+      (c.behind-now.ensures.at s (moment s c.loop-step.step) flood (known_at s flood.inside c.loop-step.step) (c.loop-step.invariant.at s flood));
+  length = c.behind-now.ensures.length;
+  times = c.behind-now.ensures.times;
+}
+
+pub returns : goal.returns
+returns c =
+    let all : c.loop-step.step ≡ 12 = omega (arith, c.loop-step-test.false, c.loop-step.auto.step-end) in
+    record {
+      each = λ s flood. (subst (λ (k : ℕ). AreAt (moment s k) c.args.trace.now.nodes c.loop-step.now) all (c.loop-step.invariant.at s flood)).each;
+      length = c.loop-step.invariant.length ∙ ap length c.requires.sealed ∙ length-map c.args.nodes.now (λ (n : NodeLine). n.node);
+      times = subst (λ (k : ℕ). All (λ (x : Station). x.times ≤ k) c.loop-step.now.each.items) all c.loop-step.invariant.times;
+    }

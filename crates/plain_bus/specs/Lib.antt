@@ -1,0 +1,4 @@
+pub mod FloodMasks
+pub mod BusNodes
+pub mod SlotFloods
+pub mod Closings

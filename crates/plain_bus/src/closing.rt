@@ -1,0 +1,107 @@
+//! A slot closes at all nodes, by what each accepted of its flood.
+
+ghost use Rattle.std.specs.Prelude.{◌≡◌, ◌≤◌, ◌++◌, ℕ, List, All, IfSome, OnOk, true, Some, length, map, take, filter_map, option_to_list};
+ghost use Rattle.std.specs.Option.{option_map};
+ghost use Rattle.lwb_member.specs.Members.{IsHeard};
+ghost use Rattle.lwb_member.specs.Said.{meaning};
+ghost use Rattle.bus_model.specs.Flooding.{has};
+ghost use Rattle.plain_bus.specs.BusNodes.{BusNode as NodeOf, IsEarlyState};
+ghost use Rattle.plain_bus.specs.SlotFloods.{seen};
+ghost use Rattle.plain_bus.specs.Closings.{Behind, IsBehind, AllMay, heard_in, closed_node, delivers_node};
+
+use crate::node::BusNode;
+use crate::station::Station;
+use crate::window::Window;
+use bus_rules::{Delivery, Part};
+use lwb_base::{Memory, NodeId, Rank};
+use lwb_member::{Heard, message_in};
+
+/// The slot of this part and number closes at all nodes in the round of this rank and frame, which is at most 16,777,215:
+/// by the windows and the stations behind the flood, in the order of the nodes. What they deliver comes to the end of `log`.
+/// Err is want of memory.
+pub fn close_all(
+    nodes: &mut [BusNode],
+    windows: &[Window],
+    stations: &[Station],
+    rank: Rank,
+    frame: u32,
+    slot: u8,
+    part: &Part,
+    log: &mut Vec<Delivery>,
+) -> Result<(), Memory>
+    requires frame { frame ≤ 16777215 }
+    requires windows { length windows.now ≡ length nodes.old }
+    requires stations { length stations.now ≡ length nodes.old }
+    requires early { All (λ n. IsEarlyState frame n.state) nodes.old }
+    ensures early { OnOk result (All (λ n. IsEarlyState frame n.state) nodes.new) }
+    ensures nodes { OnOk result ((b : Behind) (ids : List ℕ) (n : ℕ → NodeOf) → IsBehind b ids windows.now stations.now → nodes.old ≡ map n ids → AllMay b ids n
+        → nodes.new ≡ map (closed_node b frame part.now n) ids) }
+    ensures log { OnOk result ((b : Behind) (ids : List ℕ) (n : ℕ → NodeOf) → IsBehind b ids windows.now stations.now → nodes.old ≡ map n ids → AllMay b ids n
+        → log.new.items ≡ log.old.items ++ filter_map (delivers_node b rank frame slot part.now n) ids) }
+{
+    let mut place = 0;
+    for node in nodes.iter_mut() {
+        let window = &windows[place];
+        let accepted = heard_by(window, &stations[place], windows, stations);
+        let delivery = node.close(rank, frame, slot, *part, window, accepted);
+        push_some(log, delivery)?;
+        place += 1;
+    }
+    Ok(())
+}
+
+// What the node of this window and station accepts.
+fn heard_by(
+    window: &Window,
+    station: &Station,
+    windows: &[Window],
+    stations: &[Station],
+) -> Option<Heard>
+    requires { length windows.now ≡ length stations.now }
+    ensures value { (b : Behind) (ids : List ℕ) → IsBehind b ids windows.now stations.now → ((o k : ℕ) → station.now.heard ≡ Some (o, k) → has ids o ≡ true)
+        → option_map meaning result ≡ heard_in b window.now.initiates station.now.heard }
+    ensures ranges { IfSome result IsHeard }
+{
+    if window.initiates {
+        return None;
+    }
+    match station.heard {
+        Some((origin, _)) => said_by(windows, stations, origin),
+        None => None,
+    }
+}
+
+// What the node of this id says.
+fn said_by(windows: &[Window], stations: &[Station], origin: NodeId) -> Option<Heard>
+    requires { length windows.now ≡ length stations.now }
+    ensures value { (b : Behind) (ids : List ℕ) → IsBehind b ids windows.now stations.now → has ids origin ≡ true
+        → option_map meaning result ≡ (b.window origin).message }
+    ensures ranges { IfSome result IsHeard }
+{
+    for (i, station) in stations.iter().enumerate() {
+        if station.node == origin {
+            return said_in(&windows[i]);
+        }
+    }
+    None
+}
+
+// What is said in a window.
+fn said_in(window: &Window) -> Option<Heard>
+    ensures value { option_map meaning result ≡ (seen window.now).message }
+    ensures ranges { IfSome result IsHeard }
+{
+    match &window.said {
+        Some(packet) => message_in(packet),
+        None => None,
+    }
+}
+
+fn push_some(log: &mut Vec<Delivery>, delivery: Option<Delivery>) -> Result<(), Memory>
+    ensures { OnOk result (log.new.items ≡ log.old.items ++ option_to_list delivery) }
+{
+    if let Some(delivery) = delivery {
+        log.push(delivery)?;
+    }
+    Ok(())
+}

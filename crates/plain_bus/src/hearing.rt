@@ -1,0 +1,60 @@
+//! What a node hears in a step of a flood.
+
+ghost use Rattle.std.specs.Prelude.{◌≡◌, ◌<◌, ◌≤◌, length, slice_index};
+ghost use Rattle.bus_model.specs.Flooding.{Setting, Moment, hears as hears_in, agrees as agrees_with};
+ghost use Rattle.plain_bus.specs.FloodMasks.{AreAt, IsFlood, IsKnown, may_hear_at, takes_at};
+
+use crate::offers::picked;
+use crate::station::{Flood, Station, Stations, has_bit};
+use link_trace::Trace;
+use lwb_base::NodeId;
+
+/// The initiator whose message the node at this place hears in the step, if it hears one.
+pub fn hears(trace: &Trace, flood: &Flood, now: &Stations, step: u8, place: u8) -> Option<NodeId>
+    requires place { place < length now.now.each.items }
+    requires sealed { length now.now.each.items ≡ length trace.now.nodes }
+    requires few { length trace.now.nodes ≤ 64 }
+    ensures { (s : Setting) (m : Moment) → IsFlood s trace.now flood.now → IsKnown s m → AreAt m trace.now.nodes now.now
+        → result ≡ hears_in s m step (slice_index trace.now.nodes place) }
+{
+    let station = now.each[usize::from(place)];
+    if !may_hear(flood, &station, place) {
+        return None;
+    }
+    let reaching = trace.from_mask(flood.frame, flood.slot, step, place);
+    let from = reaching & now.senders;
+    let Some(origin) = picked(trace, flood, now.each.as_slice(), step, station.node, from) else {
+        return None;
+    };
+    if takes(flood, &station, place, origin) {
+        Some(origin)
+    } else {
+        None
+    }
+}
+
+// It takes part, does not send, and may send again.
+fn may_hear(flood: &Flood, station: &Station, place: u8) -> bool
+    requires { place < 64 }
+    ensures { result ≡ may_hear_at flood.now station.now place }
+{
+    has_bit(flood.everyone, place) && station.sends.is_none() && station.times < flood.limit
+}
+
+// It is no other initiator, and has heard no other.
+fn takes(flood: &Flood, station: &Station, place: u8, origin: NodeId) -> bool
+    requires { place < 64 }
+    ensures { result ≡ takes_at flood.now station.now place origin }
+{
+    (!has_bit(flood.initiators, place) || station.node == origin) && agrees(station, origin)
+}
+
+// It has heard nothing before, or the same.
+fn agrees(station: &Station, origin: NodeId) -> bool
+    ensures { result ≡ agrees_with station.now.heard origin }
+{
+    match station.heard {
+        Some((first, _)) => first == origin,
+        None => true,
+    }
+}

@@ -1,0 +1,152 @@
+//! A node of the bus: off, or on as a member of its rounds.
+
+ghost use Rattle.std.specs.Prelude.{◌≡◌, ◌≤◌, ◌<◌, IfOk, IfSome};
+ghost use Rattle.bus_rules.specs.Cores.{frame_ended as core_ended};
+ghost use Rattle.bus_rules.specs.States.{StateOff, at_core, switched_on, switched_off, declares, leaves, puts, loses};
+ghost use Rattle.scenario_text.specs.ScenarioFacts.{IsAct};
+ghost use Rattle.bus_model.specs.Rounds.{rank_in};
+ghost use Rattle.bus_model.specs.ScriptedStates.{after_act};
+ghost use Rattle.plain_bus.specs.BusNodes.{MayBoot, MayDo, loses_by};
+
+use lwb_base::{Memory, NodeId, Payload, Profile, Rank};
+use lwb_member::Member;
+use scenario_text::Act;
+use std::alloc::Global;
+use std::marker::Model;
+use stream_source::Put;
+
+/// A node of the bus: off after so many boots, or on as a member of its rounds.
+#[derive(Drop)]
+pub struct BusNode {
+    pub(crate) member: Member,
+    // That in whose round of this frame it takes part.
+    pub(crate) rank: Rank,
+    pub(crate) is_on: bool,
+    pub(crate) boots: u8,
+}
+
+impl Model for BusNode {
+    ghost use Rattle.plain_bus.specs.BusNodes.{BusNode as NodeOf, state_by};
+
+    ghost Value = { NodeOf };
+
+    ghost view = { λ n. record { setup = n.member.setup; rank = n.rank; state = state_by n.is_on n.member.core n.boots } };
+}
+
+impl BusNode {
+    /// A node that is off, and never booted. `own` is the rank that it hosts, if it does, `ranks` the number of ranks, 1 to
+    /// 4, and `sends` how often it sends at most in one flood, 1 to 4.
+    pub fn new(
+        alloc: Global,
+        profile: &Profile,
+        id: NodeId,
+        own: Option<Rank>,
+        ranks: u8,
+        sends: u8,
+    ) -> Result<BusNode, Memory>
+        requires ranks { (1 ≤ ranks) × (ranks ≤ 4) }
+        requires own { IfSome own (λ r. r < ranks) }
+        requires sends { (1 ≤ sends) × (sends ≤ 4) }
+        ensures { IfOk result (λ n. n ≡ record { setup = record { profile = profile.now; id = id; own = own; ranks = ranks; sends = sends }; rank = 0; state = StateOff 0 }) }
+    {
+        Ok(BusNode {
+            member: Member::new(alloc, profile, id, own, ranks, sends)?,
+            rank: Rank::new(0).unwrap(),
+            is_on: false,
+            boots: 0,
+        })
+    }
+
+    /// What the script tells it. Whether a packet is lost by that before it is queued.
+    pub fn tell(&mut self, act: &Act) -> bool
+        requires act { IsAct self.old.setup.profile act.now }
+        requires boot { MayDo act.now self.old.state }
+        ensures state { self.new ≡ record self.old { state = after_act act.now self.old.state } }
+        ensures lost { result ≡ loses_by act.now self.old.state }
+    {
+        match act {
+            Act::On => self.switch_on(),
+            Act::Off => self.switch_off(),
+            Act::Declare(stream, interval) => self.declare(*stream, *interval),
+            Act::Leave(stream) => self.leave(*stream),
+            Act::Put(stream, payload) => return self.put(*stream, payload),
+        }
+        false
+    }
+
+    // Power comes on, where it was off.
+    fn switch_on(&mut self)
+        requires { MayBoot self.old.state }
+        ensures { self.new ≡ record self.old { state = switched_on self.old.state } }
+    {
+        if !self.is_on {
+            self.member.reboot(self.boots + 1);
+            self.is_on = true;
+        }
+    }
+
+    // Power goes off, where it was on.
+    fn switch_off(&mut self)
+        ensures { self.new ≡ record self.old { state = switched_off self.old.state } }
+    {
+        if self.is_on {
+            self.boots = self.member.boot();
+            self.is_on = false;
+        }
+    }
+
+    fn declare(&mut self, stream: u8, interval: u8)
+        requires stream { stream ≤ 3 }
+        requires interval { (1 ≤ interval) × (interval ≤ 120) }
+        ensures { self.new ≡ record self.old { state = at_core (declares stream interval) self.old.state } }
+    {
+        if self.is_on {
+            self.member.declare(stream, interval);
+        }
+    }
+
+    fn leave(&mut self, stream: u8)
+        requires { stream ≤ 3 }
+        ensures { self.new ≡ record self.old { state = at_core (leaves stream) self.old.state } }
+    {
+        if self.is_on {
+            self.member.leave(stream);
+        }
+    }
+
+    // A packet is queued, unless it is lost.
+    fn put(&mut self, stream: u8, payload: &Payload) -> bool
+        requires { stream ≤ 3 }
+        ensures state { self.new ≡ record self.old { state = at_core (puts stream payload.now) self.old.state } }
+        ensures lost { result ≡ loses stream self.old.state }
+    {
+        if !self.is_on {
+            return true;
+        }
+        match self.member.put(stream, payload) {
+            Put::Dropped => true,
+            Put::Queued(_) => false,
+        }
+    }
+
+    /// The rounds of a frame begin: it takes part in that of the rank which it scans, holds or hosts now.
+    pub fn begin_rounds(&mut self)
+        ensures { self.new ≡ record self.old { rank = rank_in self.old.state } }
+    {
+        self.rank = if self.is_on {
+            self.member.rank()
+        } else {
+            Rank::new(0).unwrap()
+        };
+    }
+
+    /// This frame ends, which is at most 16,777,215.
+    pub fn end_frame(&mut self, frame: u32)
+        requires { frame ≤ 16777215 }
+        ensures { self.new ≡ record self.old { state = at_core (core_ended self.old.setup frame) self.old.state } }
+    {
+        if self.is_on {
+            self.member.frame_ended(frame);
+        }
+    }
+}

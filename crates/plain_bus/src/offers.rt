@@ -1,0 +1,102 @@
+//! What the senders of a step bring to a node, and which of it reaches the node.
+
+ghost use Rattle.std.specs.Prelude.{◌≡◌, ◌≤◌, ◌<◌, ℕ, Option, true, false, not, ◌==◌, length, Some, None, if◌then◌else◌};
+ghost use Rattle.std.specs.Int.{bit_at};
+ghost use Rattle.std.specs.Option.{option_map_or};
+ghost use Rattle.bus_model.specs.Flooding.{Setting, Moment, offer, pick};
+ghost use Rattle.plain_bus.specs.FloodMasks.{AreOffers, IsOffer, AllOffer, IsFlood, IsKnown};
+
+use crate::station::{Flood, Station, has_bit};
+use link_trace::Trace;
+use lwb_base::NodeId;
+
+// What the node at that place sends, if it is one of the mask.
+fn sent(station: &Station, from: u64, place: u8) -> Option<NodeId>
+    requires { place < 64 }
+    ensures { result ≡ (if bit_at from place == 1 then station.now.sends else None) }
+{
+    if has_bit(from, place) {
+        station.sends
+    } else {
+        None
+    }
+}
+
+// One of the origins that the nodes of the mask send; None where they send nothing.
+fn first_sent(stations: &[Station], from: u64) -> Option<NodeId>
+    requires few { length stations.now ≤ 64 }
+    ensures { (give : ℕ → Option ℕ) → AreOffers give stations.now from → IsOffer give result }
+{
+    if from == 0 {
+        return None;
+    }
+    for (i, station) in stations.iter().enumerate() {
+        let sent = sent(station, from, i as u8);
+        if sent.is_some() {
+            return sent;
+        }
+    }
+    None
+}
+
+// It sends another origin than this.
+fn differs(sends: Option<NodeId>, origin: NodeId) -> bool
+    ensures { result ≡ option_map_or (λ o. not (o == origin)) sends false }
+{
+    match sends {
+        Some(other) => other != origin,
+        None => false,
+    }
+}
+
+// Whether the nodes of the mask send this origin and no other.
+fn all_send(stations: &[Station], from: u64, origin: NodeId) -> bool
+    requires few { length stations.now ≤ 64 }
+    ensures { (give : ℕ → Option ℕ) → AreOffers give stations.now from → AllOffer give origin result }
+{
+    for (i, station) in stations.iter().enumerate() {
+        if differs(sent(station, from, i as u8), origin) {
+            return false;
+        }
+    }
+    true
+}
+
+// What the node sends, if it is one of the mask.
+fn sent_by(stations: &[Station], from: u64, node: NodeId) -> Option<NodeId>
+    requires few { length stations.now ≤ 64 }
+    ensures { (give : ℕ → Option ℕ) → AreOffers give stations.now from → result ≡ give node }
+{
+    for (i, station) in stations.iter().enumerate() {
+        if station.node == node {
+            return sent(station, from, i as u8);
+        }
+    }
+    None
+}
+
+/// The origin that reaches the node where the nodes of the mask send to it in that step: the only one, or else the one
+/// of the node that the trace names.
+pub(crate) fn picked(
+    trace: &Trace,
+    flood: &Flood,
+    stations: &[Station],
+    step: u8,
+    at: NodeId,
+    from: u64,
+) -> Option<NodeId>
+    requires few { length stations.now ≤ 64 }
+    ensures { (s : Setting) (m : Moment) → IsFlood s trace.now flood.now → IsKnown s m
+        → AreOffers (offer s m step at) stations.now from → result ≡ pick s m step at }
+{
+    let Some(first) = first_sent(stations, from) else {
+        return None;
+    };
+    if flood.lone.is_some() || all_send(stations, from, first) {
+        return Some(first);
+    }
+    let Some(named) = trace.captured(flood.frame, flood.slot, step, at) else {
+        return None;
+    };
+    sent_by(stations, from, named)
+}

@@ -1,0 +1,93 @@
+//! The flood of a slot, by the windows that opened in it.
+
+ghost use Rattle.std.specs.Prelude.{◌≡◌, ◌≤◌, ℕ, List, Bool, All, IfOk, OnOk, length, map};
+ghost use Rattle.link_trace.specs.Masks.{IsMask};
+ghost use Rattle.link_trace.specs.Sealed.{Traced};
+ghost use Rattle.scenario_text.specs.FloodParts.{IsSealed};
+ghost use Rattle.scenario_text.specs.ScenarioParts.{ScenarioParts};
+ghost use Rattle.bus_rules.specs.declared.part.Part.{Part as PartOf};
+ghost use Rattle.bus_rules.specs.States.{State};
+ghost use Rattle.bus_rules.specs.Slots.{part_of};
+ghost use Rattle.lwb_base.specs.Messages.{Plan};
+ghost use Rattle.bus_model.specs.FloodOfText.{ids};
+ghost use Rattle.bus_model.specs.Rounds.{flood_of, opened_at, slot_at};
+ghost use Rattle.plain_bus.specs.FloodMasks.{IsFlood};
+ghost use Rattle.plain_bus.specs.BusNodes.{IsEarlyState, nodes_before, node_opened};
+ghost use Rattle.plain_bus.specs.SlotFloods.{AreWindows, seen, seen_of};
+
+use crate::node::BusNode;
+use crate::slot_windows::open_all;
+use crate::station::Flood;
+use crate::window::Window;
+use bus_rules::Part;
+use lwb_base::{Memory, Rank};
+
+/// A slot of this part and number opens at all nodes in the round of this rank and frame, which is at most 16,777,215, and
+/// a node sends at most so often in its flood: the flood. The windows come in the place of what `windows` had, in the order
+/// of the nodes. Err is want of memory.
+pub fn open_slot(
+    nodes: &mut [BusNode],
+    windows: &mut Vec<Window>,
+    rank: Rank,
+    frame: u32,
+    slot: u8,
+    part: &Part,
+    limit: u8,
+) -> Result<Flood, Memory>
+    requires frame { frame ≤ 16777215 }
+    requires few { length nodes.old ≤ 64 }
+    requires early { All (λ n. IsEarlyState frame n.state) nodes.old }
+    ensures early { OnOk result (All (λ n. IsEarlyState frame n.state) nodes.new) }
+    ensures nodes { OnOk result (nodes.new ≡ map (node_opened rank frame part.now) nodes.old) }
+    ensures windows { OnOk result (map seen windows.new.items ≡ map (seen_of rank frame part.now) nodes.old) }
+    ensures flood { IfOk result (λ x. (s : ScenarioParts) (t : Traced) (p : Plan) (start others : ℕ → State) → nodes.old ≡ nodes_before s rank frame p start others slot
+        → part.now ≡ part_of p slot → t.lines ≡ s.trace → IsSealed t s.nodes → limit ≡ s.sends → IsFlood (slot_at s rank frame p start slot).flood t x) }
+{
+    open_all(nodes, windows, rank, frame, part)?;
+    Ok(flood_in(windows, frame, slot, limit))
+}
+
+/// The flood of that slot in which these windows opened: who says something initiates.
+pub fn flood_in(windows: &[Window], frame: u32, slot: u8, limit: u8) -> Flood
+    requires { length windows.now ≤ 64 }
+    ensures { (s : ScenarioParts) (t : Traced) (rank : ℕ) (part : PartOf) (states : ℕ → State) → AreWindows s rank frame part states windows.now
+        → t.lines ≡ s.trace → IsSealed t s.nodes → limit ≡ s.sends
+        → IsFlood (flood_of s rank frame slot part states (λ v. opened_at s rank frame part v (states v))) t result }
+{
+    Flood {
+        frame,
+        slot,
+        limit,
+        initiators: initiators_of(windows),
+        everyone: takers_of(windows),
+        lone: None,
+    }
+}
+
+// Those who say something.
+fn initiators_of(windows: &[Window]) -> u64
+    requires { length windows.now ≤ 64 }
+    ensures { (nodes : List ℕ) (test : ℕ → Bool) → map (λ w. w.initiates) windows.now ≡ map test nodes → IsMask test nodes result }
+{
+    let mut mask = 0;
+    for (i, window) in windows.iter().enumerate() {
+        if window.initiates {
+            mask |= 1u64 << i;
+        }
+    }
+    mask
+}
+
+// Those who take part.
+fn takers_of(windows: &[Window]) -> u64
+    requires { length windows.now ≤ 64 }
+    ensures { (nodes : List ℕ) (test : ℕ → Bool) → map (λ w. w.takes_part) windows.now ≡ map test nodes → IsMask test nodes result }
+{
+    let mut mask = 0;
+    for (i, window) in windows.iter().enumerate() {
+        if window.takes_part {
+            mask |= 1u64 << i;
+        }
+    }
+    mask
+}

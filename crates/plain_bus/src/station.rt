@@ -1,0 +1,60 @@
+//! The nodes of a flood at the beginning of a step.
+
+ghost use Rattle.std.specs.Prelude.{◌≡◌, ◌<◌, ◌==◌, ◌∷◌, [], ◌++◌, length};
+ghost use Rattle.std.specs.Int.{bit_at};
+
+use arrayvec::ArrayVec;
+use lwb_base::NodeId;
+
+/// A flood: its slot of a frame, how often a node sends at most, and masks of the nodes, which the trace is sealed with:
+/// of those that initiate, and of all that take part.
+#[derive(Clone, Copy)]
+pub struct Flood {
+    pub frame: u32,
+    pub slot: u8,
+    /// 1 to 4.
+    pub limit: u8,
+    pub initiators: u64,
+    pub everyone: u64,
+    /// The initiator, where there is one alone.
+    pub lone: Option<NodeId>,
+}
+
+/// A node at the beginning of a step of a flood.
+#[derive(Clone, Copy)]
+pub struct Station {
+    pub node: NodeId,
+    /// The initiator whose message it sends in the step.
+    pub sends: Option<NodeId>,
+    /// How often it has sent before.
+    pub times: u8,
+    /// The first initiator that it heard, and the step.
+    pub heard: Option<(NodeId, u8)>,
+}
+
+impl Default for Station {
+    fn default() -> Station {
+        Station {
+            node: NodeId::new(1).unwrap(),
+            sends: None,
+            times: 0,
+            heard: None,
+        }
+    }
+}
+
+/// All nodes at the beginning of a step, and the mask of those that send in it.
+#[derive(Drop)]
+pub struct Stations {
+    pub each: ArrayVec<Station, 64>,
+    pub senders: u64,
+}
+
+/// Whether the bit of that place is set.
+#[tactic(auto, using(std::proofs::lemmas::Nat::Bits::shr_and_one))]
+pub(crate) fn has_bit(mask: u64, place: u8) -> bool
+    requires { place < 64 }
+    ensures { result ≡ (bit_at mask place == 1) }
+{
+    (mask >> place) & 1 == 1
+}

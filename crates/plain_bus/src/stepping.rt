@@ -1,0 +1,144 @@
+//! A flood from step to step.
+
+ghost use Rattle.std.specs.Prelude.{◌≡◌, ◌<◌, ◌≤◌, ◌+◌, ◌++◌, ◌∷◌, [], ℕ, Option, All, length, map, take, is_some, Some};
+ghost use Rattle.bus_model.specs.Flooding.{Setting, Moment, moment, beginning, next as next_moment, STEPS};
+ghost use Rattle.link_trace.specs.Sealed.{Traced};
+ghost use Rattle.scenario_text.specs.FloodParts.{IsSealed};
+ghost use Rattle.plain_bus.specs.FloodMasks.{AreAt, IsFlood, IsKnown, station_at, station_after, station_first, with_sender};
+
+use crate::hearing::hears;
+use crate::station::{Flood, Station, Stations, has_bit};
+use arrayvec::ArrayVec;
+use link_trace::Trace;
+use lwb_base::NodeId;
+use scenario_text::NodeLine;
+
+// A flood has the steps 0 to 11.
+const LAST_STEP: u8 = 11;
+
+// A node behind the step in which it heard this, if it heard something.
+fn after(station: &Station, step: u8, heard: Option<NodeId>) -> Station
+    requires step { step ≤ 11 }
+    requires times { station.now.times ≤ step }
+    ensures { result ≡ station_after step station.now heard }
+{
+    let first = match (station.heard, heard) {
+        (None, Some(origin)) => Some((origin, step)),
+        (first, _) => first,
+    };
+    Station {
+        node: station.node,
+        sends: if step < LAST_STEP { heard } else { None },
+        times: station.times + u8::from(station.sends.is_some()),
+        heard: first,
+    }
+}
+
+impl Stations {
+    fn none() -> Stations
+        ensures each { result.each.items ≡ [] }
+        ensures senders { result.senders ≡ 0 }
+    {
+        Stations {
+            each: ArrayVec::new(),
+            senders: 0,
+        }
+    }
+
+    // With one node more.
+    fn push(&mut self, station: Station)
+        requires { length self.old.each.items < 64 }
+        ensures each { self.new.each.items ≡ self.old.each.items ++ station ∷ [] }
+        ensures senders { self.new.senders ≡ with_sender self.old.senders (length self.old.each.items) station }
+    {
+        if station.sends.is_some() {
+            self.senders |= 1 << self.each.len();
+        }
+        self.each.push(station);
+    }
+
+    // All nodes behind a step.
+    fn next(&self, trace: &Trace, flood: &Flood, step: u8) -> Stations
+        requires step { step ≤ 11 }
+        requires sealed { length self.now.each.items ≡ length trace.now.nodes }
+        requires few { length trace.now.nodes ≤ 64 }
+        requires times { All (λ x. x.times ≤ step) self.now.each.items }
+        ensures at { (s : Setting) (m : Moment) → IsFlood s trace.now flood.now → IsKnown s m → AreAt m trace.now.nodes self.now
+            → AreAt (next_moment s step m) trace.now.nodes result }
+        ensures length { length result.each.items ≡ length trace.now.nodes }
+        ensures times { All (λ x. x.times ≤ step + 1) result.each.items }
+    {
+        let mut next = Stations::none();
+        for place in 0..self.each.len() as u8 {
+            let heard = hears(trace, flood, self, step, place);
+            let station = self.each[usize::from(place)];
+            next.push(after(&station, step, heard));
+        }
+        next
+    }
+}
+
+impl Stations {
+    // All nodes behind a step: as they are where nobody sends in it.
+    fn behind(self, trace: &Trace, flood: &Flood, step: u8) -> Stations
+        requires step { step ≤ 11 }
+        requires sealed { length self.each.items ≡ length trace.now.nodes }
+        requires few { length trace.now.nodes ≤ 64 }
+        requires times { All (λ x. x.times ≤ step) self.each.items }
+        ensures at { (s : Setting) (m : Moment) → IsFlood s trace.now flood.now → IsKnown s m → AreAt m trace.now.nodes self
+            → AreAt (next_moment s step m) trace.now.nodes result }
+        ensures length { length result.each.items ≡ length trace.now.nodes }
+        ensures times { All (λ x. x.times ≤ step + 1) result.each.items }
+    {
+        if self.senders == 0 {
+            return self;
+        }
+        self.next(trace, flood, step)
+    }
+}
+
+// All nodes at the beginning of the flood: the initiators send.
+fn first(flood: &Flood, nodes: &[NodeLine]) -> Stations
+    requires few { length nodes.now ≤ 64 }
+    ensures at { (s : Setting) (t : Traced) → t.nodes ≡ map (λ n. n.node) nodes.now → IsFlood s t flood.now → AreAt (beginning s) t.nodes result }
+    ensures length { length result.each.items ≡ length nodes.now }
+    ensures times { All (λ x. x.times ≤ 0) result.each.items }
+{
+    let mut first = Stations::none();
+    for (i, line) in nodes.iter().enumerate() {
+        first.push(initiator(flood, i as u8, line.node));
+    }
+    first
+}
+
+// A node at the beginning, at this place.
+fn initiator(flood: &Flood, place: u8, node: NodeId) -> Station
+    requires { place < 64 }
+    ensures { result ≡ station_first flood.now place node }
+{
+    Station {
+        node,
+        sends: if has_bit(flood.initiators, place) {
+            Some(node)
+        } else {
+            None
+        },
+        times: 0,
+        heard: None,
+    }
+}
+
+/// All nodes behind the flood, which are those that the trace is sealed with.
+pub fn flooded(trace: &Trace, flood: &Flood, nodes: &[NodeLine]) -> Stations
+    requires sealed { IsSealed trace.now nodes.now }
+    requires few { length nodes.now ≤ 64 }
+    ensures each { (s : Setting) → IsFlood s trace.now flood.now → result.each.items ≡ map (station_at (moment s STEPS)) trace.now.nodes }
+    ensures length { length result.each.items ≡ length nodes.now }
+    ensures times { All (λ x. x.times ≤ STEPS) result.each.items }
+{
+    let mut now = first(flood, nodes);
+    for step in 0..12 {
+        now = now.behind(trace, flood, step);
+    }
+    now
+}

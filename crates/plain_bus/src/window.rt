@@ -1,0 +1,214 @@
+//! The windows of a node of the bus in the slots of a round.
+
+ghost use Rattle.std.specs.Prelude.{◌≡◌, ◌≤◌, ◌↔◌, IfSome, is_some, false, None};
+ghost use Rattle.std.specs.Option.{option_map, option_and_then};
+ghost use Rattle.bus_rules.specs.Cores.{is_member as is_core_member};
+ghost use Rattle.bus_rules.specs.Slots.{is_schedule_part as is_schedule};
+ghost use Rattle.bus_rules.specs.Tuning.{hosts, scans as scans_rank};
+ghost use Rattle.bus_model.specs.Rounds.{said_in, takes_part, left_by, rank_in};
+ghost use Rattle.lwb_member.specs.Members.{IsHeard};
+ghost use Rattle.lwb_member.specs.Said.{meaning, message_of};
+ghost use Rattle.plain_bus.specs.SlotFloods.{seen, seen_of, node_closed, node_delivers};
+ghost use Rattle.plain_bus.specs.BusNodes.{window_of, state_opened, closed_of, delivered_of, node_opened, MayAcceptIn, IsEarlyState};
+
+use crate::node::BusNode;
+use bus_rules::{Delivery, Part, Tune};
+use lwb_base::{Packet, Rank};
+use lwb_member::{Heard, Member, message_in};
+
+/// What a node has to do with a slot that opens.
+#[derive(Drop)]
+pub struct Window {
+    /// It is a member of the round.
+    pub is_open: bool,
+    /// It takes part in the flood of the slot: members do, and in the first slot and the last the scanners of the rank.
+    pub takes_part: bool,
+    /// It says something.
+    pub initiates: bool,
+    /// What it says: the packet reads as that.
+    pub said: Option<Packet>,
+}
+
+impl Window {
+    // Of a node that has nothing to do with the slot.
+    fn shut() -> Window
+        ensures { seen result ≡ record { is_open = false; takes_part = false; initiates = false; message = None } }
+    {
+        Window {
+            is_open: false,
+            takes_part: false,
+            initiates: false,
+            said: None,
+        }
+    }
+}
+
+impl BusNode {
+    /// A slot of this part opens in the round of this rank and frame, which is at most 16,777,215. A node of another rank
+    /// has nothing to do with it.
+    pub fn open(&mut self, rank: Rank, frame: u32, part: &Part) -> Window
+        requires frame { frame ≤ 16777215 }
+        requires early { IsEarlyState frame self.old.state }
+        ensures state { self.new ≡ node_opened rank frame part.now self.old }
+        ensures seen { seen result ≡ seen_of rank frame part.now self.old }
+        ensures early { IsEarlyState frame self.new.state }
+    {
+        if self.rank != rank {
+            return Window::shut();
+        }
+        self.open_own(rank, frame, part)
+    }
+
+    // The slot opens in the round of its own rank.
+    fn open_own(&mut self, rank: Rank, frame: u32, part: &Part) -> Window
+        requires frame { frame ≤ 16777215 }
+        requires early { IsEarlyState frame self.old.state }
+        ensures state { self.new ≡ record self.old { state = state_opened self.old.setup rank frame part.now self.old.state } }
+        ensures is_open { result.is_open ≡ is_some (window_of self.old.setup rank frame part.now self.old.state) }
+        ensures takes_part { result.takes_part ≡ takes_part rank part.now self.old.state (window_of self.old.setup rank frame part.now self.old.state) }
+        ensures initiates { result.initiates ≡ is_some (said_in (window_of self.old.setup rank frame part.now self.old.state)) }
+        ensures said { option_and_then message_of result.said ≡ said_in (window_of self.old.setup rank frame part.now self.old.state) }
+        ensures early { IsEarlyState frame self.new.state }
+    {
+        if !self.is_on {
+            return Window::shut();
+        }
+        if !is_member(&self.member, rank, frame) {
+            return Window {
+                is_open: false,
+                takes_part: is_schedule_part(part) && scans(&self.member, rank),
+                initiates: false,
+                said: None,
+            };
+        }
+        let said = self.member.say(part, frame);
+        Window {
+            is_open: true,
+            takes_part: true,
+            initiates: reads(&said),
+            said,
+        }
+    }
+
+    /// The slot of this part and number closes in the round of this rank and frame, which is at most 16,777,215: the node
+    /// initiated in it, accepted this, or neither. What it delivers, if something. A host accepts no schedule.
+    pub fn close(
+        &mut self,
+        rank: Rank,
+        frame: u32,
+        slot: u8,
+        part: Part,
+        window: &Window,
+        accepted: Option<Heard>,
+    ) -> Option<Delivery>
+        requires frame { frame ≤ 16777215 }
+        requires ranges { IfSome accepted IsHeard }
+        requires early { IsEarlyState frame self.old.state }
+        ensures state { MayAcceptIn self.old.state (option_map meaning accepted) → self.new ≡ node_closed frame part (seen window.now) (option_map meaning accepted) self.old }
+        ensures delivery { MayAcceptIn self.old.state (option_map meaning accepted) → result ≡ node_delivers rank frame slot part (seen window.now) (option_map meaning accepted) self.old }
+        ensures early { IsEarlyState frame self.new.state }
+    {
+        if self.refuses(&accepted) {
+            return None;
+        }
+        let mut delivery = self.close_with(
+            frame,
+            slot,
+            part,
+            window.is_open,
+            window.initiates,
+            accepted,
+        )?;
+        delivery.rank = rank;
+        Some(delivery)
+    }
+
+    // A host that is given a schedule.
+    fn refuses(&self, accepted: &Option<Heard>) -> bool
+        ensures { (result ≡ false) ↔ MayAcceptIn self.now.state (option_map meaning accepted.now) }
+    {
+        if !self.is_on {
+            return false;
+        }
+        match accepted {
+            Some(Heard::Schedule(_)) => is_host(&self.member),
+            Some(Heard::Data(_)) | Some(Heard::Request(_)) | None => false,
+        }
+    }
+
+    // The slot closes with what the node may accept.
+    fn close_with(
+        &mut self,
+        frame: u32,
+        slot: u8,
+        part: Part,
+        is_open: bool,
+        initiated: bool,
+        accepted: Option<Heard>,
+    ) -> Option<Delivery>
+        requires frame { frame ≤ 16777215 }
+        requires ranges { IfSome accepted IsHeard }
+        requires host { MayAcceptIn self.old.state (option_map meaning accepted) }
+        requires early { IsEarlyState frame self.old.state }
+        ensures state { self.new ≡ record self.old { state = left_by self.old.state (closed_of self.old.setup frame part is_open initiated (option_map meaning accepted) self.old.state) } }
+        ensures delivery { result ≡ delivered_of self.old.setup.id frame (rank_in self.old.state) slot (closed_of self.old.setup frame part is_open initiated (option_map meaning accepted) self.old.state) }
+        ensures early { IsEarlyState frame self.new.state }
+    {
+        if !self.is_on {
+            return None;
+        }
+        if is_open {
+            return self.member.close(frame, slot, part, initiated, accepted);
+        }
+        if accepted.is_none() {
+            return None;
+        }
+        self.member.close(frame, slot, part, false, accepted)
+    }
+}
+
+fn is_host(member: &Member) -> bool
+    ensures { result ≡ hosts member.now.core.tune }
+{
+    match member.tune() {
+        Tune::Host(..) => true,
+        Tune::Hold(..) | Tune::Scan(..) => false,
+    }
+}
+
+// Whether something is said.
+fn reads(said: &Option<Packet>) -> bool
+    ensures { result ≡ is_some (option_and_then message_of said.now) }
+{
+    match said {
+        Some(packet) => message_in(packet).is_some(),
+        None => false,
+    }
+}
+
+// A host or a holder whose round this is, or a fresh scanner of its rank.
+fn is_member(member: &Member, rank: Rank, frame: u32) -> bool
+    ensures { result ≡ is_core_member rank frame member.now.core }
+{
+    match member.tune() {
+        Tune::Host(own, due) | Tune::Hold(own, due) => own == rank && due == frame,
+        Tune::Scan(own, _) => own == rank && member.is_fresh(),
+    }
+}
+
+// It scans this rank.
+fn scans(member: &Member, rank: Rank) -> bool
+    ensures { result ≡ scans_rank rank member.now.core.tune }
+{
+    match member.tune() {
+        Tune::Scan(own, _) => own == rank,
+        Tune::Hold(..) | Tune::Host(..) => false,
+    }
+}
+
+// A slot in which the host says its schedule.
+fn is_schedule_part(part: &Part) -> bool
+    ensures { result ≡ is_schedule part.now }
+{
+    matches!(part, Part::Opening | Part::Closing)
+}
