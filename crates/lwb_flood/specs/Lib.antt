@@ -4,10 +4,10 @@ pub mod Windows
 pub mod TwoNodes
 pub mod FloodLog
 pub mod LogReading
-pub mod StatedClocks
 pub mod RunOnAir
 pub mod FloodWorlds
 -- what the clauses of the floods cite
 pub use Rattle.air_log.specs.FloodLaw
 pub use Rattle.air_log.specs.ClockLists
 pub use Rattle.bus_model.specs.FloodOfText
+pub use Rattle.scenario_clocks.specs.StatedClocks

@@ -13,7 +13,7 @@ ghost use Rattle.air_log.specs.Entries.{sendings_of};
 ghost use Rattle.radio_model.specs.Hearing.{frame_of, slot_of, counter_of};
 ghost use Rattle.air_log.specs.FloodLaw.{FloodLaw};
 ghost use Rattle.lwb_flood.specs.FloodBySteps.{IsFloodBySteps};
-ghost use Rattle.lwb_flood.specs.StatedClocks.{stated_clock};
+ghost use Rattle.scenario_clocks.specs.StatedClocks.{stated_clock};
 ghost use Rattle.lwb_flood.specs.FloodLog.{HasClocks, run_of, HasSent, HasHeard, HeardFirst, IsAcceptance, accepting};
 
 /// A log that keeps the law of one flood is the flood by steps: a node has a Sent entry with counter k exactly where

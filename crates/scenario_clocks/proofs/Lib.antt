@@ -1,0 +1,4 @@
+-- kept for the crates above
+pub mod NodeRates
+pub mod StatedDrift
+pub mod ListedClocks

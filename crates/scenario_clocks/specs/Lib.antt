@@ -1,0 +1,3 @@
+pub mod ClockLists
+pub mod StatedClocks
+pub mod NodeRates
