@@ -49,7 +49,7 @@ module _ (s : Setup) (L : ℕ → ℕ) (t : ℕ) where
   orders_have p (o ∷ os) a d has = orders_have p os (alarm_by s L t a o) (obeyed L s.id t d o) (order_has p a d o has)
 
   -- where power is off, no alarm is set
-  abbrev SoundBy : Power → Option ℕ → Type 0
+  abbrev pub SoundBy : Power → Option ℕ → Type 0
   SoundBy (PowerOff boots) a = a ≡ None
   SoundBy (PowerOn n) a = Goes s L t n a
 
@@ -64,22 +64,22 @@ module _ (s : Setup) (L : ℕ → ℕ) (t : ℕ) where
       let r = row s n (L t) e in
       orders_have (PowerOn (node_after n r)) (orders_by r) d.alarm (moved t e x d n r) (refl, refl)
 
-  step_sound : (e : Event) (x : Option Sending) (d : Device) (n : Node) → GoesBy s L t n d.alarm (row s n (L t) e) → Sound (stepped L s t e x d n)
+  pub step_sound : (e : Event) (x : Option Sending) (d : Device) (n : Node) → GoesBy s L t n d.alarm (row s n (L t) e) → Sound (stepped L s t e x d n)
   step_sound e x d n goes = sound_if _ _ (stepped L s t e x d n) (step_has e x d n) goes
 
   module _ (room : IsRoomy s.profile) where
-    heard_sound : (p : List ℕ) (d : Device) (power : Power) → SoundBy power d.alarm → d.power ≡ power → Sound (event_by L s t (Heard p) None d power)
+    pub heard_sound : (p : List ℕ) (d : Device) (power : Power) → SoundBy power d.alarm → d.power ≡ power → Sound (event_by L s t (Heard p) None d power)
     heard_sound p d (PowerOff boots) sound at = rw at sound
     heard_sound p d (PowerOn n) sound at = step_sound (Heard p) None d n (heard_goes s L t room n d.alarm p n.stage refl sound)
 
-    sent_sound : (x : Option Sending) (d : Device) (power : Power) → SoundBy power d.alarm → d.power ≡ power → Sound (event_by L s t Sent x d power)
+    pub sent_sound : (x : Option Sending) (d : Device) (power : Power) → SoundBy power d.alarm → d.power ≡ power → Sound (event_by L s t Sent x d power)
     sent_sound x d (PowerOff boots) sound at = rw at sound
     sent_sound x d (PowerOn n) sound at = step_sound Sent x d n (sent_goes s L t room n d.alarm n.stage refl sound)
 
     with_streams_goes : (n : Node) (a : Option ℕ) (streams : Streams) → Goes s L t n a → Goes s L t (with_streams n streams) a
     with_streams_goes n a streams goes = (record { small = goes.0.small; frame = goes.0.frame; stage = goes.0.stage }, goes.1)
 
-    act_sound : (frame : ℕ) (d : Device) (a : Act) (power : Power) → d.power ≡ power → SoundBy power d.alarm → Sound (after_act L s t frame d a power)
+    pub act_sound : (frame : ℕ) (d : Device) (a : Act) (power : Power) → d.power ≡ power → SoundBy power d.alarm → Sound (after_act L s t frame d a power)
     act_sound frame d On (PowerOff boots) at sound =
         let n = rebooted (boots + 1) in
         let x : Device = record d { power = PowerOn n } in
@@ -116,7 +116,7 @@ module _ (s : Setup) (L : ℕ → ℕ) (t : ℕ) where
 
     module _ (clock : IsClock L) (early : t ≤ 2 ^ 45) where
       -- an alarm that is due now was the one that is set
-      fires : (stage : Stage) (f : ℕ) (a : Option ℕ) → is_due t a ≡ true → Waits s L t f stage a → Waits s L t f stage (Some t)
+      pub fires : (stage : Stage) (f : ℕ) (a : Option ℕ) → is_due t a ≡ true → Waits s L t f stage a → Waits s L t f stage (Some t)
       fires Idle f a due waits = tt
       fires Scanning f None due waits = absurd (true≢false (sym due))
       fires Scanning f (Some w) due waits = omega (arith, waits, eqb-true w t due)
@@ -183,7 +183,7 @@ module _ (s : Setup) (L : ℕ → ℕ) (t : ℕ) where
       alarms_end : (d : Device) → Sound d → Ends (alarmed L s t d)
       alarms_end d sound = loop (L t + 300) (is_due t d.alarm) d refl sound (allowed d.power)
 
-later : (s : Setup) (L : ℕ → ℕ) (t : ℕ) (d : Device) → L t ≤ L (suc t) → Sound s L t d → Sound s L (suc t) d
+pub later : (s : Setup) (L : ℕ → ℕ) (t : ℕ) (d : Device) → L t ≤ L (suc t) → Sound s L t d → Sound s L (suc t) d
 later s L t d on sound = by_power d.power sound
   where
     waits_on : (f : ℕ) (stage : Stage) → Waits s L t f stage d.alarm → Waits s L (suc t) f stage d.alarm
@@ -198,7 +198,7 @@ later s L t d on sound = by_power d.power sound
     by_power (PowerOn n) sound = (record { small = sound.0.small; frame = omega (arith, sound.0.frame, on); stage = sound.0.stage }, waits_on n.frame n.stage sound.1)
 
 -- the start of a sending
-begun_sound : (s : Setup) (L : ℕ → ℕ) (t : ℕ) (d : Device) (o : Option Ordered) → Sound s L t d → Sound s L t (begun_by s t d o)
+pub begun_sound : (s : Setup) (L : ℕ → ℕ) (t : ℕ) (d : Device) (o : Option Ordered) → Sound s L t d → Sound s L t (begun_by s t d o)
 begun_sound s L t d None sound = sound
 begun_sound s L t d (Some o) sound =
     cond_both (o.tick == t) (starts s t o.packet d d.listening d.sending) d (Sound s L t) (λ is. starts_sound d.listening d.sending) (λ is. sound)

@@ -4,7 +4,6 @@ pub mod StableSorts
 pub mod SameSendings
 pub mod LoggedEntries
 pub mod KeptByEvents
-pub mod QuietTicks
 pub mod InTurn
 pub mod HearingMore
 pub mod NextDue
@@ -12,7 +11,6 @@ pub mod AlarmRuns
 pub mod AlarmRows
 pub mod AlarmLoop
 pub mod SmallPlans
-pub mod SmallCores
 pub mod TrailSendings
 pub mod TrailTunings
 pub mod SendingsKept
@@ -22,8 +20,22 @@ pub mod KeptPower
 pub mod ComputedTrails
 pub mod FirstRound
 -- for this crate alone
+pub mod QuietTicks
+pub mod SmallCores
 mod DeviceEvents
+mod AlarmsOfCourses
+mod CountedWindows
+mod CourseSteps
+mod FewWindows
 mod FirstRoundLog
+mod FramesOfCourses
+mod HearingsInAir
+mod HearingsOfCourses
+mod LinesOfCourses
+mod ListCuts
 mod LogTextExamples
+mod ObeyedCourses
+mod SmallSendings
 mod TimelyOrders
+mod TrailsOfCourses
 mod TwoNodeLog

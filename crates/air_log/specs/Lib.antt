@@ -15,9 +15,15 @@ pub mod FirstRound
 pub mod TrailEntries
 pub mod Charges
 pub mod Lawful
+pub mod Heedful
+pub mod Safe
 pub mod Deliveries
 pub mod Drops
 pub mod TunedTimes
-pub mod ClockLists
+-- the clocks over which a log is lawful
+pub use Rattle.scenario_clocks.specs.ClockLists
 pub mod DeviceStates
 pub mod DeviceShapes
+pub mod TrailsTold
+pub mod WindowSums
+pub mod Courses

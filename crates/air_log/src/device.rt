@@ -6,11 +6,16 @@ ghost use Rattle.lwb_base.specs.declared.order.Order.TheVariants.{Listen};
 ghost use Rattle.bus_rules.specs.Cores.{own_rank};
 ghost use Rattle.node_core.specs.Nodes.{rebooted};
 ghost use Rattle.air_log.specs.Devices.{Made, nothing_made, at_rest, silenced, retuned, obeyed, listens_to, is_on};
+ghost use Rattle.node_core.specs.Standing.{place_of};
+ghost use Rattle.node_core.specs.declared.stage.Stage.{Stage};
+ghost use Rattle.air_log.specs.Trails.{tune_of};
+ghost use Rattle.air_log.specs.WindowSums.{is_window, in_window};
 ghost use Rattle.air_log.specs.DeviceStates.{whole, with_tuned, EndedBefore, HappenedBy, IsSameNode, IsCoreAt, core_in};
 
 use crate::TunedEntry;
+use bus_rules::Tune;
 use lwb_base::{Memory, NodeId, Packet, Profile, Rank};
-use node_core::Node;
+use node_core::{Node, Place};
 use radio_model::sending::Sending;
 use std::alloc::Global;
 use std::marker::Model;
@@ -124,6 +129,24 @@ impl Device {
         ensures { result ≡ is_on self.now.power }
     {
         self.on
+    }
+
+    /// What it scans, holds or hosts. None exactly where its power is off.
+    pub fn current_tune(&self) -> Option<Tune>
+        ensures { result ≡ tune_of self.now.power }
+    {
+        if self.on {
+            Some(self.core.tune())
+        } else {
+            None
+        }
+    }
+
+    // Whether its power is on and a window is open.
+    pub(crate) fn is_in_window(&self) -> bool
+        ensures { result ≡ in_window self.now.power }
+    {
+        self.on && is_window(self.core.place())
     }
 
     /// The core that it drives, also while its power is off.
@@ -246,4 +269,10 @@ impl Device {
             Some(_) | None => self.listening = Some(Listening { rank, since: t }),
         }
     }
+}
+
+fn is_window(place: Place) -> bool
+    ensures { (stage : Stage) → place ≡ place_of stage → result ≡ is_window stage }
+{
+    matches!(place, Place::InWindow(_))
 }

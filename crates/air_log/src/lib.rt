@@ -2,6 +2,7 @@
 #![tactic(auto)]
 
 mod air;
+mod course;
 mod device;
 mod device_script;
 mod device_steps;
@@ -9,12 +10,17 @@ mod entry;
 pub mod flood_law;
 mod line_writers;
 mod printing;
+mod trail;
 pub mod trail_laws;
+mod trails;
+mod window_sum;
 
 pub use air::Air;
 pub use device::Device;
 pub use entry::{Entry, HeardEntry, SentEntry, TunedEntry};
 pub use printing::text;
+pub use trail::Trail;
+pub use trails::trail_of;
 
 #[cfg(test)]
 mod tests;

@@ -1,10 +1,10 @@
-ghost use Rattle.std.specs.Prelude.{◌≡◌, ◌++◌, OnOk, string_bytes};
-ghost use Rattle.scenario_text.specs.Payloads.{hex_digits};
+ghost use Rattle.std.specs.Prelude.{◌≡◌, ◌++◌, ◌∷◌, ◌<◌, OnOk, codes, decimal, false, string_bytes};
+ghost use Rattle.std.specs.Fmt.{digit_glyph};
 ghost use Rattle.air_log.specs.LogText.{entry_line, sent_line, heard_line, tuned_line, hex_word};
 
 use crate::{Entry, HeardEntry, SentEntry, TunedEntry};
+use itoa::Buffer;
 use std::alloc::AllocError;
-use std::fmt::Write;
 
 /// Writes the line of an entry.
 pub fn write_entry(text: &mut String, entry: &Entry) -> Result<(), AllocError>
@@ -20,50 +20,73 @@ pub fn write_entry(text: &mut String, entry: &Entry) -> Result<(), AllocError>
 fn write_sent(text: &mut String, sent: &SentEntry) -> Result<(), AllocError>
     ensures { OnOk result (string_bytes text.new ≡ string_bytes text.old ++ sent_line sent.now) }
 {
-    let rank = sent.rank.number();
-    let node = sent.node.number();
-    let start = sent.start;
-    let end = sent.end;
-    write!(text, "sent {rank} {node} {start} {end} ")?;
-    write_hex(text, sent.packet.bytes())?;
-    write!(text, "\n")
+    text.push_str("sent")?;
+    write_number(text, u64::from(sent.rank.number()))?;
+    write_number(text, u64::from(sent.node.number()))?;
+    write_number(text, sent.start)?;
+    write_number(text, sent.end)?;
+    write_packet(text, sent.packet.bytes())
 }
 
 fn write_heard(text: &mut String, heard: &HeardEntry) -> Result<(), AllocError>
     ensures { OnOk result (string_bytes text.new ≡ string_bytes text.old ++ heard_line heard.now) }
 {
-    let rank = heard.rank.number();
-    let node = heard.node.number();
-    let from = heard.from.number();
-    let start = heard.start;
-    let end = heard.end;
-    write!(text, "heard {rank} {node} {from} {start} {end} ")?;
-    write_hex(text, heard.packet.bytes())?;
-    write!(text, "\n")
+    text.push_str("heard")?;
+    write_number(text, u64::from(heard.rank.number()))?;
+    write_number(text, u64::from(heard.node.number()))?;
+    write_number(text, u64::from(heard.from.number()))?;
+    write_number(text, heard.start)?;
+    write_number(text, heard.end)?;
+    write_packet(text, heard.packet.bytes())
 }
 
 fn write_tuned(text: &mut String, tuned: &TunedEntry) -> Result<(), AllocError>
     ensures { OnOk result (string_bytes text.new ≡ string_bytes text.old ++ tuned_line tuned.now) }
 {
-    let rank = tuned.rank.number();
-    let node = tuned.node.number();
-    let start = tuned.start;
-    let end = tuned.end;
-    write!(text, "tuned {rank} {node} {start} {end}\n")
+    text.push_str("tuned")?;
+    write_number(text, u64::from(tuned.rank.number()))?;
+    write_number(text, u64::from(tuned.node.number()))?;
+    write_number(text, tuned.start)?;
+    write_number(text, tuned.end)?;
+    text.push_str("\n")
+}
+
+// A number behind a space.
+fn write_number(text: &mut String, number: u64) -> Result<(), AllocError>
+    ensures { OnOk result (string_bytes text.new ≡ string_bytes text.old ++ 32 ∷ decimal number) }
+{
+    text.push_str(" ")?;
+    let mut digits = Buffer::new();
+    text.push_str(digits.format(number))
+}
+
+// The bytes of a packet behind a space, and the end of the line.
+fn write_packet(text: &mut String, bytes: &[u8]) -> Result<(), AllocError>
+    ensures { OnOk result (string_bytes text.new ≡ string_bytes text.old ++ 32 ∷ hex_word bytes.now ++ codes "\n") }
+{
+    text.push_str(" ")?;
+    write_hex(text, bytes)?;
+    text.push_str("\n")
 }
 
 fn write_hex(text: &mut String, bytes: &[u8]) -> Result<(), AllocError>
     ensures { OnOk result (string_bytes text.new ≡ string_bytes text.old ++ hex_word bytes.now) }
 {
     for b in bytes {
-        write_byte(text, *b)?;
+        text.push(hex_digit(*b / 16))?;
+        text.push(hex_digit(*b % 16))?;
     }
     Ok(())
 }
 
-#[tactic(auto, using(std::proofs::lemmas::Fmt::hex_byte))]
-fn write_byte(text: &mut String, byte: u8) -> Result<(), AllocError>
-    ensures { OnOk result (string_bytes text.new ≡ string_bytes text.old ++ hex_digits byte) }
+fn hex_digit(value: u8) -> char
+    requires { value < 16 }
+    ensures digit { result ≡ digit_glyph false value }
+    ensures ascii { result < 128 }
 {
-    write!(text, "{byte:02x}")
+    if value < 10 {
+        char::from(b'0' + value)
+    } else {
+        char::from(b'a' + (value - 10))
+    }
 }

@@ -1,0 +1,72 @@
+-- The alarms of a device that are due at a tick, taken one after another.
+use Rattle.std.proofs.Common.{◌≡◌, ℕ, zero, suc, ◌+◌, ◌<◌, ◌≤◌, Bool, true, false, None, Some, Option, refl, sym, ◌∙◌, ap, subst, arith, add-one, true≢false, inl, inr}
+use Rattle.std.proofs.lemmas.Bool.{cases_order}
+use Rattle.lwb_base.specs.declared.event.Event.TheVariants.{Alarm}
+use Rattle.bus_rules.specs.Cores.{Setup}
+use Rattle.radio_model.specs.OnAir.{Sending}
+use Rattle.air_log.specs.Devices.{Device, event}
+use Rattle.air_log.specs.Trails.{is_due, one_alarm, alarms, alarmed}
+use Rattle.air_log.specs.AlarmRuns.{after_alarms, IsAlarmRun}
+use Rattle.air_log.specs.Courses.{CourseState, Shows, Goes, IsShownEnding}
+use Rattle.air_log.proofs.AlarmRuns.{runs_agree}
+use Rattle.air_log.proofs.CourseSteps.{shows_as}
+
+-- there are no more of them than the trail takes at most
+module _ (clock : ℕ → ℕ) (s : Setup) (t : ℕ) where
+  first_then : (k : ℕ) (d : Device) → after_alarms clock s t k (one_alarm clock s t d) ≡ after_alarms clock s t (suc k) d
+  first_then zero d = refl
+  first_then (suc k) d = ap (one_alarm clock s t) (first_then k d)
+
+  due_still : (more : ℕ) (d : Device) (b : Bool) → is_due t d.alarm ≡ b → ((j : ℕ) → j ≤ more → is_due t (after_alarms clock s t j d).alarm ≡ true) → is_due t (alarms clock s t b more d).alarm ≡ true
+  unfolding alarms
+  due_still more d false is due = absurd (true≢false (sym (due 0 (omega arith)) ∙ is))
+  due_still zero d true is due = is
+  due_still (suc more) d true is due =
+      due_still more (one_alarm clock s t d) (is_due t (one_alarm clock s t d).alarm) refl
+      (λ j less. ap (λ (x : Device). is_due t x.alarm) (first_then j d) ∙ due (suc j) (omega (arith, less)))
+
+  are_fewer : (d : Device) (k : ℕ) → IsAlarmRun clock s t d (alarmed clock s t d) → ((j : ℕ) → j < k → is_due t (after_alarms clock s t j d).alarm ≡ true) → k ≤ clock t + 300
+  are_fewer d k run due = elim (cases_order k (clock t + 300)) [
+    | inl is ↦ omega (arith, is)
+    | inr (inl less) ↦ omega (arith, less)
+    | inr (inr more) ↦ absurd (true≢false (sym (due_still (clock t + 300) d (is_due t d.alarm) refl (λ j less. due j (omega (arith, less, more)))) ∙ run.over))
+  ]
+
+-- so many have been taken, and each was due
+pub record AreTaken (clock : ℕ → ℕ) (t k : ℕ) (old new : CourseState) : Type 0 where
+  pub goes : Goes t (λ q d. after_alarms clock q t k d) old new
+  pub due : (q : Setup) (d : Device) → Shows q t old d → (j : ℕ) → j < k → is_due t (after_alarms clock q t j d).alarm ≡ true
+
+-- the alarm that is set at a course
+pub alarm_shown : (q : Setup) (t : ℕ) (c : CourseState) (d : Device) → Shows q t c d → c.device.alarm ≡ d.alarm
+alarm_shown q t c d shows = ap (λ (x : Device). x.alarm) shows.is
+
+module _ (clock : ℕ → ℕ) (t : ℕ) where
+  pub none_taken : (c : CourseState) → AreTaken clock t 0 c c
+  none_taken c = record { goes = λ q d shows. shows; due = λ q d shows j less. absurd (omega (arith, less)) }
+
+  module _ (k : ℕ) (old now : CourseState) (taken : AreTaken clock t k old now) where
+    pub one_more_taken : (silent last : CourseState) → is_due t now.device.alarm ≡ true
+        → Goes t (λ q d. record d { alarm = None }) now silent
+        → (let none : Option Sending = None in Goes t (λ q d. event clock q t Alarm none d) silent last)
+        → AreTaken clock t (k + 1) old last
+    one_more_taken silent last due first rest = record {
+      goes = subst (λ (n : ℕ). Goes t (λ q d. after_alarms clock q t n d) old last) (sym (add-one k))
+          (λ q d shows. rest q (let x = after_alarms clock q t k d in record x { alarm = None }) (first q (after_alarms clock q t k d) (taken.goes q d shows)));
+      due = λ q d shows j less. elim (cases_order j k) [
+        | inl is ↦ ap (λ (n : ℕ). is_due t (after_alarms clock q t n d).alarm) is ∙ ap (is_due t) (sym (alarm_shown q t now (after_alarms clock q t k d) (taken.goes q d shows))) ∙ due
+        | inr (inl before) ↦ taken.due q d shows j before
+        | inr (inr behind) ↦ absurd (omega (arith, less, behind))
+      ];
+    }
+
+    pub all_taken : is_due t now.device.alarm ≡ false → (q : Setup) (d : Device) → Shows q t old d → IsAlarmRun clock q t d (alarmed clock q t d) → Shows q t now (alarmed clock q t d)
+    all_taken over q d shows runs =
+        let shown = taken.goes q d shows in
+        shows_as q t now (after_alarms clock q t k d) (alarmed clock q t d) shown
+        (runs_agree clock q t d (after_alarms clock q t k d) (alarmed clock q t d)
+        (record { count = k; is = refl; due = taken.due q d shows; over = ap (is_due t) (sym (alarm_shown q t now (after_alarms clock q t k d) shown)) ∙ over })
+        runs)
+
+    pub few_taken : IsShownEnding clock t (λ q d. d) old → k ≤ clock t + 300
+    few_taken shown = are_fewer clock shown.setup t shown.device k shown.ends (taken.due shown.setup shown.device shown.shows)

@@ -1,0 +1,21 @@
+use Rattle.std.proofs.Common.{◌≡◌, List, map, rules, ap, ◌∙◌}
+use Rattle.std.specs.List.Sorted.{IsSortedBy}
+use Rattle.std.proofs.lemmas.List.Sorted.{answers_always}
+use Rattle.radio_model.specs.OnAir.{Hearing}
+use Rattle.air_log.specs.Lawful.{by_end, reception_of, hearings_by}
+use Rattle.air_log.specs.LogText.{in_order}
+use Rattle.air_log.specs.Courses.{hearing_of, reception_in}
+use Rattle.air_log.proofs.StableSorts.{sorted_by_insertion, flat_map-map}
+use Rattle.air_log.proofs.HearingsInAir.{place_of, before, is_order, sorted_same, sorted_ascends, received}
+use Rattle.air_log.proofs.trails.heard_by.Goals as goal
+
+pub returns-clause-heard : goal.returns-clause-heard
+returns-clause-heard c =
+    let sorted : c.sort_by_key.new.self.items ≡ in_order before c.in_ok-heard.heard.items =
+    sorted_by_insertion before is_order c.in_ok-heard.heard.items c.sort_by_key.new.self.items
+    (c.in_ok-sort_by_key.ensures.sorted place_of (answers_always _ _ _ (λ f a r g h. search rules)))
+    (c.sort_by_key.ensures.stable place_of (answers_always _ _ _ (λ f a r g h. search rules))) in
+    received c.args.entries.now c.args.node c.in_ok-heard.heard.items c.sort_by_key.new.self.items c.in_ok-heard.ensures sorted
+
+pub returns-clause-ascends : goal.returns-clause-ascends
+returns-clause-ascends c = sorted_ascends c.sort_by_key.new.self.items (c.in_ok-sort_by_key.ensures.sorted place_of (answers_always _ _ _ (λ f a r g h. search rules)))

@@ -1,0 +1,123 @@
+-- A trail as code goes through it: the device, and what it has made so far.
+use Rattle.std.specs.Prelude.{◌≡◌, ℕ, ◌+◌, ◌<◌, ◌≤◌, List, Some, None, slice_get, AllPairs, ◌==◌, if◌then◌else◌, min}
+use Rattle.std.specs.declared.option.Option.{Option}
+use Rattle.radio_model.specs.declared.sending.Sending.{Sending}
+use Rattle.std.specs.Option.{option_map}
+use Rattle.radio_model.specs.OnAir.{Hearing, Tuning}
+use Rattle.bus_rules.specs.declared.delivery.Delivery.{Delivery}
+use Rattle.bus_rules.specs.declared.delivery.DropLine.{DropLine}
+use Rattle.bus_rules.specs.Cores.{Setup}
+use Rattle.scenario_text.specs.declared.script.ScriptLine.{ScriptLine}
+use Rattle.air_log.specs.declared.entry.Entry.{Entry}
+use Rattle.air_log.specs.declared.entry.HeardEntry.{HeardEntry}
+use Rattle.air_log.specs.Entries.{hearing_in}
+use Rattle.air_log.specs.AlarmRuns.{IsAlarmRun}
+use Rattle.air_log.specs.Devices.{Device, Made, Ordered}
+use Rattle.air_log.specs.DeviceStates.{DeviceState, whole, EndedBefore, HappenedBy}
+use Rattle.air_log.specs.Trails.{Reception, heard, ended, alarmed, begun}
+use Rattle.air_log.specs.WindowLogs.{WindowLog}
+use Rattle.air_log.specs.WindowSums.{WindowSum, IsCounted}
+
+-- tunings stand with the last first
+pub record CourseState : Type 0 where
+  pub device : DeviceState
+  pub sent : List Sending
+  pub tuned : List Tuning
+  pub deliveries : List Delivery
+  pub windows : WindowSum
+
+-- all that was made, with these drops and windows, which are not kept
+abbrev pub made_in : CourseState → List DropLine → List WindowLog → Made
+made_in c drops windows = record { sent = c.sent; tuned = c.tuned; deliveries = c.deliveries; drops = drops; windows = windows }
+
+-- at tick t it is this device of a trail
+pub record Shows (q : Setup) (t : ℕ) (c : CourseState) (d : Device) : Type 0 where
+  pub drops : List DropLine
+  pub windows : List WindowLog
+  pub is : whole c.device (made_in c drops windows) ≡ d
+  pub setup : c.device.setup ≡ q
+  pub counted : IsCounted q.profile q.sends windows c.windows
+  pub few : q.sends ≤ 4
+  pub ended : EndedBefore t c.tuned
+  pub happened : HappenedBy t c.device
+  pub taken : c.device.delivery ≡ None
+
+-- its lists are what this device has made
+pub record Tells (q : Setup) (c : CourseState) (d : Device) : Type 0 where
+  pub sent : d.made.sent ≡ c.sent
+  pub tuned : d.made.tuned ≡ c.tuned
+  pub deliveries : d.made.deliveries ≡ c.deliveries
+  pub counted : IsCounted q.profile q.sends d.made.windows c.windows
+
+pub record IsShown (t : ℕ) (c : CourseState) : Type 0 where
+  pub setup : Setup
+  pub device : Device
+  pub shows : Shows setup t c device
+
+-- at tick t it goes through this change, as a trail does
+abbrev pub Goes : ℕ → (Setup → Device → Device) → CourseState → CourseState → Type 0
+Goes t change old new = (q : Setup) (d : Device) → Shows q t old d → Shows q t new (change q d)
+
+-- the first k of a list have keys below t, and the others have not
+pub record IsCut {X : Type 0} (key : X → ℕ) (xs : List X) (k t : ℕ) : Type 0 where
+  pub before : (i : ℕ) (x : X) → slice_get xs i ≡ Some x → i < k → key x < t
+  pub behind : (i : ℕ) (x : X) → slice_get xs i ≡ Some x → k ≤ i → t ≤ key x
+
+abbrev pub Ascends : {X : Type 0} → (X → ℕ) → List X → Type 0
+Ascends key xs = AllPairs (λ a b. key a ≤ key b) xs
+
+abbrev pub frame_of : ScriptLine → ℕ
+frame_of l = l.frame
+
+abbrev pub end_of : HeardEntry → ℕ
+end_of h = h.end
+
+abbrev pub reception_in : HeardEntry → Reception
+reception_in h = record { packet = h.packet; end = h.end }
+
+abbrev pub hearing_of : HeardEntry → Hearing
+hearing_of h = record {
+  node = h.node;
+  sending = record { rank = h.rank; node = h.from; start = h.start; end = h.end; packet = h.packet };
+}
+
+-- the hearing in an entry, if it is of v
+abbrev pub only_of : ℕ → Option Hearing → Option Hearing
+only_of v None = None
+only_of v (Some h) = if h.node == v then Some h else None
+
+abbrev pub hearing_with : Entry → ℕ → Option Hearing
+hearing_with e v = only_of v (hearing_in e)
+
+-- the earlier of a tick and another one, if there is one
+abbrev pub least_of : ℕ → Option ℕ → ℕ
+least_of t None = t
+least_of t (Some u) = min t u
+
+abbrev pub tick_of : Ordered → ℕ
+tick_of o = o.tick
+
+abbrev pub sending_end : Sending → ℕ
+sending_end x = x.end
+
+-- the least of what is set at a device, the end of the next hearing and another tick
+abbrev pub least_due : DeviceState → Option HeardEntry → ℕ → ℕ
+least_due d h until = least_of (least_of (least_of (least_of until d.alarm) (option_map tick_of d.ordered)) (option_map sending_end d.sending)) (option_map end_of h)
+
+-- what comes before the alarms of a tick, after its script lines, and with its alarms and its start
+abbrev pub before_alarms_in : (ℕ → ℕ) → Setup → ℕ → List Reception → Device → Device
+before_alarms_in clock q t hs d = ended clock q t (heard clock q t hs d)
+
+abbrev pub after_lines : (ℕ → ℕ) → Setup → ℕ → List Reception → Device → Device
+after_lines clock q t hs d = begun q t (alarmed clock q t (before_alarms_in clock q t hs d))
+
+-- at this device the alarms of the tick come to an end
+abbrev pub AlarmsEnd : (ℕ → ℕ) → Setup → ℕ → Device → Type 0
+AlarmsEnd clock q t d = IsAlarmRun clock q t d (alarmed clock q t d)
+
+-- a device is shown at which they do
+pub record IsShownEnding (clock : ℕ → ℕ) (t : ℕ) (before : Setup → Device → Device) (c : CourseState) : Type 0 where
+  pub setup : Setup
+  pub device : Device
+  pub shows : Shows setup t c device
+  pub ends : AlarmsEnd clock setup t (before setup device)

@@ -1,0 +1,308 @@
+//! The trail of a node over the entries of a log.
+
+ghost use Rattle.std.specs.Prelude.{◌≡◌, ◌≤◌, ◌<◌, ◌+◌, ◌%◌, ◌^◌, ℕ, true, false, Some, None, OnOk, IfOk, List, map, take, fold, slice_get, min, ◌==◌, if◌then◌else◌, [], ◌∷◌, ◌++◌, option_to_list};
+ghost use Rattle.std.specs.Option.{option_map};
+ghost use Rattle.bus_rules.specs.Cores.{Setup};
+ghost use Rattle.scenario_text.specs.ScenarioFacts.{IsSoundScenario, IsAct, turned};
+ghost use Rattle.scenario_text.specs.declared.script.Act.TheVariants.{On as OnOf};
+ghost use Rattle.air_log.specs.DeviceStates.{CanBoot};
+ghost use Rattle.air_log.specs.Charges.{scans_with};
+ghost use Rattle.air_log.specs.Devices.{Device as DeviceOf, seen_power};
+ghost use Rattle.air_log.specs.ScriptedDevices.{after_line};
+ghost use Rattle.air_log.specs.Lawful.{heard_by, hearings_by};
+ghost use Rattle.air_log.specs.Trails.{Reception, setup_of, frame_start, tune_of, lines_at, heard as heard_at, at_frame, before_tick};
+ghost use Rattle.air_log.specs.TrailsTold.{trail_told};
+ghost use Rattle.air_log.specs.Courses.{Shows, IsShown, Goes, IsShownEnding, IsCut, Ascends, AlarmsEnd, frame_of, end_of, reception_in, hearing_of, before_alarms_in, after_lines, hearing_with, least_of, least_due};
+
+use crate::course::Course;
+use crate::{Air, Entry, HeardEntry, Trail};
+use bus_rules::Tune;
+use lwb_base::{Event, Memory, NodeId};
+use scenario_text::{Scenario, ScriptLine};
+use std::alloc::Global;
+use tick_clock::DriftClock;
+
+/// The trail of a node over its Heard entries of any air, lawful or not, taken by end, then sender, then place in the air.
+/// One that ends where the node is off, or not before the end of the run, has no effect.
+pub fn trail_of<C: DriftClock>(
+    alloc: Global,
+    s: &Scenario,
+    a: &Air,
+    node: NodeId,
+    clock: &C,
+) -> Result<Trail, Memory>
+    ensures { IfOk result (λ t. t ≡ trail_told s.now node (C.readings clock.now) (heard_by a.now node)) }
+{
+    let length = s.profile().frame();
+    let heard = heard_by(alloc, a.entries(), node)?;
+    let mut course = Course::new(alloc, s, node)?;
+    let mut tunes = Vec::new(alloc);
+    let mut scanned = 0;
+    let mut told = 0;
+    let mut next = 0;
+    for frame in 0..s.frames() {
+        told = course.lines(clock, s, frame, told)?;
+        scanned += course.log_tune(&mut tunes)?;
+        next = course.frame(clock, s, heard.as_slice(), frame, next)?;
+    }
+    let end = u64::from(s.frames()) * length;
+    course.close(end)?;
+    Ok(course.told(scanned, tunes))
+}
+
+// 1 for a frame in which a node scans, and 0 for another.
+fn count_of(tune: Option<Tune>) -> u32
+    ensures value { result ≡ (if scans_with tune then 1 else 0) }
+    ensures few { result ≤ 1 }
+{
+    match tune {
+        Some(Tune::Scan(_, _)) => 1,
+        Some(Tune::Hold(_, _) | Tune::Host(_, _)) | None => 0,
+    }
+}
+
+impl Course {
+    // Its tune is one more of these. It gives back 1 where the node scans, and 0 where not.
+    fn log_tune(&self, tunes: &mut Vec<Option<Tune>>) -> Result<u32, Memory>
+        ensures tunes { OnOk result (tunes.new.items ≡ tunes.old.items ++ tune_of self.now.device.power ∷ []) }
+        ensures scans { IfOk result (λ n. n ≡ (if scans_with (tune_of self.now.device.power) then 1 else 0)) }
+        ensures few { IfOk result (λ n. n ≤ 1) }
+    {
+        let count = count_of(self.device.current_tune());
+        match tunes.push(self.device.current_tune()) {
+            Ok(()) => Ok(count),
+            Err(_) => Err(Memory),
+        }
+    }
+
+    // What it tells with these tunes, once it has come to its end.
+    fn told(self, scanned: u32, tunes: Vec<Option<Tune>>) -> Trail
+        ensures { result ≡ record { sent = self.sent; tuned = self.tuned; deliveries = self.deliveries; windows = (self.windows.earlier + self.windows.last) % 2 ^ 64; scanned = scanned; tunes = tunes.items } }
+    {
+        let windows = self.windows.total();
+        Trail {
+            sent: self.sent,
+            tuned: self.tuned,
+            deliveries: self.deliveries,
+            windows,
+            scanned,
+            tunes,
+        }
+    }
+
+    // The script lines of the node that are of a frame, where `first` is the first line that is not of an earlier one. It
+    // gives back the first line of a later frame.
+    fn lines<C: DriftClock>(
+        &mut self,
+        clock: &C,
+        s: &Scenario,
+        frame: u32,
+        first: usize,
+    ) -> Result<usize, Memory>
+        requires sound { IsSoundScenario s.now }
+        requires frame { frame < s.now.frames }
+        requires cut { IsCut frame_of s.now.script first frame }
+        requires shown { IsShown (frame_start s.now frame) self.old }
+        requires profile { self.old.device.setup.profile ≡ s.now.profile }
+        requires power { seen_power self.old.device.power ≡ turned self.old.device.setup.id (false, 0) (take first s.now.script) }
+        ensures cut { IfOk result (λ told. IsCut frame_of s.now.script told (frame + 1)) }
+        ensures power { IfOk result (λ told. seen_power self.new.device.power ≡ turned self.old.device.setup.id (false, 0) (take told s.now.script)) }
+        ensures goes { OnOk result (Goes (frame_start s.now frame) (λ q d. fold (after_line (C.readings clock.now) q (frame_start s.now frame)) d (lines_at s.now q.id (frame_start s.now frame))) self.old self.new) }
+    {
+        let t = u64::from(frame) * s.profile().frame();
+        let mut told = first;
+        while let Some(line) = s.script().get(told) {
+            if line.frame != frame {
+                return Ok(told);
+            }
+            self.line(clock, t, line)?;
+            told += 1;
+        }
+        Ok(told)
+    }
+
+    // A line of the script at tick t, which is told if it is the node's.
+    fn line<C: DriftClock>(&mut self, clock: &C, t: u64, line: &ScriptLine) -> Result<(), Memory>
+        requires shown { IsShown t self.old }
+        requires early { t ≤ 2 ^ 45 }
+        requires range { IsAct self.old.device.setup.profile line.now.act }
+        requires boots { line.now.node ≡ self.old.device.setup.id → line.now.act ≡ OnOf → CanBoot self.old.device.power }
+        ensures { OnOk result (Goes t (λ q d. if line.now.node == q.id then after_line (C.readings clock.now) q t d line.now else d) self.old self.new) }
+    {
+        if line.node != self.device.node() {
+            return Ok(());
+        }
+        self.act(clock, t, line)
+    }
+
+    // All ticks of a frame, after its script lines. `first` is the first hearing that has not ended before the frame, and it
+    // gives back the first that has not ended with it.
+    fn frame<C: DriftClock>(
+        &mut self,
+        clock: &C,
+        s: &Scenario,
+        heard: &[HeardEntry],
+        frame: u32,
+        first: usize,
+    ) -> Result<usize, Memory>
+        requires sound { IsSoundScenario s.now }
+        requires frame { frame < s.now.frames }
+        requires ascends { Ascends end_of heard.now }
+        requires cut { IsCut end_of heard.now first (frame_start s.now frame) }
+        requires shown { (v : ℕ) × Shows (setup_of s.now v) (frame_start s.now frame) self.old (at_frame s.now v (C.readings clock.now) (map reception_in heard.now) frame) }
+        ensures cut { IfOk result (λ k. IsCut end_of heard.now k (frame_start s.now (frame + 1))) }
+        ensures power { OnOk result (seen_power self.new.device.power ≡ seen_power self.old.device.power) }
+        ensures shows { (v : ℕ) → Shows (setup_of s.now v) (frame_start s.now frame) self.old (at_frame s.now v (C.readings clock.now) (map reception_in heard.now) frame)
+            → OnOk result (Shows (setup_of s.now v) (frame_start s.now (frame + 1)) self.new (before_tick s.now v (C.readings clock.now) (map reception_in heard.now) (frame_start s.now (frame + 1)))) }
+    {
+        let length = s.profile().frame();
+        let mut t = u64::from(frame) * length;
+        let until = t + length;
+        let mut next = first;
+        while t < until {
+            next = self.tick(clock, heard, t, next)?;
+            t = self.next_due(heard, next, until);
+        }
+        Ok(next)
+    }
+
+    // A tick, after its script lines.
+    fn tick<C: DriftClock>(
+        &mut self,
+        clock: &C,
+        heard: &[HeardEntry],
+        t: u64,
+        first: usize,
+    ) -> Result<usize, Memory>
+        requires early { t ≤ 2 ^ 45 }
+        requires ascends { Ascends end_of heard.now }
+        requires cut { IsCut end_of heard.now first t }
+        requires ends { IsShownEnding (C.readings clock.now) t (λ q d. before_alarms_in (C.readings clock.now) q t (map reception_in heard.now) d) self.old }
+        ensures cut { IfOk result (λ k. IsCut end_of heard.now k (t + 1)) }
+        ensures goes { OnOk result ((q : Setup) (d : DeviceOf) → Shows q t self.old d → AlarmsEnd (C.readings clock.now) q t (before_alarms_in (C.readings clock.now) q t (map reception_in heard.now) d)
+            → Shows q t self.new (after_lines (C.readings clock.now) q t (map reception_in heard.now) d)) }
+    {
+        let next = self.hear(clock, heard, t, first)?;
+        self.end_sending(clock, t)?;
+        self.alarm(clock, t)?;
+        self.begin(t)?;
+        Ok(next)
+    }
+
+    // The hearings that end at tick t.
+    fn hear<C: DriftClock>(
+        &mut self,
+        clock: &C,
+        heard: &[HeardEntry],
+        t: u64,
+        first: usize,
+    ) -> Result<usize, Memory>
+        requires early { t ≤ 2 ^ 45 }
+        requires ascends { Ascends end_of heard.now }
+        requires cut { IsCut end_of heard.now first t }
+        requires shown { IsShown t self.old }
+        ensures cut { IfOk result (λ k. IsCut end_of heard.now k (t + 1)) }
+        ensures goes { OnOk result (Goes t (λ q d. heard_at (C.readings clock.now) q t (map reception_in heard.now) d) self.old self.new) }
+    {
+        let mut next = first;
+        while let Some(hearing) = heard.get(next) {
+            if hearing.end != t {
+                return Ok(next);
+            }
+            let event = Event::Heard(hearing.packet.copy());
+            self.tell(clock, t, event, None)?;
+            next += 1;
+        }
+        Ok(next)
+    }
+
+    // The tick at which something is due next, a hearing from this one on among them, or `until` if that is earlier.
+    fn next_due(&self, heard: &[HeardEntry], next: usize, until: u64) -> u64
+        ensures { result ≡ least_due self.now.device (slice_get heard.now next) until }
+    {
+        let due = earlier(until, self.device.alarm);
+        let due = match &self.device.ordered {
+            Some(ordered) => due.min(ordered.tick),
+            None => due,
+        };
+        let due = match &self.device.sending {
+            Some(sending) => due.min(sending.end),
+            None => due,
+        };
+        match heard.get(next) {
+            Some(hearing) => due.min(hearing.end),
+            None => due,
+        }
+    }
+}
+
+fn earlier(due: u64, tick: Option<u64>) -> u64
+    ensures { result ≡ least_of due tick }
+{
+    match tick {
+        Some(tick) => due.min(tick),
+        None => due,
+    }
+}
+
+// The hearings of a node, by end, then sender, then place in the air.
+fn heard_by(alloc: Global, entries: &[Entry], node: NodeId) -> Result<Vec<HeardEntry>, Memory>
+    ensures heard { IfOk result (λ hs. map reception_in hs.items ≡ heard_by entries.now node) }
+    ensures ascends { IfOk result (λ hs. Ascends end_of hs.items) }
+{
+    let mut heard = hearings_by(alloc, entries, node)?;
+    heard.sort_by_key(|hearing| place(hearing))?;
+    Ok(heard)
+}
+
+// What the order goes by.
+fn place(hearing: &HeardEntry) -> (u64, u8)
+    ensures { result ≡ (hearing.now.end, hearing.now.from) }
+{
+    (hearing.end, hearing.from.number())
+}
+
+fn hearings_by(alloc: Global, entries: &[Entry], node: NodeId) -> Result<Vec<HeardEntry>, Memory>
+    ensures { IfOk result (λ hs. map hearing_of hs.items ≡ hearings_by entries.now node) }
+{
+    let mut heard = Vec::new(alloc);
+    for entry in entries {
+        let hearing = hearing_by(entry, node);
+        push_some(&mut heard, hearing)?;
+    }
+    Ok(heard)
+}
+
+fn push_some(heard: &mut Vec<HeardEntry>, hearing: Option<HeardEntry>) -> Result<(), Memory>
+    ensures { OnOk result (heard.new.items ≡ heard.old.items ++ option_to_list hearing) }
+{
+    match hearing {
+        Some(hearing) => match heard.push(hearing) {
+            Ok(()) => Ok(()),
+            Err(_) => Err(Memory),
+        },
+        None => Ok(()),
+    }
+}
+
+// The hearing that an entry says, if it is of this node.
+fn hearing_by(entry: &Entry, node: NodeId) -> Option<HeardEntry>
+    ensures { option_map hearing_of result ≡ hearing_with entry.now node }
+{
+    match entry {
+        Entry::Heard(hearing) => {
+            if hearing.node != node {
+                return None;
+            }
+            Some(HeardEntry {
+                rank: hearing.rank,
+                node: hearing.node,
+                from: hearing.from,
+                start: hearing.start,
+                end: hearing.end,
+                packet: hearing.packet.copy(),
+            })
+        }
+        Entry::Sent(_) | Entry::Tuned(_) => None,
+    }
+}

@@ -1,0 +1,105 @@
+//! What the windows of a node count so far.
+
+ghost use Rattle.std.specs.Prelude.{◌≡◌, ◌≤◌, ◌+◌, ◌%◌, ◌^◌, None, false};
+ghost use Rattle.lwb_base.specs.Profile.{IsProfile};
+ghost use Rattle.air_log.specs.Charges.{counted};
+ghost use Rattle.air_log.specs.WindowSums.{opened_sum, sent_sum, noted};
+
+use lwb_base::{Packet, Profile};
+use std::marker::Model;
+
+// That the sum of all windows of a run is below 2^64 is a law of trails, so on the way it may wrap.
+#[derive(Drop)]
+pub(crate) struct WindowSum {
+    profile: Profile,
+    sends: u8,
+    earlier: u64,
+    last: u64,
+    by_alarm: bool,
+    sent: u8,
+}
+
+impl Model for WindowSum {
+    ghost use Rattle.std.specs.Prelude.{◌≤◌, ◌^◌};
+    ghost use Rattle.air_log.specs.WindowSums.{WindowSum as WindowSumOf};
+
+    ghost Value = { WindowSumOf };
+
+    ghost view = { λ w. record { profile = w.profile; sends = w.sends; earlier = w.earlier; last = w.last; by_alarm = w.by_alarm; sent = w.sent } };
+
+    ghost invariant = { λ w. w.last ≤ 2 ^ 28 };
+}
+
+impl WindowSum {
+    // Of no windows. In one flood a node sends at most n times.
+    pub(crate) fn new(profile: &Profile, n: u8) -> WindowSum
+        ensures { result ≡ record { profile = profile.now; sends = n; earlier = 0; last = 0; by_alarm = false; sent = 0 } }
+    {
+        WindowSum {
+            profile: *profile,
+            sends: n,
+            earlier: 0,
+            last: 0,
+            by_alarm: false,
+            sent: 0,
+        }
+    }
+
+    // After an event that found a window open or not, and left one open or not. With it the sending of this packet ended.
+    pub(crate) fn note(&mut self, before: bool, after: bool, by_alarm: bool, sent: Option<Packet>)
+        ensures after { self.new ≡ noted before after by_alarm sent self.old }
+        ensures small { self.new.last ≤ 2 ^ 28 }
+    {
+        let _ = &self.last;
+        if !after {
+            return;
+        }
+        if !before {
+            self.open(by_alarm);
+        }
+        if let Some(packet) = sent {
+            self.send(&packet);
+        }
+    }
+
+    // As 64 bits have it.
+    pub(crate) fn total(&self) -> u64
+        ensures { result ≡ (self.now.earlier + self.now.last) % 2 ^ 64 }
+    {
+        self.earlier.wrapping_add(self.last)
+    }
+
+    fn open(&mut self, by_alarm: bool)
+        ensures after { self.new ≡ opened_sum by_alarm self.old }
+        ensures small { self.new.last ≤ 2 ^ 28 }
+    {
+        self.earlier = self.total();
+        self.by_alarm = by_alarm;
+        self.sent = 0;
+        self.last = if by_alarm { self.profile.close() } else { 0 };
+    }
+
+    // A window in which a node sends as often as it may is over with its last sending.
+    fn send(&mut self, packet: &Packet)
+        ensures after { self.new ≡ sent_sum packet.now self.old }
+        ensures small { self.new.last ≤ 2 ^ 28 }
+    {
+        self.sent = self.sent.saturating_add(1).min(5);
+        if !self.by_alarm {
+            self.last = 0;
+        } else if self.sent == self.sends {
+            self.last = until_sent(&self.profile, packet);
+        } else {
+            self.last = self.profile.close();
+        }
+    }
+}
+
+// From the opening of a window to the end of a sending in it, by its step.
+fn until_sent(profile: &Profile, packet: &Packet) -> u64
+    ensures value { result ≡ counted profile.now (Some packet.now) }
+    ensures small { result ≤ 2 ^ 28 }
+{
+    let steps = u64::from(packet.counter()) + 1;
+    profile.listen() + steps * profile.step(packet.length()) - profile.turn()
+}
