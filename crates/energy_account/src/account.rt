@@ -1,0 +1,82 @@
+ghost use Rattle.std.specs.Prelude.{◌≡◌, IfOk, true};
+ghost use Rattle.scenario_text.specs.FloodParts.{knows};
+ghost use Rattle.scenario_text.specs.ScenarioGrammar.{IsScenario};
+ghost use Rattle.scenario_clocks.specs.StatedClocks.{scenario_clock};
+ghost use Rattle.air_log.specs.Lawful.{Lawful};
+ghost use Rattle.energy_account.specs.Accounts.{IsAccount, line_of};
+ghost use Rattle.energy_account.specs.Energies.{energy_of};
+
+use crate::Energy;
+use crate::energy::energy_told;
+use air_log::{Air, trail_of};
+use lwb_base::{Memory, NodeId};
+use scenario_clocks::stated_clocks;
+use scenario_text::Scenario;
+use std::alloc::Global;
+use std::marker::Model;
+use tick_clock::DriftClock;
+
+/// The energy of each node of a scenario in a run of it.
+#[derive(Drop)]
+pub struct Account {
+    lines: Vec<AccountLine>,
+}
+
+#[derive(Clone, Copy)]
+struct AccountLine {
+    node: NodeId,
+    energy: Energy,
+}
+
+impl Model for Account {
+    ghost use Rattle.std.specs.Prelude.{List};
+    ghost use Rattle.energy_account.specs.declared.account.AccountLine.{AccountLine};
+
+    ghost Value = { List AccountLine };
+
+    ghost view = { λ a. a.lines.items };
+}
+
+impl Account {
+    /// The account of a run of this scenario, by the log of the run. Err is want of memory.
+    pub fn of(alloc: Global, s: &Scenario, a: &Air) -> Result<Account, Memory>
+        requires scenario { IsScenario s.now }
+        requires lawful { Lawful s.now (scenario_clock s.now) a.now }
+        ensures { IfOk result (λ account. IsAccount s.now (scenario_clock s.now) a.now account) }
+    {
+        let nodes = s.nodes();
+        let clocks = stated_clocks(alloc, nodes, s.rates())?;
+        let mut lines = Vec::new(alloc);
+        for i in 0..nodes.len() {
+            let node = nodes[i].node;
+            let energy = energy_of_node(alloc, s, a, node, &clocks[i])?;
+            lines.push(AccountLine { node, energy })?;
+        }
+        Ok(Account { lines })
+    }
+
+    /// The energy of a node; None exactly where it is not in the scenario.
+    pub fn line(&self, node: NodeId) -> Option<Energy>
+        ensures { result ≡ line_of self.now node }
+    {
+        self.lines.iter().find(|l| l.node == node).map(|l| l.energy)
+    }
+}
+
+// The energy of one node of the scenario, by the clock that the scenario states for it.
+fn energy_of_node<C: DriftClock>(
+    alloc: Global,
+    s: &Scenario,
+    a: &Air,
+    node: NodeId,
+    clock: &C,
+) -> Result<Energy, Memory>
+    requires scenario { IsScenario s.now }
+    requires lawful { Lawful s.now (scenario_clock s.now) a.now }
+    requires known { knows s.now.nodes node ≡ true }
+    requires clock { C.readings clock.now ≡ scenario_clock s.now node }
+    ensures { IfOk result (λ energy. energy ≡ energy_of s.now (scenario_clock s.now) a.now node) }
+{
+    let trail = trail_of(alloc, s, a, node, clock)?;
+    Ok(energy_told(&trail))
+}

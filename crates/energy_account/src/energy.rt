@@ -1,0 +1,56 @@
+ghost use Rattle.std.specs.Prelude.{◌≡◌, reverse, sum_by};
+ghost use Rattle.energy_account.specs.Apart.{AreApart};
+ghost use Rattle.energy_account.specs.ToldEnergies.{SendingsApart, TuningsApart, told_energy, sent_span, tuned_span};
+
+use air_log::{SentEntry, Trail, TunedEntry};
+
+/// What the radio of a node costs in a run. Times are ticks of 1/64 µs.
+#[derive(Clone, Copy, Debug, PartialEq, Eq)]
+pub struct Energy {
+    /// The airtimes of its sendings, summed.
+    pub sent: u64,
+    /// What the windows count that it opened in rounds: each until the end of its last sending, if it sent as often as it
+    /// may, and else until the window closes.
+    pub windows: u64,
+    /// The number of frames at whose start it scanned for a host.
+    pub scanned: u32,
+    /// The time in which its radio was on, its sendings included.
+    pub on: u64,
+}
+
+/// The energy that a trail tells. Its sendings do not overlap, nor do its tunings.
+pub fn energy_told(trail: &Trail) -> Energy
+    requires sent { SendingsApart trail.now.sent }
+    requires tuned { TuningsApart (reverse trail.now.tuned) }
+    ensures { result ≡ told_energy trail.now }
+{
+    Energy {
+        sent: sent_time(trail.sent()),
+        windows: trail.windows(),
+        scanned: trail.scanned(),
+        on: tuned_time(trail.tuned()),
+    }
+}
+
+// Together they last no longer than until the end of the last, so their sum fits.
+fn sent_time(sent: &[SentEntry]) -> u64
+    requires { AreApart (λ x. x.start) (λ x. x.end) 0 sent.now }
+    ensures { result ≡ sum_by sent_span sent.now }
+{
+    let mut total = 0;
+    for x in sent {
+        total += x.end - x.start;
+    }
+    total
+}
+
+fn tuned_time(tuned: &[TunedEntry]) -> u64
+    requires { AreApart (λ t. t.start) (λ t. t.end) 0 tuned.now }
+    ensures { result ≡ sum_by tuned_span tuned.now }
+{
+    let mut total = 0;
+    for t in tuned {
+        total += t.end - t.start;
+    }
+    total
+}

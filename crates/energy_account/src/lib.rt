@@ -1,0 +1,9 @@
+//! What the radio of each node costs in a run, read off the run's log.
+#![tactic(auto)]
+
+mod account;
+mod energy;
+pub mod energy_laws;
+
+pub use account::Account;
+pub use energy::Energy;
