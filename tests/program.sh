@@ -73,10 +73,10 @@ run_on() {
 
 examples() {
     local file name word
-    for file in "$top"/examples/*.flood "$top"/examples/*.scenario; do
+    for file in "$top"/examples/*.flood "$top"/examples/*.scenario "$top"/examples/*.deadlines; do
         name=$(basename "$file")
-        word=run
-        [ "${name##*.}" = flood ] && word=flood
+        word=${name##*.}
+        [ "$word" = scenario ] && word=run
         "$program" "$word" < "$file" > "$folder/out"
         status=$?
         says "$name: status $status" [ "$status" -eq 0 ]
@@ -87,10 +87,10 @@ examples() {
 # What the second compiler's program writes, to the byte. A log is compared too.
 by_both() {
     local file name words word theirs
-    for file in "$top"/examples/*.flood "$top"/examples/*.scenario; do
+    for file in "$top"/examples/*.flood "$top"/examples/*.scenario "$top"/examples/*.deadlines; do
         name=$(basename "$file")
-        words="run log"
-        [ "${name##*.}" = flood ] && words=flood
+        words=${name##*.}
+        [ "$words" = scenario ] && words="run log"
         for word in $words; do
             "$program" "$word" < "$file" > "$folder/out"
             status=$?
@@ -102,7 +102,18 @@ by_both() {
     done
 }
 
-usage=$'usage: flood | run | log\n'
+# What the program writes for these three numbers, with no input at all, and with one that it leaves alone.
+demos() {
+    local name=$1 text=$2
+    shift 2
+    "$program" demo "$@" < /dev/null > "$folder/out"
+    status=$?
+    ends "$name" 0 "$text"
+    run_on "$line" demo "$@"
+    ends "$name, with an input" 0 "$text"
+}
+
+usage=$'usage: flood | run | log | demo SEED NODES FRAMES | deadlines\n'
 line=$'sends 2\nnode 1 0\nnode 2 0\nnode 3 0\npair 1 2\npair 2 3\nstart 1\n'
 base=$'sends 2\nnode 1 0\nnode 2 0\nhost 0 1\npair 1 2\n'
 
@@ -115,6 +126,10 @@ words_and_texts() {
     ends "an unknown word" 2 "$usage"
     run_on "$line" ""
     ends "an empty word" 2 "$usage"
+    run_on "" demo 07 2 1
+    ends "a seed with a leading zero" 2 "$usage"
+    run_on "" demo 7 64 257
+    ends "a demo that is too big" 2 "$usage"
     # Such words are no text, so the program cannot say what they ask for.
     run_on "$line" $'\xff'
     ends "a word that is no UTF-8" 6 ""
@@ -159,6 +174,8 @@ little_memory() {
 }
 
 examples
+demos "a demo of two nodes" $'deliveries 0\ndrops 0\nsent 0\non 512000000\n' 7 2 1
+demos "a demo of twenty nodes" $'deliveries 295\ndrops 0\nsent 52015104\non 111995785254\n' 7 20 50
 words_and_texts
 ends_that_fail
 little_memory

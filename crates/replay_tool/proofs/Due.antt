@@ -1,12 +1,16 @@
 -- Which text is due, and that no status but its own can come.
-use Rattle.std.proofs.Common.{◌≡◌, ◌++◌, ◌↔◌, inl, ℕ, List, length, Option, Some, None, Ok, Err, sym, ◌∙◌, ap, subst, arith}
+use Rattle.std.proofs.Common.{◌≡◌, ◌≤◌, ◌++◌, ◌↔◌, inl, ℕ, List, Bool, true, false, length, Option, Some, None, refl, sym, ◌∙◌, ap, subst, arith}
+use Rattle.std.specs.Result.{result_err}
 use Rattle.std.proofs.lemmas.List.{append-nil}
 use Rattle.std.specs.Io.KnownBytes.{Consumes, IsAtEnd}
+use Rattle.lwb_base.specs.declared.read.TheConstants.{INPUT_LIMIT}
 use Rattle.scenario_text.specs.declared.fault.FaultKind.{FaultKind}
 use Rattle.air_log.specs.declared.entry.Entry.{Entry}
-use Rattle.replay_tool.specs.CommandLine.{PartWritten, WholeRead, Asks, IsReport, IsTextOf, HasFault, IsFaultLine, IsComplete}
+use Rattle.replay_tool.specs.Commands.{Asks, reads, IsTextOf, HasFault}
+use Rattle.replay_tool.specs.CommandLine.{PartWritten, WholeRead, IsInput, IsFaultLine, IsComplete}
+use Rattle.replay_tool.specs.Reports.{IsReport}
 use Rattle.replay_tool.specs.declared.command.Command.{Command}
-use Rattle.replay_tool.specs.declared.command.Command.TheVariants.{Flood, Run, Log}
+use Rattle.replay_tool.specs.declared.command.Command.TheVariants.{Flood, Run, Log, Demo, Deadlines}
 
 -- a part of a text that is due
 pub part_due : (a b : Option (List ℕ)) (Due : List ℕ → Type 0) (text : List ℕ) → Due text → PartWritten a b (λ t. t ≡ text) → PartWritten a b Due
@@ -17,21 +21,40 @@ pub all_read : (b c : List ℕ) (new : Option (List ℕ)) → Consumes (Some b) 
 all_read b c None eaten end = absurd eaten
 all_read b c (Some rest) eaten end = eaten ∙ ap (λ (r : List ℕ). c ++ r) end ∙ append-nil c
 
--- what is Ok has no fault
-ok_or_err : {A E : Type 0} (x : A) (e : E) → Ok x ≡ Err e → ⊥
-ok_or_err x e is = cc
+-- what holds of the bytes that were read
+pub read_that : (reading : Bool) (old new : Option (List ℕ)) (bs : List ℕ) (P : List ℕ → Type 0) → WholeRead reading old new (λ b. b ≡ bs) → P bs → WholeRead reading old new P
+read_that true old new bs P (b, eaten, end, few, is) holds = (b, eaten, end, few, subst P (sym is) holds)
+read_that false old new bs P is holds = subst P (sym is) holds
+
+-- holds of the input, which is not too long
+read_is_input : (reading : Bool) (old new : Option (List ℕ)) (P : List ℕ → Type 0) (b : List ℕ) → WholeRead reading old new P → IsInput reading old b → P b × (length b ≤ INPUT_LIMIT)
+read_is_input true old new P b (r, eaten, end, few, holds) is =
+    let same : b ≡ r = all_read b r new (subst (λ (o : Option (List ℕ)). Consumes o new r) is eaten) end in
+    (subst P (sym same) holds, subst (λ (l : List ℕ). length l ≤ INPUT_LIMIT) (sym same) few)
+read_is_input false old new P b holds is = (subst P (sym is) holds, subst (λ (l : List ℕ). length l ≤ INPUT_LIMIT) (sym is) (omega arith))
 
 -- a report tells that the bytes are a text
 is_text : (c : Command) (b : List ℕ) (air : List Entry) (text : List ℕ) → IsReport c b air text → IsTextOf c b
-is_text Flood b air text report = (report.flood, report.said)
-is_text Run b air text report = (report.scenario, report.said)
-is_text Log b air text report = (report.run.scenario, report.run.said)
+is_text Flood b air text report = ap result_err report.1
+is_text Run b air text report = ap result_err report.1
+is_text Log b air text report = ap result_err report.1
+is_text (Demo seed nodes frames) b air text report = refl
+is_text Deadlines b air text report = ap result_err report.1
 
 -- a text has no fault
 text_or_fault : (c : Command) (b : List ℕ) (n : ℕ) (k : FaultKind) → IsTextOf c b → HasFault c b n k → ⊥
-text_or_fault Flood b n k text fault = ok_or_err text.0 (n, k) (sym text.1 ∙ fault)
-text_or_fault Run b n k text fault = ok_or_err text.0 (n, k) (sym text.1 ∙ fault)
-text_or_fault Log b n k text fault = ok_or_err text.0 (n, k) (sym text.1 ∙ fault)
+text_or_fault c b n k text fault = none_or_fault (n, k) (sym text ∙ fault)
+  where
+    none_or_fault : (f : ℕ × FaultKind) → ◌≡◌ {A = Option (ℕ × FaultKind)} None (Some f) → ⊥
+    none_or_fault f is = cc
+
+-- only a command that reads has a fault
+pub faulty_reads : (c : Command) (b : List ℕ) (n : ℕ) (k : FaultKind) → HasFault c b n k → reads c ≡ true
+faulty_reads Flood b n k fault = refl
+faulty_reads Run b n k fault = refl
+faulty_reads Log b n k fault = refl
+faulty_reads Deadlines b n k fault = refl
+faulty_reads (Demo seed nodes frames) b n k fault = absurd (text_or_fault (Demo seed nodes frames) b n k refl fault)
 
 -- words ask for one command
 pub one_command : (words : List (List ℕ)) (found : Option Command) (c d : Command) → ((e : Command) → (found ≡ Some e) ↔ Asks words e) → found ≡ Some c → Asks words d → c ≡ d
@@ -41,23 +64,24 @@ one_command words found c d which is asked = some_same c d (sym is ∙ (which d)
     some_same x y same = cc
 
 -- the status is 0 where the bytes read are a text
-pub complete_report : (c d : Command) (old new : Option (List ℕ)) (air : List Entry) (text : List ℕ) (status : ℕ) → c ≡ d → WholeRead old new (λ b. IsReport c b air text) → status ≡ 0 → (b : List ℕ)
-    → old ≡ Some b → IsComplete d b status
-complete_report c d old new air text status one (r, eaten, end, few, report) zero b at =
-    let same : b ≡ r = all_read b r new (subst (λ (o : Option (List ℕ)). Consumes o new r) at eaten) end in
+pub complete_report : (c d : Command) (old new : Option (List ℕ)) (air : List Entry) (text : List ℕ) (status : ℕ) → c ≡ d → WholeRead (reads c) old new (λ b. IsReport c b air text) → status ≡ 0 → (b : List ℕ)
+    → IsInput (reads d) old b → IsComplete d b status
+complete_report c d old new air text status one read zero b at =
+    let input = read_is_input (reads c) old new (λ l. IsReport c l air text) b read (subst (λ (e : Command). IsInput (reads e) old b) (sym one) at) in
     subst (λ (e : Command). IsComplete e b status) one record {
       accepted = λ other short. inl zero;
-      refused = λ n k other short. absurd (text_or_fault c r n k (is_text c r air text report) (subst (λ (l : List ℕ). HasFault c l n k) same other));
-      too_long = λ long. absurd (omega (arith, ap length same));
+      refused = λ n k other short. absurd (text_or_fault c b n k (is_text c b air text input.0) other);
+      too_long = λ long. absurd (omega (arith, long, input.1));
     }
 
 -- the status is 1 where they have a fault
-pub complete_fault : (c d : Command) (old new : Option (List ℕ)) (text : List ℕ) (status : ℕ) → c ≡ d → WholeRead old new (λ b. IsFaultLine c b text) → status ≡ 1 → (b : List ℕ) → old ≡ Some b
-    → IsComplete d b status
-complete_fault c d old new text status one (r, eaten, end, few, fault) is_1 b at =
-    let same : b ≡ r = all_read b r new (subst (λ (o : Option (List ℕ)). Consumes o new r) at eaten) end in
+pub complete_fault : (c d : Command) (old new : Option (List ℕ)) (text : List ℕ) (status : ℕ) → c ≡ d → reads c ≡ true → WholeRead true old new (λ b. IsFaultLine c b text) → status ≡ 1 → (b : List ℕ)
+    → IsInput (reads d) old b → IsComplete d b status
+complete_fault c d old new text status one reading read is_1 b at =
+    let whole = subst (λ (e : Bool). IsInput e old b) reading (subst (λ (e : Command). IsInput (reads e) old b) (sym one) at) in
+    let input = read_is_input true old new (λ l. IsFaultLine c l text) b read whole in
     subst (λ (e : Command). IsComplete e b status) one record {
-      accepted = λ other short. absurd (text_or_fault c r fault.line fault.kind (subst (IsTextOf c) same other) fault.said);
+      accepted = λ other short. absurd (text_or_fault c b input.0.line input.0.kind other input.0.said);
       refused = λ n k other short. inl is_1;
       too_long = λ long. inl is_1;
     }

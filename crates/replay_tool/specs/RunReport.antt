@@ -3,11 +3,14 @@ use Rattle.std.specs.Prelude.{ℕ, List, [], ◌∷◌, ◌++◌, codes, flat_ma
 use Rattle.scenario_text.specs.Canonical.{line_text, numbered}
 use Rattle.scenario_text.specs.Payloads.{payload_word}
 use Rattle.scenario_text.specs.ScenarioParts.{ScenarioParts}
+use Rattle.scenario_text.specs.declared.lines.NodeLine.{NodeLine}
 use Rattle.bus_rules.specs.declared.delivery.Delivery.{Delivery}
 use Rattle.bus_rules.specs.declared.delivery.DropLine.{DropLine}
 use Rattle.air_log.specs.declared.entry.Entry.{Entry}
 use Rattle.air_log.specs.Deliveries.{deliveries_of}
 use Rattle.air_log.specs.Drops.{drops_of}
+use Rattle.energy_account.specs.Energies.{energy_of}
+use Rattle.energy_account.specs.declared.energy.Energy.{Energy}
 
 abbrev pub delivery_numbers : Delivery → List ℕ
 delivery_numbers d = d.frame ∷ d.rank ∷ d.slot ∷ d.node ∷ d.from ∷ d.boot ∷ d.stream ∷ d.seq ∷ []
@@ -22,7 +25,17 @@ drop_line l = line_text (numbered (codes "drop") (l.frame ∷ l.node ∷ l.strea
 abbrev pub report_lines : List Delivery → List DropLine → List ℕ
 report_lines made lost = flat_map delivery_line made ++ flat_map drop_line lost
 
--- of a scenario over these clocks, by its log: the deliveries by frame, rank, slot and node, and the drops in the order
--- of the text
+-- what the radio of a node costs, in ticks but for the number of frames in which it scans
+abbrev pub energy_line : ℕ → Energy → List ℕ
+energy_line v e = line_text (numbered (codes "energy") (v ∷ e.sent ∷ e.windows ∷ e.scanned ∷ e.on ∷ []))
+
+abbrev pub node_energy : ScenarioParts → (ℕ → ℕ → ℕ) → List Entry → NodeLine → List ℕ
+node_energy s clocks air n = energy_line n.node (energy_of s clocks air n.node)
+
+abbrev pub energy_lines : ScenarioParts → (ℕ → ℕ → ℕ) → List Entry → List ℕ
+energy_lines s clocks air = flat_map (node_energy s clocks air) s.nodes
+
+-- of a scenario over these clocks, by its log: the deliveries by frame, rank, slot and node, the drops in the order of the
+-- text, and what each node costs, by its id
 abbrev pub run_report : ScenarioParts → (ℕ → ℕ → ℕ) → List Entry → List ℕ
-run_report s clocks air = report_lines (deliveries_of s clocks air) (drops_of s clocks air)
+run_report s clocks air = report_lines (deliveries_of s clocks air) (drops_of s clocks air) ++ energy_lines s clocks air

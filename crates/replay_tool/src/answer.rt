@@ -1,6 +1,7 @@
 ghost use Rattle.std.specs.Prelude.{◌≡◌, ℕ, List, IfOk, string_bytes};
 ghost use Rattle.replay_tool.specs.Answers.{Answers};
-ghost use Rattle.replay_tool.specs.CommandLine.{HasFault, fault_line as fault_line_of};
+ghost use Rattle.replay_tool.specs.CommandLine.{fault_line as fault_line_of};
+ghost use Rattle.replay_tool.specs.Commands.{HasFault};
 ghost use Rattle.replay_tool.specs.declared.command.Command.{Command as CommandOf};
 
 use air_log::Air;

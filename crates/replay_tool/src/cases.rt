@@ -93,7 +93,7 @@ const LONG_PAYLOAD_OF_THE_FIRST: &[&str] = &[
 
 const RATE_OUT_OF_RANGE: &[&str] = &["frames 6\n", BASE, "rate 1 0 21\n"];
 
-const USAGE: &[&str] = &["usage: flood | run | log\n"];
+pub const USAGE: &str = "usage: flood | run | log | demo SEED NODES FRAMES | deadlines\n";
 
 pub const CASES: &[Case] = &[
     Case {
@@ -101,14 +101,21 @@ pub const CASES: &[Case] = &[
         words: &["run"],
         text: FIRST_ROUND,
         status: 0,
-        written: &[],
+        written: &[
+            "energy 1 147456 2494336 5 1231294336\n",
+            "energy 2 147456 2344320 6 1346592640\n",
+        ],
     },
     Case {
         name: "one stream, one packet",
         words: &["run"],
         text: ONE_PACKET,
         status: 0,
-        written: &["deliver 9 0 1 1 2 1 0 0 aa\n"],
+        written: &[
+            "deliver 9 0 1 1 2 1 0 0 aa\n",
+            "energy 1 450560 9681408 5 1238481408\n",
+            "energy 2 450560 9551872 6 1353800192\n",
+        ],
     },
     Case {
         name: "two contenders",
@@ -126,6 +133,9 @@ pub const CASES: &[Case] = &[
             "deliver 13 0 1 3 2 1 0 0 aa\n",
             "deliver 17 0 5 1 3 1 0 0 bb\n",
             "deliver 17 0 5 2 3 1 0 0 bb\n",
+            "energy 1 929792 27789824 5 1256589824\n",
+            "energy 2 960512 27973632 6 1372221952\n",
+            "energy 3 960512 27973632 6 1372221952\n",
         ],
     },
     Case {
@@ -145,23 +155,9 @@ pub const CASES: &[Case] = &[
             "deliver 9 0 1 3 2 1 0 0 aa\n",
             "deliver 17 0 5 1 3 1 0 0 bb\n",
             "deliver 17 0 5 2 3 1 0 0 bb\n",
-        ],
-    },
-    Case {
-        name: "opening and closing missed",
-        words: &["run"],
-        text: &[
-            BASE,
-            "frames 14\n",
-            "lose 9 0 0 1 2\nlose 9 6 0 1 2\n",
-            TWO_ON,
-            ONE_STREAM,
-            "stream 9 2 1 4\nput 9 2 1 cc\nput 10 2 0 bb\n",
-        ],
-        status: 0,
-        written: &[
-            "deliver 9 0 1 1 2 1 0 0 aa\n",
-            "deliver 13 0 1 1 2 1 0 1 bb\n",
+            "energy 1 946176 36198400 5 1264998400\n",
+            "energy 2 946176 36390400 6 1380638720\n",
+            "energy 3 915456 38219648 6 1382467968\n",
         ],
     },
     Case {
@@ -175,7 +171,11 @@ pub const CASES: &[Case] = &[
             "off 6 1\non 6 1\nput 10 2 0 bb\n",
         ],
         status: 0,
-        written: &["deliver 15 0 1 1 2 1 0 1 bb\n"],
+        written: &[
+            "deliver 15 0 1 1 2 1 0 1 bb\n",
+            "energy 1 667648 10315776 10 2467915776\n",
+            "energy 2 702464 24669312 8 1740365952\n",
+        ],
     },
     Case {
         name: "backup host takes over",
@@ -191,6 +191,9 @@ pub const CASES: &[Case] = &[
         written: &[
             "deliver 9 0 1 2 3 1 0 0 aa\n",
             "deliver 31 1 1 2 3 1 0 1 bb\n",
+            "energy 1 217088 634368 5 1229434368\n",
+            "energy 2 737280 22985984 23 5719234304\n",
+            "energy 3 737280 22766336 24 5834462976\n",
         ],
     },
     Case {
@@ -208,35 +211,10 @@ pub const CASES: &[Case] = &[
             "put 0 2 0 aa\n",
         ],
         status: 0,
-        written: &["drop 0 2 0\n"],
-    },
-    Case {
-        name: "longest run, extreme clocks",
-        words: &["run"],
-        text: &[
-            "sends 2\nnode 1 256000\nnode 2 0\nhost 0 1\npair 1 2\n",
-            "frames 4096\nrate 1 0 20\nrate 2 0 -20\n",
-            TWO_ON,
-            "stream 4080 2 0 4\nput 4080 2 0 aa\n",
-        ],
-        status: 0,
-        written: &["deliver 4085 0 1 1 2 1 0 0 aa\n"],
-    },
-    Case {
-        name: "longest run of four nodes, the most that it may have",
-        words: &["run"],
-        text: &[
-            "sends 2\nnode 1 256000\nnode 2 0\nnode 3 0\nnode 4 0\nhost 0 1\n",
-            "pair 1 2\npair 1 3\npair 1 4\npair 2 3\npair 2 4\npair 3 4\n",
-            "frames 4096\nrate 1 0 20\nrate 2 0 -20\n",
-            THREE_ON,
-            "on 0 4\nstream 4080 2 0 4\nput 4080 2 0 aa\n",
-        ],
-        status: 0,
         written: &[
-            "deliver 4085 0 1 1 2 1 0 0 aa\n",
-            "deliver 4085 0 1 3 2 1 0 0 aa\n",
-            "deliver 4085 0 1 4 2 1 0 0 aa\n",
+            "drop 0 2 0\n",
+            "energy 1 0 0 5 1228800000\n",
+            "energy 2 0 0 5 1280000000\n",
         ],
     },
     Case {
@@ -256,6 +234,10 @@ pub const CASES: &[Case] = &[
             "deliver 13 0 1 1 4 1 0 1 bb\n",
             "deliver 13 0 1 2 4 1 0 1 bb\n",
             "deliver 13 0 1 3 4 1 0 1 bb\n",
+            "energy 1 684032 8522880 5 1237304558\n",
+            "energy 2 684032 8452736 6 1352602489\n",
+            "energy 3 684032 8581760 6 1352834504\n",
+            "energy 4 684032 8710784 6 1352926109\n",
         ],
     },
     Case {
@@ -268,29 +250,9 @@ pub const CASES: &[Case] = &[
             "deliver 9 0 1 3 2 1 0 0 aa\n",
             "deliver 9 0 5 1 3 1 0 0 bb\n",
             "deliver 9 0 5 2 3 1 0 0 bb\n",
-        ],
-    },
-    Case {
-        name: "longest payload",
-        words: &["run"],
-        text: &[
-            "profile 2\n",
-            BASE,
-            "frames 12\n",
-            TWO_ON,
-            "stream 0 2 0 5\nput 0 2 0 ",
-            BYTES_32,
-            BYTES_32,
-            BYTES_32,
-            "\n",
-        ],
-        status: 0,
-        written: &[
-            "deliver 9 0 1 1 2 1 0 0 ",
-            BYTES_32,
-            BYTES_32,
-            BYTES_32,
-            "\n",
+            "energy 1 634880 30385152 5 1598385152\n",
+            "energy 2 634880 30396928 6 1694620672\n",
+            "energy 3 634880 30396928 6 1694620672\n",
         ],
     },
     Case {
@@ -370,32 +332,166 @@ pub const CASES: &[Case] = &[
         status: 1,
         written: &["fault line 7: Missing\n"],
     },
+    // Two nodes that are on for one frame of the first profile, and hear nothing in it.
     Case {
-        name: "a word behind run",
-        words: &["run", "extra"],
+        name: "the smallest demo",
+        words: &["demo", "7", "2", "1"],
         text: &[THREE_IN_A_LINE],
-        status: 2,
-        written: USAGE,
+        status: 0,
+        written: &["deliveries 0\ndrops 0\nsent 0\non 512000000\n"],
     },
     Case {
-        name: "a longer word",
-        words: &["floods"],
-        text: &[THREE_IN_A_LINE],
-        status: 2,
-        written: USAGE,
+        name: "the demo of the greatest seed",
+        words: &["demo", "9999999999999", "2", "1"],
+        text: &[],
+        status: 0,
+        written: &["deliveries 0\ndrops 0\nsent 0\non 512000000\n"],
     },
     Case {
-        name: "no word",
-        words: &[],
-        text: &[THREE_IN_A_LINE],
-        status: 2,
-        written: USAGE,
+        name: "a demo of twenty nodes",
+        words: &["demo", "7", "20", "50"],
+        text: &[],
+        status: 0,
+        written: &["deliveries 295\ndrops 0\nsent 52015104\non 111995785254\n"],
     },
     Case {
-        name: "flood twice",
-        words: &["flood", "flood"],
-        text: &[THREE_IN_A_LINE],
-        status: 2,
-        written: USAGE,
+        name: "one slot, three streams",
+        words: &["deadlines"],
+        text: &["slots 1\nframes 4\nstream 2 0 0 2 2\nstream 3 0 0 2 1\nstream 4 0 0 4 4\n"],
+        status: 0,
+        written: &[
+            "admit 2 0\nadmit 3 0\nrefuse 4 0 0 4 5\n",
+            "round 0 12\nround 1 8\nround 2 12\nround 3 8\n",
+        ],
     },
+    Case {
+        name: "a stream without a job",
+        words: &["deadlines"],
+        text: &["slots 40\nframes 1\nstream 2 0 0 1 2\n"],
+        status: 0,
+        written: &["admit 2 0\n"],
+    },
+    // Node 3 needs a slot in each frame, and node 2 one in the second.
+    Case {
+        name: "two owners in a round",
+        words: &["deadlines"],
+        text: &["frames 2\nslots 2\nstream 3 1 0 1 1\nstream 2 3 1 1 1\n"],
+        status: 0,
+        written: &["admit 3 1\nadmit 2 3\nround 0 13\nround 1 11 13\n"],
+    },
+    Case {
+        name: "an owner twice",
+        words: &["deadlines"],
+        text: &["slots 1\nframes 4\nstream 2 0 0 2 2\nstream 2 0 0 2 1\n"],
+        status: 1,
+        written: &["fault line 4: Twice\n"],
+    },
+    Case {
+        name: "deadlines of an empty text",
+        words: &["deadlines"],
+        text: &[],
+        status: 1,
+        written: &["fault line 1: Missing\n"],
+    },
+];
+
+/// What `run` writes of these begins so, and the rest are numbers of energy.
+pub const BEGINNINGS: &[Case] = &[
+    Case {
+        name: "opening and closing missed",
+        words: &["run"],
+        text: &[
+            BASE,
+            "frames 14\n",
+            "lose 9 0 0 1 2\nlose 9 6 0 1 2\n",
+            TWO_ON,
+            ONE_STREAM,
+            "stream 9 2 1 4\nput 9 2 1 cc\nput 10 2 0 bb\n",
+        ],
+        status: 0,
+        written: &[
+            "deliver 9 0 1 1 2 1 0 0 aa\n",
+            "deliver 13 0 1 1 2 1 0 1 bb\n",
+            "energy 1 ",
+        ],
+    },
+    Case {
+        name: "longest run, extreme clocks",
+        words: &["run"],
+        text: &[
+            "sends 2\nnode 1 256000\nnode 2 0\nhost 0 1\npair 1 2\n",
+            "frames 4096\nrate 1 0 20\nrate 2 0 -20\n",
+            TWO_ON,
+            "stream 4080 2 0 4\nput 4080 2 0 aa\n",
+        ],
+        status: 0,
+        written: &["deliver 4085 0 1 1 2 1 0 0 aa\n", "energy 1 "],
+    },
+    Case {
+        name: "longest run of four nodes, the most that it may have",
+        words: &["run"],
+        text: &[
+            "sends 2\nnode 1 256000\nnode 2 0\nnode 3 0\nnode 4 0\nhost 0 1\n",
+            "pair 1 2\npair 1 3\npair 1 4\npair 2 3\npair 2 4\npair 3 4\n",
+            "frames 4096\nrate 1 0 20\nrate 2 0 -20\n",
+            THREE_ON,
+            "on 0 4\nstream 4080 2 0 4\nput 4080 2 0 aa\n",
+        ],
+        status: 0,
+        written: &[
+            "deliver 4085 0 1 1 2 1 0 0 aa\n",
+            "deliver 4085 0 1 3 2 1 0 0 aa\n",
+            "deliver 4085 0 1 4 2 1 0 0 aa\n",
+            "energy 1 ",
+        ],
+    },
+    Case {
+        name: "longest payload",
+        words: &["run"],
+        text: &[
+            "profile 2\n",
+            BASE,
+            "frames 12\n",
+            TWO_ON,
+            "stream 0 2 0 5\nput 0 2 0 ",
+            BYTES_32,
+            BYTES_32,
+            BYTES_32,
+            "\n",
+        ],
+        status: 0,
+        written: &[
+            "deliver 9 0 1 1 2 1 0 0 ",
+            BYTES_32,
+            BYTES_32,
+            BYTES_32,
+            "\n",
+            "energy 1 ",
+        ],
+    },
+];
+
+/// Words that are no command.
+pub const REFUSED_WORDS: &[&[&str]] = &[
+    &[],
+    &["floods"],
+    &["run", "extra"],
+    &["flood", "flood"],
+    &["deadlines", "extra"],
+    &["demo"],
+    &["demo", "7", "2"],
+    &["demo", "7", "2", "1", "1"],
+    &["demos", "7", "2", "1"],
+    &["demo", "07", "2", "1"],
+    &["demo", "+7", "2", "1"],
+    &["demo", "-7", "2", "1"],
+    &["demo", "", "2", "1"],
+    &["demo", "7x", "2", "1"],
+    &["demo", "10000000000000", "2", "1"],
+    &["demo", "7", "1", "1"],
+    &["demo", "7", "65", "1"],
+    &["demo", "7", "2", "0"],
+    &["demo", "7", "2", "4097"],
+    &["demo", "7", "64", "257"],
+    &["demo", "7", "5", "4096"],
 ];

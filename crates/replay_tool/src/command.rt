@@ -1,6 +1,10 @@
-ghost use Rattle.std.specs.Prelude.{◌≡◌, ◌↔◌, IsTrue, List, ℕ, Some, codes, map, string_bytes, ◌∷◌, []};
-ghost use Rattle.replay_tool.specs.CommandLine.{Asks};
+ghost use Rattle.std.specs.Prelude.{◌≡◌, ◌<◌, ◌^◌, ◌↔◌, IsTrue, List, ℕ, Some, SomeIff, false, codes, decimal, map, string_bytes, ◌∷◌, []};
+ghost use Rattle.scenario_maker.specs.Made.{IsSize};
+ghost use Rattle.replay_tool.specs.Commands.{Asks, reads as reads_of};
 ghost use Rattle.replay_tool.specs.declared.command.Command.{Command as CommandOf};
+ghost use Rattle.replay_tool.specs.declared.command.Command.TheVariants as asked;
+
+use crate::numbers::number;
 
 /// What the words of the command line can ask for.
 #[derive(Clone, Copy)]
@@ -11,9 +15,26 @@ pub enum Command {
     Run,
     /// The same, with the text of its log.
     Log,
+    /// The summary of the run of the scenario that a seed makes, of 2 to 64 nodes and 1 to 4,096 frames; nodes times frames
+    /// is at most 16,384.
+    Demo { seed: u64, nodes: u8, frames: u32 },
+    /// What becomes of streams with deadlines, and the rounds of those that are admitted.
+    Deadlines,
 }
 
-/// The command that the words ask for: its one word, and nothing behind it.
+impl Command {
+    /// Whether the command reads its source.
+    pub fn reads(self) -> bool
+        ensures { result ≡ reads_of self }
+    {
+        match self {
+            Command::Demo { .. } => false,
+            Command::Flood | Command::Run | Command::Log | Command::Deadlines => true,
+        }
+    }
+}
+
+/// The command that the words ask for: its one word, or `demo` and three numbers, and nothing behind it.
 pub fn command_of(words: &[String]) -> Option<Command>
     ensures { (c : CommandOf) → (result ≡ Some c) ↔ Asks (map string_bytes words.now) c }
 {
@@ -23,8 +44,10 @@ pub fn command_of(words: &[String]) -> Option<Command>
         Some(Command::Run)
     } else if is_word(words, b"log") {
         Some(Command::Log)
+    } else if is_word(words, b"deadlines") {
+        Some(Command::Deadlines)
     } else {
-        None
+        demo_of(words)
     }
 }
 
@@ -33,4 +56,34 @@ fn is_word(words: &[String], word: &[u8]) -> bool
     ensures { IsTrue result ↔ (map string_bytes words.now ≡ word.now ∷ []) }
 {
     words.len() == 1 && words[0].as_bytes() == word
+}
+
+// The command that reads nothing.
+fn demo_of(words: &[String]) -> Option<Command>
+    ensures { (c : CommandOf) → (result ≡ Some c) ↔ ((reads_of c ≡ false) × Asks (map string_bytes words.now) c) }
+{
+    let [word, seed, nodes, frames] = words else {
+        return None;
+    };
+    if word.as_str() != "demo" {
+        return None;
+    }
+    let seed = number(seed.as_str())?;
+    let nodes = number(nodes.as_str())?;
+    let frames = number(frames.as_str())?;
+    sized(seed, nodes, frames)
+}
+
+// Such a command, unless it has too few or too many nodes or frames.
+fn sized(seed: u64, nodes: u64, frames: u64) -> Option<Command>
+    ensures { SomeIff result (IsSize nodes frames) (asked.Demo seed nodes frames) }
+{
+    if !(2..=64).contains(&nodes) || !(1..=4096).contains(&frames) || nodes * frames > 16_384 {
+        return None;
+    }
+    Some(Command::Demo {
+        seed,
+        nodes: nodes as u8,
+        frames: frames as u32,
+    })
 }

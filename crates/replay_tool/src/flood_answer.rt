@@ -1,16 +1,16 @@
 ghost use Rattle.std.specs.Prelude.{◌≡◌, ◌<◌, ◌^◌, IfOk, length};
+ghost use Rattle.scenario_clocks.specs.StatedClocks.{stated_clock};
 ghost use Rattle.air_log.specs.FloodLaw.{FloodLaw};
 ghost use Rattle.lwb_flood.specs.FloodLog.{HasClocks};
-ghost use Rattle.lwb_flood.specs.StatedClocks.{stated_clock};
 ghost use Rattle.replay_tool.specs.Answers.{Answers};
 ghost use Rattle.replay_tool.specs.declared.command.Command.TheVariants as asked;
 
 use crate::answer::{Answer, fault_answer};
 use crate::report::flood_report;
-use crate::stated_clocks::stated_clocks;
 use air_log::Air;
 use lwb_base::Memory;
 use lwb_flood::{flood_air, outcome_of};
+use scenario_clocks::stated_clocks;
 use scenario_text::{FloodText, ParseFault, parse_flood};
 use std::alloc::Global;
 

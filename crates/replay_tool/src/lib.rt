@@ -2,17 +2,20 @@
 #![tactic(auto)]
 
 mod answer;
-mod clock_laws;
 mod command;
+mod deadline_answer;
+mod deadline_report;
+mod demo_answer;
+mod energy_lines;
 mod flood_answer;
-mod node_rates;
+mod numbers;
 mod report;
 mod run_answer;
 mod run_report;
-mod stated_clocks;
+mod summary;
 mod top_call;
 
-pub use clock_laws::scenario_clocks_keep_the_drift_law;
+pub use scenario_clocks::scenario_clocks_keep_the_drift_law;
 pub use top_call::{Outcome, top};
 
 #[cfg(test)]

@@ -111,7 +111,7 @@ fn log_of_fifty_nodes(rt: HostRuntime) -> Result<(), Fail> {
     let mut beginning = String::new(alloc);
     write_deliveries(&mut beginning, 45, 0, "aa")?;
     write_deliveries(&mut beginning, 49, 16, "bb")?;
-    beginning.push_str("tuned 0 4 0 ")?;
+    beginning.push_str("energy 1 0 0 0 0\nenergy 2 0 0 0 0\nenergy 3 0 0 0 0\nenergy 4 ")?;
     let (status, written) = answer(alloc, &["log"], text.as_bytes(), 65_536)?;
     assert_eq!(rt; status, 0);
     assert!(rt; written.starts_with(beginning.as_bytes()));

@@ -1,20 +1,20 @@
-ghost use Rattle.std.specs.Prelude.{◌≡◌, ◌<◌, ◌^◌, ℕ, IfOk, length, string_bytes};
+ghost use Rattle.std.specs.Prelude.{◌≡◌, ◌<◌, ◌^◌, ℕ, IfOk, length};
 ghost use Rattle.tick_clock.specs.ClockReadings.{segment_clock_reads};
 ghost use Rattle.scenario_text.specs.ScenarioGrammar.{IsScenario};
-ghost use Rattle.air_log.specs.Lawful.{Lawful};
-ghost use Rattle.air_log.specs.ClockLists.{clocks_by};
-ghost use Rattle.lwb_world.specs.Worlds.{new_world};
+ghost use Rattle.scenario_clocks.specs.ClockLists.{clocks_by};
+ghost use Rattle.scenario_clocks.specs.StatedClocks.{scenario_clock};
+ghost use Rattle.lwb_world.specs.Runs.{IsRun};
+ghost use Rattle.lwb_world.specs.Worlds.{new_world, core_of};
 ghost use Rattle.replay_tool.specs.Answers.{Answers};
-ghost use Rattle.replay_tool.specs.CommandLine.{scenario_clock};
-ghost use Rattle.replay_tool.specs.RunReport.{run_report as report_of};
 ghost use Rattle.replay_tool.specs.declared.command.Command.TheVariants as asked;
 
 use crate::answer::{Answer, fault_answer};
+use crate::energy_lines::write_energies;
 use crate::run_report::run_report;
-use crate::stated_clocks::stated_clocks;
 use air_log::{Air, text};
 use lwb_base::Memory;
 use lwb_world::World;
+use scenario_clocks::stated_clocks;
 use scenario_text::{ParseFault, Scenario, parse};
 use std::alloc::Global;
 use tick_clock::SegmentClock;
@@ -29,8 +29,10 @@ pub fn run_answer(alloc: Global, bytes: &[u8]) -> Result<Answer, Memory>
         Err(ParseFault::Line(line, kind)) => return fault_answer(alloc, line, kind),
         Err(ParseFault::Memory) => return Err(Memory),
     };
-    let (report, air) = stated_run(alloc, &scenario)?;
-    Ok(Answer::Report(report, air))
+    let world = world_after(alloc, &scenario)?;
+    let mut report = run_report(alloc, world.deliveries(), world.drops())?;
+    write_energies(alloc, &mut report, &scenario, world.air())?;
+    Ok(Answer::Report(report, world.into_air()))
 }
 
 /// The same, with the text of the run's log behind the report.
@@ -48,16 +50,14 @@ pub fn log_answer(alloc: Global, bytes: &[u8]) -> Result<Answer, Memory>
     }
 }
 
-// The report and the log of the run over the clocks that the scenario states.
-fn stated_run(alloc: Global, s: &Scenario) -> Result<(String, Air), Memory>
+/// The world of a scenario after its run over the clocks that it states.
+pub fn world_after(alloc: Global, s: &Scenario) -> Result<World<'_, SegmentClock>, Memory>
     requires { IsScenario s.now }
-    ensures law { IfOk result (λ r. Lawful s.now (scenario_clock s.now) r.1) }
-    ensures report { IfOk result (λ r. string_bytes r.0 ≡ report_of s.now (scenario_clock s.now) r.1) }
+    ensures { IfOk result (λ w. IsRun s.now (scenario_clock s.now) w.0.air w.0.deliveries w.0.drops (core_of w.0.cores)) }
 {
     let mut world = stated_world(alloc, s)?;
     world.run(alloc)?;
-    let report = run_report(alloc, world.deliveries(), world.drops())?;
-    Ok((report, world.into_air()))
+    Ok(world)
 }
 
 /// The world of a scenario before its run, over the clocks that it states.

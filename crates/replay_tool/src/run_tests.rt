@@ -30,7 +30,8 @@ const LOGS: &[(&str, &[&str], &str, &str)] = &[
     (
         "first round",
         FIRST_ROUND,
-        "tuned 0 1 0 1228800000\ntuned 0 2 0 1344248320\ntuned 0 1 1344000000 1344199168\n\
+        "energy 1 147456 2494336 5 1231294336\nenergy 2 147456 2344320 6 1346592640\n\
+        tuned 0 1 0 1228800000\ntuned 0 2 0 1344248320\ntuned 0 1 1344000000 1344199168\n\
         sent 0 1 1344064000 1344100864 01000000010000000000\n\
         heard 0 2 1 1344064000 1344100864 01000000010000000000\n",
         "tuned 0 1 1344000000 1344199168",
@@ -38,7 +39,8 @@ const LOGS: &[(&str, &[&str], &str, &str)] = &[
     (
         "one stream, one packet",
         ONE_PACKET,
-        "deliver 9 0 1 1 2 1 0 0 aa\ntuned 0 ",
+        "deliver 9 0 1 1 2 1 0 0 aa\n\
+        energy 1 450560 9681408 5 1238481408\nenergy 2 450560 9551872 6 1353800192\ntuned 0 ",
         "deliver 9 0 1 1 2 1 0 0 aa",
     ),
     (

@@ -3,7 +3,7 @@
 ghost use Rattle.std.specs.Prelude.{◌≡◌, IfOk, length};
 
 use super::*;
-use crate::cases::{CASES, FLOODS, THREE_IN_A_LINE};
+use crate::cases::{BEGINNINGS, CASES, FLOODS, REFUSED_WORDS, THREE_IN_A_LINE, USAGE};
 use crate::report::flood_report;
 use air_log::{Air, Entry};
 use lwb_base::{INPUT_LIMIT, MemorySink, MemorySource};
@@ -53,6 +53,31 @@ fn worked_cases(rt: HostRuntime) -> Result<(), Fail> {
         let (status, got) = answer(alloc, case.words, text.as_bytes(), 4096)?;
         assert_eq!(rt; status, case.status, "of {name}");
         assert_eq!(rt; got.as_slice(), written.as_bytes(), "of {name}");
+    }
+    Ok(())
+}
+
+#[test]
+fn worked_beginnings(rt: HostRuntime) -> Result<(), Fail> {
+    let alloc = rt.alloc();
+    for case in BEGINNINGS {
+        let name = case.name;
+        let text = joined(alloc, case.text)?;
+        let written = joined(alloc, case.written)?;
+        let (status, got) = answer(alloc, case.words, text.as_bytes(), 4096)?;
+        assert_eq!(rt; status, case.status, "of {name}");
+        assert!(rt; got.starts_with(written.as_bytes()), "of {name}");
+    }
+    Ok(())
+}
+
+#[test]
+fn words_that_are_no_command(rt: HostRuntime) -> Result<(), Fail> {
+    let alloc = rt.alloc();
+    for (place, words) in REFUSED_WORDS.iter().enumerate() {
+        let (status, got) = answer(alloc, words, THREE_IN_A_LINE.as_bytes(), 4096)?;
+        assert_eq!(rt; status, 2, "of words {place}");
+        assert_eq!(rt; got.as_slice(), USAGE.as_bytes(), "of words {place}");
     }
     Ok(())
 }

@@ -1,12 +1,16 @@
-ghost use Rattle.std.specs.Prelude.{◌≡◌, ◌≢◌, ◌⊎◌, ◌≤◌, ◌<◌, ◌^◌, ℕ, List, [], Option, Some, length, take, IfOk, map, string_bytes};
+ghost use Rattle.std.specs.Prelude.{◌≡◌, ◌≢◌, ◌⊎◌, ◌≤◌, ◌<◌, ◌^◌, ℕ, List, [], Option, Some, length, take, IfOk, IsErrOf, false, map, string_bytes};
 ghost use Rattle.std.specs.Io.KnownBytes.{Appends};
 ghost use Rattle.lwb_base.specs.Causes.{Rose};
-ghost use Rattle.replay_tool.specs.CommandLine.{Asks, IsCommand, ReportDue, FaultDue, UsageDue, SomeDue, IsComplete, PartRead, Written, PartWritten};
-ghost use Rattle.replay_tool.specs.Answers.{Answers};
+ghost use Rattle.lwb_base.specs.declared.read.ReadStop.TheVariants as stop;
+ghost use Rattle.replay_tool.specs.Commands.{Asks, IsCommand, IsReading, reads};
+ghost use Rattle.replay_tool.specs.CommandLine.{ReportDue, FaultDue, UsageDue, SomeDue, IsInput, IsComplete, PartRead, Written, PartWritten};
+ghost use Rattle.replay_tool.specs.Answers.{Answers, IsAsked, HasRead};
 ghost use Rattle.replay_tool.specs.declared.command.Command.{Command as CommandOf};
 
 use crate::answer::Answer;
 use crate::command::{Command, command_of};
+use crate::deadline_answer::deadline_answer;
+use crate::demo_answer::demo_answer;
 use crate::flood_answer::flood_answer;
 use crate::run_answer::{log_answer, run_answer};
 use air_log::Air;
@@ -24,12 +28,12 @@ pub struct Outcome {
     pub air: Air,
 }
 
-const USAGE: &[u8; 25] = b"usage: flood | run | log\n";
+const USAGE: &[u8; 62] = b"usage: flood | run | log | demo SEED NODES FRAMES | deadlines\n";
 
 const TOO_LONG: &[u8; 15] = b"fault too long\n";
 
-/// Does what the words of the command line ask for: it reads the source to its end, and writes the text that is due.
-/// The words do not contain the program's name.
+/// Does what the words of the command line ask for: it reads the source to its end, or nothing for `demo`, and writes the
+/// text that is due. The words do not contain the program's name.
 pub fn top<S: Source, K: Sink>(
     alloc: Global,
     words: &[String],
@@ -42,25 +46,25 @@ pub fn top<S: Source, K: Sink>(
     ensures usage { result.status ≡ 2 → Written (K.held sink.old) (K.held sink.new) (UsageDue (map string_bytes words.now)) }
 
     // A source that failed, a sink that failed, and want of memory. What was taken before is gone from the source, and no more is.
-    ensures read_fault { result.status ≡ 3 → IsCommand (map string_bytes words.now) × Rose (S.faults source.old) (S.faults source.new) × PartRead (S.left source.old) (S.left source.new) × (sink.new ≡ sink.old) }
+    ensures read_fault { result.status ≡ 3 → IsReading (map string_bytes words.now) × Rose (S.faults source.old) (S.faults source.new) × PartRead (S.left source.old) (S.left source.new) × (sink.new ≡ sink.old) }
     ensures write_fault { result.status ≡ 4 → Rose (K.faults sink.old) (K.faults sink.new)
         × PartWritten (K.held sink.old) (K.held sink.new) (SomeDue (map string_bytes words.now) (S.left source.old) (S.left source.new) result.air) }
     ensures memory { result.status ≡ 5 → IsCommand (map string_bytes words.now) × PartRead (S.left source.old) (S.left source.new) × (sink.new ≡ sink.old) }
 
     ensures no_log { result.status ≢ 0 → result.status ≢ 4 → result.air ≡ [] }
 
-    // The counts of faults never fall, and for words that are no command the source stays as it was.
+    // The counts of faults never fall, and for words that ask for no command that reads the source stays as it was.
     ensures source_later { S.faults source.old ≤ S.faults source.new }
     ensures sink_later { K.faults sink.old ≤ K.faults sink.new }
     ensures complete { (c : CommandOf) → Asks (map string_bytes words.now) c → (Rose (S.faults source.old) (S.faults source.new) → ⊥) → (Rose (K.faults sink.old) (K.faults sink.new) → ⊥)
-        → (b : List ℕ) → S.left source.old ≡ Some b → IsComplete c b result.status }
+        → (b : List ℕ) → IsInput (reads c) (S.left source.old) b → IsComplete c b result.status }
     ensures complete_usage { (IsCommand (map string_bytes words.now) → ⊥) → (Rose (K.faults sink.old) (K.faults sink.new) → ⊥) → result.status ≡ 2 }
-    ensures untouched { (IsCommand (map string_bytes words.now) → ⊥) → source.new ≡ source.old }
+    ensures untouched { (IsReading (map string_bytes words.now) → ⊥) → source.new ≡ source.old }
 {
     let Some(command) = command_of(words) else {
         return without_log(alloc, say(sink, USAGE, 2));
     };
-    let bytes = match read_all(alloc, source) {
+    let bytes = match input(alloc, command, source) {
         Ok(bytes) => bytes,
         Err(ReadStop::ReadFault) => return without_log(alloc, 3),
         Err(ReadStop::TooLong) => return without_log(alloc, say(sink, TOO_LONG, 1)),
@@ -76,15 +80,35 @@ pub fn top<S: Source, K: Sink>(
     }
 }
 
+// What the command reads: the source to its end, or nothing.
+fn input<S: Source>(alloc: Global, command: Command, source: &mut S) -> Result<Vec<u8>, ReadStop>
+    ensures bytes { HasRead (reads command) (S.left source.old) (S.left source.new) result }
+    ensures fault { IsErrOf result stop.ReadFault → Rose (S.faults source.old) (S.faults source.new) }
+    ensures later { S.faults source.old ≤ S.faults source.new }
+    ensures untouched { reads command ≡ false → source.new ≡ source.old }
+{
+    if !command.reads() {
+        return Ok(Vec::new(alloc));
+    }
+    read_all(alloc, source)
+}
+
 // What the command has to write of these bytes.
 fn answer(alloc: Global, command: Command, bytes: &[u8]) -> Result<Answer, Memory>
-    requires { length bytes.now < 2 ^ 31 }
+    requires length { length bytes.now < 2 ^ 31 }
+    requires asked { IsAsked command }
     ensures { IfOk result (λ a. Answers command bytes.now a) }
 {
     match command {
         Command::Flood => flood_answer(alloc, bytes),
         Command::Run => run_answer(alloc, bytes),
         Command::Log => log_answer(alloc, bytes),
+        Command::Demo {
+            seed,
+            nodes,
+            frames,
+        } => demo_answer(alloc, seed, nodes, frames),
+        Command::Deadlines => deadline_answer(alloc, bytes),
     }
 }
 

@@ -4,12 +4,12 @@ use Rattle.tick_clock.specs.ClockReadings.{segment_clock_reads}
 use Rattle.scenario_text.specs.declared.lines.NodeLine.{NodeLine}
 use Rattle.air_log.specs.declared.entry.Entry.{Entry}
 use Rattle.air_log.specs.FloodLaw.{FloodLaw}
-use Rattle.air_log.specs.ClockLists.{clocks_by}
+use Rattle.scenario_clocks.specs.ClockLists.{clocks_by}
 use Rattle.lwb_flood.specs.FloodLog.{HasClocks}
-use Rattle.lwb_flood.specs.StatedClocks.{stated_clock}
+use Rattle.scenario_clocks.specs.StatedClocks.{stated_clock}
 use Rattle.lwb_flood.proofs.NodeClocks.{stated_clocks, same_clocks}
-use Rattle.replay_tool.specs.NodeRates.{IsId}
-use Rattle.replay_tool.proofs.NodeRates.{known_id}
+use Rattle.scenario_clocks.specs.NodeRates.{IsId}
+use Rattle.scenario_clocks.proofs.NodeRates.{known_id}
 use Rattle.replay_tool.proofs.flood_answer.stated_air.Goals as goal
 
 pub returns-clause-law : goal.returns-clause-law

@@ -1,4 +1,4 @@
-use Rattle.replay_tool.proofs.StatedRuns.{scenario_states}
+use Rattle.scenario_clocks.proofs.StatedDrift.{scenario_states}
 use Rattle.replay_tool.proofs.run_answer.stated_world.Goals as goal
 
 pub stated_clocks-requires : goal.stated_clocks-requires

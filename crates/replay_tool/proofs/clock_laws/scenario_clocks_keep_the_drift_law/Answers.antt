@@ -1,5 +1,0 @@
-use Rattle.replay_tool.proofs.StatedRuns.{scenario_clocks_drift}
-use Rattle.replay_tool.proofs.clock_laws.scenario_clocks_keep_the_drift_law.Goals as goal
-
-pub returns : goal.returns
-returns c = scenario_clocks_drift

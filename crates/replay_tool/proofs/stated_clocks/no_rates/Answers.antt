@@ -1,9 +1,0 @@
-use Rattle.std.proofs.Common.{◌≡◌, ℕ, ℤ, List, [], replicate, ◌∙◌, ap, arith}
-use Rattle.replay_tool.proofs.NodeRates.{none_yet}
-use Rattle.replay_tool.proofs.stated_clocks.no_rates.Goals as goal
-
-pub returns : goal.returns
-returns c =
-    let all : c.loop.counter ≡ 201 = omega arith in
-    let none : List (ℕ × ℤ) = [] in
-    none_yet c.loop.lists.items (c.loop.invariant ∙ ap (λ (n : ℕ). replicate n none) all)

@@ -1,0 +1,51 @@
+-- The commands: the words that ask for each, whether it reads, and which bytes its grammar refuses.
+use Rattle.std.specs.Prelude.{◌≡◌, ◌<◌, ◌^◌, ℕ, List, [], ◌∷◌, Bool, true, false, Option, Some, None, codes, decimal}
+use Rattle.std.specs.Result.{result_err}
+use Rattle.scenario_text.specs.FloodGrammar.{flood_of}
+use Rattle.scenario_text.specs.ScenarioGrammar.{scenario_of}
+use Rattle.scenario_text.specs.declared.fault.FaultKind.{FaultKind}
+use Rattle.scenario_maker.specs.Made.{IsSize}
+use Rattle.deadline_plan.specs.DeadlineText.{plan_of}
+use Rattle.replay_tool.specs.declared.command.Command.{Command}
+use Rattle.replay_tool.specs.declared.command.Command.TheVariants.{Flood, Run, Log, Demo, Deadlines}
+
+-- the words ask for this command. A seed has at most 13 digits
+abbrev pub Asks : List (List ℕ) → Command → Type 0
+Asks words Flood = words ≡ codes "flood" ∷ []
+Asks words Run = words ≡ codes "run" ∷ []
+Asks words Log = words ≡ codes "log" ∷ []
+Asks words (Demo seed nodes frames) =
+    (words ≡ codes "demo" ∷ decimal seed ∷ decimal nodes ∷ decimal frames ∷ []) × (seed < 10 ^ 13) × IsSize nodes frames
+Asks words Deadlines = words ≡ codes "deadlines" ∷ []
+
+-- whether it reads its source
+abbrev pub reads : Command → Bool
+reads Flood = true
+reads Run = true
+reads Log = true
+reads (Demo seed nodes frames) = false
+reads Deadlines = true
+
+-- the first fault of the bytes that it reads, by its grammar
+abbrev pub fault_of : Command → List ℕ → Option (ℕ × FaultKind)
+fault_of Flood b = result_err (flood_of b)
+fault_of Run b = result_err (scenario_of b)
+fault_of Log b = result_err (scenario_of b)
+fault_of (Demo seed nodes frames) b = None
+fault_of Deadlines b = result_err (plan_of b)
+
+abbrev pub IsTextOf : Command → List ℕ → Type 0
+IsTextOf c b = fault_of c b ≡ None
+
+abbrev pub HasFault : Command → List ℕ → ℕ → FaultKind → Type 0
+HasFault c b n k = fault_of c b ≡ Some (n, k)
+
+-- the words ask for some command, and for one that reads
+abbrev pub IsCommand : List (List ℕ) → Type 0
+IsCommand words = (c : Command) × Asks words c
+
+abbrev pub IsReading : List (List ℕ) → Type 0
+IsReading words = (c : Command) × Asks words c × (reads c ≡ true)
+
+abbrev pub usage : List ℕ
+usage = codes "usage: flood | run | log | demo SEED NODES FRAMES | deadlines\n"

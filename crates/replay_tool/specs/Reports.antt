@@ -1,0 +1,52 @@
+-- The report of each command, and the log that comes with it.
+use Rattle.std.specs.Prelude.{◌≡◌, ℕ, List, [], ◌++◌, Ok}
+use Rattle.scenario_text.specs.FloodParts.{FloodParts}
+use Rattle.scenario_text.specs.ScenarioParts.{ScenarioParts}
+use Rattle.scenario_text.specs.FloodGrammar.{flood_of}
+use Rattle.scenario_text.specs.ScenarioGrammar.{scenario_of}
+use Rattle.scenario_maker.specs.Made.{made}
+use Rattle.deadline_plan.specs.Admission.{Plan}
+use Rattle.deadline_plan.specs.DeadlineText.{plan_of}
+use Rattle.scenario_clocks.specs.StatedClocks.{stated_clock, scenario_clock}
+use Rattle.bus_model.specs.FloodOfText.{outcome}
+use Rattle.air_log.specs.declared.entry.Entry.{Entry}
+use Rattle.air_log.specs.FloodLaw.{FloodLaw}
+use Rattle.air_log.specs.Lawful.{Lawful}
+use Rattle.air_log.specs.LogText.{log_text}
+use Rattle.replay_tool.specs.FloodReport.{flood_report}
+use Rattle.replay_tool.specs.RunReport.{run_report}
+use Rattle.replay_tool.specs.Summary.{summary}
+use Rattle.replay_tool.specs.DeadlineReport.{IsDeadlineReport}
+use Rattle.replay_tool.specs.declared.command.Command.{Command}
+use Rattle.replay_tool.specs.declared.command.Command.TheVariants.{Flood, Run, Log, Demo, Deadlines}
+
+-- the bytes are a text of a flood, of a scenario, or of streams with deadlines, of which this holds
+abbrev pub OfFlood : List ℕ → (FloodParts → Type 0) → Type 0
+OfFlood b P = (f : FloodParts) × (flood_of b ≡ Ok f) × P f
+
+abbrev pub OfScenario : List ℕ → (ScenarioParts → Type 0) → Type 0
+OfScenario b P = (s : ScenarioParts) × (scenario_of b ≡ Ok s) × P s
+
+abbrev pub OfPlan : List ℕ → (Plan → Type 0) → Type 0
+OfPlan b P = (p : Plan) × (plan_of b ≡ Ok p) × P p
+
+-- the report of a flood, and a log of it over the clocks that it states
+pub record IsFloodReport (f : FloodParts) (air : List Entry) (text : List ℕ) : Type 0 where
+  pub is : text ≡ flood_report (outcome f)
+  pub law : FloodLaw f (stated_clock f) air
+
+-- what is told of a run of a scenario, and the log of this run. Both are over the clocks that the scenario states
+pub record IsOfRun (told : ScenarioParts → (ℕ → ℕ → ℕ) → List Entry → List ℕ) (s : ScenarioParts) (air : List Entry) (text : List ℕ) : Type 0 where
+  pub is : text ≡ told s (scenario_clock s) air
+  pub law : Lawful s (scenario_clock s) air
+
+-- the report, with the text of the log behind it
+abbrev pub log_report : ScenarioParts → (ℕ → ℕ → ℕ) → List Entry → List ℕ
+log_report s clocks air = run_report s clocks air ++ log_text air
+
+abbrev pub IsReport : Command → List ℕ → List Entry → List ℕ → Type 0
+IsReport Flood b air text = OfFlood b (λ f. IsFloodReport f air text)
+IsReport Run b air text = OfScenario b (λ s. IsOfRun run_report s air text)
+IsReport Log b air text = OfScenario b (λ s. IsOfRun log_report s air text)
+IsReport (Demo seed nodes frames) b air text = IsOfRun summary (made seed nodes frames) air text
+IsReport Deadlines b air text = OfPlan b (λ p. (air ≡ []) × IsDeadlineReport p text)

@@ -1,0 +1,47 @@
+ghost use Rattle.std.specs.Prelude.{◌≡◌, ◌<◌, ◌^◌, [], IfOk, length, map};
+ghost use Rattle.replay_tool.specs.Answers.{Answers};
+ghost use Rattle.replay_tool.specs.DeadlineReport.{Decided, Differ, no_streams, stream_of_answer};
+ghost use Rattle.replay_tool.specs.declared.command.Command.TheVariants as asked;
+
+use crate::answer::{Answer, fault_answer};
+use crate::deadline_report::deadline_report;
+use air_log::Air;
+use deadline_plan::{Admit, DeadlineStream, DeadlineText, Deadlines, parse_deadlines};
+use lwb_base::Memory;
+use scenario_text::ParseFault;
+use std::alloc::Global;
+
+/// What becomes of the streams that the bytes are a text of, and the rounds of those that are admitted, or the line of their
+/// first fault.
+pub fn deadline_answer(alloc: Global, bytes: &[u8]) -> Result<Answer, Memory>
+    requires { length bytes.now < 2 ^ 31 }
+    ensures { IfOk result (λ a. Answers asked.Deadlines bytes.now a) }
+{
+    let text = match parse_deadlines(alloc, bytes) {
+        Ok(text) => text,
+        Err(ParseFault::Line(line, kind)) => return fault_answer(alloc, line, kind),
+        Err(ParseFault::Memory) => return Err(Memory),
+    };
+    let (answers, plan) = admitted(alloc, &text)?;
+    let rounds = plan.rounds(alloc)?;
+    let report = deadline_report(alloc, &answers, &rounds)?;
+    Ok(Answer::Report(report, Air::new(alloc)))
+}
+
+// What becomes of each stream of a text, and the plan of those that are admitted.
+fn admitted(
+    alloc: Global,
+    text: &DeadlineText,
+) -> Result<(Vec<(DeadlineStream, Admit)>, Deadlines), Memory>
+    requires { Differ text.now.streams }
+    ensures streams { IfOk result (λ r. map stream_of_answer r.0.items ≡ text.now.streams) }
+    ensures decided { IfOk result (λ r. Decided (no_streams text.now) r.0.items r.1) }
+{
+    let mut plan = Deadlines::new(text.slots(), text.frames());
+    let mut answers = Vec::new(alloc);
+    for stream in text.streams() {
+        let answer = plan.admit(alloc, stream)?;
+        answers.push((*stream, answer))?;
+    }
+    Ok((answers, plan))
+}
