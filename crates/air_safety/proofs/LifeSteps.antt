@@ -251,7 +251,7 @@ module _ (rank ranks : ℕ) (l : Life) (quiet : Quiet rank l) where
         (ends_by joined p (next_tune l.tune l.frame joined (Some rank) ranks) l.tune (subst (λ (b : Bool). ByPower rank l b) on quiet.stands) over);
   }
 
-  step_quiet : (x : Step) → MayCome rank l x → Quiet rank (after_step rank ranks l x)
+  pub step_quiet : (x : Step) → MayCome rank l x → Quiet rank (after_step rank ranks l x)
   step_quiet (ComesOn frame) may = comes_on frame may.0 may.1
   step_quiet (GoesOff frame) may = goes_off frame may.1 may.2
   step_quiet Opens may = opens may.0 may.1
@@ -259,7 +259,7 @@ module _ (rank ranks : ℕ) (l : Life) (quiet : Quiet rank l) where
   step_quiet (Holds r due) may = holds r due may.0 may.1
   step_quiet (Ends joined plan) may = ends joined plan may.0 may.1
 
-born_quiet : (rank : ℕ) → Quiet rank newborn
+pub born_quiet : (rank : ℕ) → Quiet rank newborn
 born_quiet rank = record {
   opened = λ o there. absurd (not_in_none o there);
   closed = λ c there. absurd (not_in_none c there);

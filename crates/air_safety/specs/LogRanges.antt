@@ -1,0 +1,8 @@
+-- Logs in which only what was sent is heard.
+use Rattle.std.specs.Prelude.{ℕ, List, Contains}
+use Rattle.radio_model.specs.declared.sending.Sending.{Sending}
+use Rattle.air_log.specs.declared.entry.Entry.{Entry}
+use Rattle.air_log.specs.Entries.{sendings_of, IsHeard}
+
+abbrev pub HearsWhatIsSent : List Entry → Type 0
+HearsWhatIsSent air = (v : ℕ) (x : Sending) → IsHeard air v x → Contains (sendings_of air) x

@@ -1,0 +1,13 @@
+-- The table of a host in its ranges.
+use Rattle.std.specs.Prelude.{◌≤◌, All}
+use Rattle.bus_rules.specs.Tables.{Entry, Table, AreEntries}
+
+pub record IsEntry (e : Entry) : Type 0 where
+  pub code : (4 ≤ e.code) × (e.code ≤ 803)
+  pub boot : (1 ≤ e.boot) × (e.boot ≤ 200)
+  pub interval : (1 ≤ e.interval) × (e.interval ≤ 120)
+
+-- at most 32 entries, their codes strictly ascend, and each is in its ranges
+pub record IsTable (t : Table) : Type 0 where
+  pub entries : AreEntries t.entries
+  pub each : All IsEntry t.entries
