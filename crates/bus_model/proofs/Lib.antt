@@ -1,8 +1,10 @@
+-- kept for the crates above
 pub mod Options
 pub mod OneInitiator
 pub mod FirstHearings
 pub mod LeastPaths
 pub mod SendingCounts
+-- for this crate alone
 mod WorkedFloods
 mod WorkedBuses
 pub mod ReceivedByPaths

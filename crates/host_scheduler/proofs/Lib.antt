@@ -1,6 +1,8 @@
+-- kept for the crates above
+pub mod Shares
+-- for this crate alone
 pub mod Sifted
 pub mod Owing
 pub mod Counted
-pub mod Shares
 pub mod Bridge
 pub mod Planned

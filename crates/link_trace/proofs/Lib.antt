@@ -1,8 +1,10 @@
-pub mod Inserted
+-- kept for the crates above
 pub mod Orders
+pub mod MaskBits
+-- for this crate alone
+pub mod Inserted
 pub mod Together
 pub mod CaptureKeys
-pub mod MaskBits
 pub mod MaskReads
 pub mod MasksOfPassing
 pub mod MasksOfReaching

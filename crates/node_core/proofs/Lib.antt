@@ -1,3 +1,7 @@
+-- kept for the crates above
+pub mod KeptBoots
+pub mod NamedDeliveries
+-- for this crate alone
 mod WorkedOrders
 pub mod KeptWindows
 pub mod Timed
@@ -6,5 +10,3 @@ pub mod Opened
 pub mod Followed
 pub mod JoinedWindows
 pub mod FewOrders
-pub mod KeptBoots
-pub mod NamedDeliveries

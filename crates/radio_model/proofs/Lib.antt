@@ -1,27 +1,29 @@
-pub mod RivalLists
+-- kept for the crates above
 pub mod OneStation
 pub mod Places
 pub mod Changes
-pub mod PlacedRivals
-pub mod EndedSendings
-pub mod Reaching
-pub mod Ending
 pub mod Agreement
 pub mod Settled
 pub mod Tunings
 pub mod Members
 pub mod Scenes
-pub mod Retuned
 pub mod OneCall
 pub mod NothingBefore
 pub mod AfterTuning
 pub mod AfterStarting
 pub mod AfterEnding
+pub mod AtFirst
+pub mod ChangedStations
+-- for this crate alone
+pub mod RivalLists
+pub mod PlacedRivals
+pub mod EndedSendings
+pub mod Reaching
+pub mod Ending
+pub mod Retuned
 pub mod RivalFacts
 pub mod Heard
 pub mod HearersInOrder
-pub mod AtFirst
 pub mod SameHistory
 pub mod Named
 pub mod WorkedHearings
-pub mod ChangedStations

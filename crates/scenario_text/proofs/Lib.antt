@@ -1,11 +1,18 @@
+-- kept for the crates above
 pub mod Digits
+pub mod LineFeeds
+pub mod LinesRead
+pub mod DraftFacts
+pub mod EachPair
+pub mod SoundScenarios
+pub mod OrderedParts
+pub mod OrderedExample
+-- for this crate alone
 pub mod Known
 pub mod FloodExamples
 pub mod ScenarioExamples
 pub mod CanonicalExamples
 pub mod CanonicalParts
-pub mod LineFeeds
-pub mod LinesRead
 pub mod NodeIds
 pub mod RatesKept
 pub mod FloodKeeps
@@ -19,13 +26,8 @@ pub mod LineRuns
 pub mod CanonicalGoes
 pub mod ScriptGoes
 pub mod CanonicalSays
-pub mod DraftFacts
 pub mod DraftKept
 pub mod RatesInTurn
 pub mod SaidParts
 pub mod BootsCounted
-pub mod EachPair
-pub mod SoundScenarios
 pub mod RatesInOrder
-pub mod OrderedParts
-pub mod OrderedExample

@@ -1,11 +1,13 @@
+-- kept for the crates above
+pub mod Widths
+pub mod Readings
+pub mod Heads
+-- for this crate alone
 pub mod Numbers
 pub mod Streams
 pub mod Packs
 pub mod Lists
-pub mod Widths
-pub mod Readings
 pub mod Sums
 pub mod CodeBytes
 pub mod AckRuns
-pub mod Heads
 pub mod Examples

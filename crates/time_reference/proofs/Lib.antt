@@ -1,4 +1,4 @@
-pub mod Ages
+-- kept for the crates above
 pub mod BudgetRoom
 pub mod Run
 pub mod Rounds
@@ -6,3 +6,5 @@ pub mod Points
 pub mod Steps
 pub mod ProfileSizes
 pub mod HeardZeros
+-- for this crate alone
+pub mod Ages
