@@ -1,0 +1,196 @@
+#!/usr/bin/env bash
+# Runs what the documents show and says where the program writes something else. It takes the fenced blocks of README.md and
+# of the pages below docs:
+# - a block `console` has commands, each behind `$ `, with what they write on both streams. A line `> ` right below a command
+#   goes on with it. Every command is run, and its output compared to the byte.
+# - a block `text NAME`, NAME having a dot, is put into the file NAME for the commands below it.
+# - a block `sh` is not run, since it asks for a network, another machine or much time; only its grammar is tried.
+# Each page has a folder of its own, with the program as ./foldcairn and with examples, tools and bench beside it. Where
+# python3 is there, the pictures are drawn once more, and compared too.
+# Usage: tests/documents.sh PROGRAM [PAGE ..]. The last line is 'N passed, M failed', and the status is 0 where M is 0.
+set -u
+top=$(cd "$(dirname "$0")/.." && pwd) || exit 1
+program=$(realpath "${1:?the program}") || exit 1
+shift
+folder=$(mktemp -d) || exit 1
+trap 'rm -rf "$folder"' EXIT
+passed=0
+failed=0
+
+counts_pass() {
+    passed=$((passed + 1))
+}
+
+counts_failure() {
+    failed=$((failed + 1))
+    echo "FAILED: $1"
+}
+
+# A folder for the commands of one page.
+begin_page() {
+    here=$folder/page-$1
+    mkdir "$here"
+    printf '#!/bin/sh\nexec "%s" "$@"\n' "$program" > "$here/foldcairn"
+    chmod +x "$here/foldcairn"
+    for name in examples tools bench tests docs; do
+        ln -s "$top/$name" "$here/$name"
+    done
+    last=0
+}
+
+# runs PLACE COMMAND: what it writes is to be what stands in the file wanted.
+runs() {
+    (
+        cd "$here" || exit 1
+        (exit "$last")
+        eval "$2"
+    ) > "$folder/written" 2>&1 < /dev/null
+    last=$?
+    if cmp -s "$folder/wanted" "$folder/written"; then
+        counts_pass
+    else
+        counts_failure "$1: $2"
+        diff "$folder/wanted" "$folder/written" | head -n 20
+    fi
+}
+
+# The command that waits, if there is one, is run once its output is known.
+run_waiting() {
+    if [ -n "$command" ]; then
+        runs "$page:$place" "$command"
+    fi
+    command=
+}
+
+console_line() {
+    case $1 in
+        '$ '*)
+            run_waiting
+            command=${1#??}
+            place=$number
+            : > "$folder/wanted"
+            more=1
+            return
+            ;;
+        '> '*)
+            if [ "$more" = 1 ]; then
+                command+=$'\n'${1#??}
+                return
+            fi
+            ;;
+    esac
+    more=0
+    printf '%s\n' "$1" >> "$folder/wanted"
+}
+
+end_block() {
+    case $kind in
+        console) run_waiting ;;
+        sh)
+            if bash -n "$folder/shell" 2> "$folder/written"; then
+                counts_pass
+            else
+                counts_failure "$page:$place: no commands of a shell"
+                cat "$folder/written"
+            fi
+            ;;
+    esac
+    kind=
+}
+
+# A fence opens a block where none is open: its word, and for a text the name of a file.
+begin_block() {
+    local name
+    read -r kind name <<< "${1#\`\`\`}"
+    place=$number
+    command=
+    more=0
+    case $kind in
+        sh) target=$folder/shell ;;
+        text)
+            kind=other
+            case $name in
+                *.*)
+                    kind=file
+                    target=$here/$name
+                    ;;
+            esac
+            ;;
+        console) ;;
+        *) kind=other ;;
+    esac
+    case $kind in
+        sh | file) : > "$target" ;;
+    esac
+}
+
+read_page() {
+    page=$1
+    kind=
+    number=0
+    begin_page "${page//\//-}"
+    while IFS= read -r line || [ -n "$line" ]; do
+        number=$((number + 1))
+        case $line in
+            '```'*)
+                if [ -n "$kind" ]; then
+                    end_block
+                else
+                    begin_block "$line"
+                fi
+                continue
+                ;;
+        esac
+        case $kind in
+            console) console_line "$line" ;;
+            sh | file) printf '%s\n' "$line" >> "$target" ;;
+        esac
+    done < "$top/$page"
+    if [ -n "$kind" ]; then
+        counts_failure "$page: a block has no end"
+    fi
+}
+
+# Whether each link of a page to a file of the repository leads to one.
+follow_links() {
+    local link
+    while IFS= read -r link; do
+        if [ -e "$(dirname "$top/$1")/${link%%#*}" ]; then
+            counts_pass
+        else
+            counts_failure "$1: nothing stands at $link"
+        fi
+    done < <(grep -oE '\]\([^)#: ]+(#[^) ]*)?\)' "$top/$1" | sed 's/^](//; s/)$//' | sort -u)
+}
+
+pictures() {
+    if ! command -v python3 > "$folder/written"; then
+        return
+    fi
+    mkdir "$folder/pictures"
+    if ! python3 "$top/tools/pictures.py" "$program" "$folder/pictures" > "$folder/written" 2>&1; then
+        counts_failure "tools/pictures.py"
+        cat "$folder/written"
+        return
+    fi
+    for drawn in "$folder"/pictures/*.svg "$top"/docs/pictures/*.svg; do
+        name=$(basename "$drawn")
+        if cmp -s "$folder/pictures/$name" "$top/docs/pictures/$name"; then
+            counts_pass
+        else
+            counts_failure "docs/pictures/$name is another picture"
+        fi
+    done
+}
+
+cd "$top" || exit 1
+if [ $# -eq 0 ]; then
+    set -- README.md docs/*.md docs/internals/*.md
+    pictures
+fi
+for one; do
+    read_page "$one"
+    follow_links "$one"
+done
+echo "$passed passed, $failed failed"
+[ "$failed" -eq 0 ]

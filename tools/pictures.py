@@ -1,0 +1,361 @@
+#!/usr/bin/env python3
+"""Draws the pictures of the documents from what the program writes.
+
+Usage: tools/pictures.py PROGRAM [FOLDER]. PROGRAM is the built program, FOLDER is docs/pictures if none is given. Each
+picture shows a run of an example, or of a text that stands in docs/TUTORIAL.md: the program's `log` says what was sent and
+heard, and when each radio was on. Only Python's standard library is used.
+"""
+
+import pathlib
+import re
+import subprocess
+import sys
+
+TOP = pathlib.Path(__file__).resolve().parent.parent
+MILLISECOND = 64_000
+SECOND = 64_000_000
+LEFT = 84
+WIDTH = 900
+ROW = 34
+BAR = 20
+
+STYLE = """<style>
+.ground { fill: #ffffff } .faint { stroke: #c8ced6; fill: none } .zoom { stroke: #8b949e; fill: none; stroke-dasharray: 4 3 }
+.box { stroke: #57606a; fill: none } .slot { fill: #8b949e; fill-opacity: 0.25 }
+text { fill: #1f2328; font: 13px sans-serif } .small { font-size: 11px } .inside { fill: #ffffff; font-size: 10px }
+.sending { fill: #c9374c } .hearing { fill: #2478b5 } .listening { fill: #e3b341 } .backup { fill: #3d9a6d }
+.delivery { fill: #7d4fc4 }
+@media (prefers-color-scheme: dark) {
+.ground { fill: #0d1117 } .faint { stroke: #3d444d } .box { stroke: #9198a1 } text { fill: #e6edf3 } .inside { fill: #ffffff }
+}
+</style>"""
+
+
+class Picture:
+    """Shapes in the order in which they are drawn."""
+
+    def __init__(self, title):
+        self.title = title
+        self.shapes = []
+
+    def box(self, kind, x, y, width, height, hint=""):
+        inner = f"<title>{hint}</title>" if hint else ""
+        self.shapes.append(
+            f'<rect class="{kind}" x="{x:.1f}" y="{y:.1f}" width="{width:.1f}" height="{height:.1f}">{inner}</rect>'
+        )
+
+    def line(self, kind, x1, y1, x2, y2):
+        self.shapes.append(f'<line class="{kind}" x1="{x1:.1f}" y1="{y1:.1f}" x2="{x2:.1f}" y2="{y2:.1f}"/>')
+
+    def text(self, x, y, words, kind="", anchor="start"):
+        name = f' class="{kind}"' if kind else ""
+        self.shapes.append(f'<text{name} x="{x:.1f}" y="{y:.1f}" text-anchor="{anchor}">{words}</text>')
+
+    def dot(self, kind, x, y, radius, hint):
+        self.shapes.append(f'<circle class="{kind}" cx="{x:.1f}" cy="{y:.1f}" r="{radius}"><title>{hint}</title></circle>')
+
+    def key(self, y, entries):
+        """What the colours mean."""
+        x = LEFT
+        for kind, words in entries:
+            self.box(kind, x, y - 10, 12, 12)
+            self.text(x + 17, y, words, "small")
+            x += 34 + 6.2 * len(words)
+
+    def written(self, height):
+        width = LEFT + WIDTH + 20
+        return "\n".join(
+            [
+                f'<svg xmlns="http://www.w3.org/2000/svg" viewBox="0 0 {width} {height}" width="{width}" height="{height}"'
+                ' role="img">',
+                f"<title>{self.title}</title>",
+                STYLE,
+                f'<rect class="ground" x="0" y="0" width="{width}" height="{height}"/>',
+                *self.shapes,
+                "</svg>",
+                "",
+            ]
+        )
+
+
+class Run:
+    """What the log of a scenario says, by nodes."""
+
+    def __init__(self, program, text):
+        self.script = [line.split() for line in text.splitlines() if line.strip() and not line.startswith("#")]
+        self.frames = int(self.values("frames")[0][0])
+        profile = int((self.values("profile") or [["1"]])[0][0])
+        self.frame = (4 if profile == 1 else 5) * SECOND
+        self.nodes = sorted(int(words[0]) for words in self.values("node"))
+        self.sent = {node: [] for node in self.nodes}
+        self.heard = {node: [] for node in self.nodes}
+        self.tuned = {node: [] for node in self.nodes}
+        self.delivered = []
+        log = subprocess.run([program, "log"], input=text, text=True, capture_output=True, check=True).stdout
+        for line in log.splitlines():
+            self.take(line.split())
+
+    def values(self, word):
+        return [line[1:] for line in self.script if line[0] == word]
+
+    def take(self, words):
+        if words[0] == "deliver":
+            self.delivered.append([int(number) for number in words[1:5]])
+        elif words[0] == "sent":
+            rank, node, start, end = map(int, words[1:5])
+            self.sent[node].append((rank, start, end, bytes.fromhex(words[5])))
+        elif words[0] == "heard":
+            rank, node, sender, start, end = map(int, words[1:6])
+            self.heard[node].append((rank, start, end, bytes.fromhex(words[6])))
+        elif words[0] == "tuned":
+            rank, node, start, end = map(int, words[1:5])
+            self.tuned[node].append((rank, start, end))
+
+    def slots_of(self, frame, node):
+        """The slots of a round at one node, as (begin, end), by what it had its radio on for."""
+        begin = frame * self.frame + SECOND // 2
+        return [t[1:] for t in self.tuned[node] if begin <= t[1] < (frame + 1) * self.frame and t[2] - t[1] < SECOND // 4]
+
+
+def counter_of(packet):
+    return packet[2]
+
+
+def radio_rows(picture, run, begin, end, y, numbers):
+    """The radio of each node between two ticks: on, and in it what was heard and sent."""
+
+    def at(tick):
+        return LEFT + WIDTH * (min(max(tick, begin), end) - begin) / (end - begin)
+
+    def bar(kind, start, stop, row, hint, packet=None):
+        if stop <= begin or start >= end:
+            return
+        width = max(at(stop) - at(start), 1)
+        picture.box(kind, at(start), row, width, BAR, hint)
+        if packet is not None and numbers and width > 14:
+            picture.text(at(start) + width / 2, row + 14, str(counter_of(packet)), "inside", "middle")
+
+    for node in run.nodes:
+        picture.text(LEFT - 10, y + 15, f"node {node}", "", "end")
+        picture.line("faint", LEFT, y + BAR + 3, LEFT + WIDTH, y + BAR + 3)
+        for _, start, stop in run.tuned[node]:
+            bar("listening", start, stop, y, f"on from {start} to {stop}")
+        for _, start, stop, packet in run.heard[node]:
+            bar("hearing", start, stop, y, f"hears {packet.hex()}", packet)
+        for _, start, stop, packet in run.sent[node]:
+            bar("sending", start, stop, y, f"sends {packet.hex()}", packet)
+        y += ROW
+    return y
+
+
+STATES = [("sending", "sends"), ("hearing", "hears"), ("listening", "listens"), ("ground", "nothing drawn: radio off")]
+
+
+def time_axis(picture, begin, end, y, step, unit, words, numbers):
+    tick = begin
+    while tick <= end:
+        x = LEFT + WIDTH * (tick - begin) / (end - begin)
+        picture.line("faint", x, y - 4, x, y + 3)
+        picture.text(x, y + 16, numbers(tick), "small", "middle")
+        tick += step * unit
+    picture.text(LEFT - 10, y + 16, words, "small", "end")
+
+
+def slot_picture(run, frame, slot, length, title):
+    """One slot, in which the steps of a flood can be seen."""
+    picture = Picture(title)
+    host = int(run.values("host")[0][1])
+    begin = run.slots_of(frame, host)[slot][0]
+    end = begin + length * MILLISECOND
+    picture.text(LEFT, 22, title)
+    y = radio_rows(picture, run, begin, end, 40, True)
+    time_axis(picture, begin, end, y + 2, 1, MILLISECOND, "ms", lambda tick: str((tick - begin) // MILLISECOND))
+    picture.key(y + 44, STATES)
+    return picture.written(y + 60)
+
+
+def round_picture(run, frame, names, title):
+    """A whole round, slot by slot."""
+    picture = Picture(title)
+    host = int(run.values("host")[0][1])
+    slots = run.slots_of(frame, host)
+    begin = slots[0][0] - MILLISECOND
+    count = len(names)
+    end = begin + (count * 33 + 1) * MILLISECOND
+    picture.text(LEFT, 22, title)
+    for index, name in enumerate(names):
+        x = LEFT + WIDTH * (MILLISECOND * (1 + 33 * index)) / (end - begin)
+        picture.line("zoom", x, 32, x, 62 + ROW * len(run.nodes))
+        picture.text(x + 4, 46, f"slot {index}: {name}", "small")
+    y = radio_rows(picture, run, begin, end, 58, False)
+    base = begin + MILLISECOND
+    time_axis(picture, base, end, y + 2, 11, MILLISECOND, "ms", lambda tick: str((tick - base) // MILLISECOND))
+    picture.key(y + 44, STATES)
+    return picture.written(y + 60)
+
+
+def run_picture(run, title):
+    """All frames of a run: on which channel a radio was on, when a round was opened, and what was delivered."""
+    picture = Picture(title)
+    whole = run.frames * run.frame
+
+    def at(tick):
+        return LEFT + WIDTH * tick / whole
+
+    picture.text(LEFT, 22, title)
+    bottom = 44 + ROW * len(run.nodes)
+    every = 1 if run.frames <= 20 else 2
+    for frame in range(run.frames):
+        picture.line("faint", at(frame * run.frame), 36, at(frame * run.frame), bottom)
+        if frame % every == 0:
+            picture.text(at((frame + 0.5) * run.frame), bottom + 14, str(frame), "small", "middle")
+    picture.line("faint", at(whole), 36, at(whole), bottom)
+    picture.text(LEFT - 10, bottom + 14, "frame", "small", "end")
+    y = 46
+    for node in run.nodes:
+        picture.text(LEFT - 10, y + 15, f"node {node}", "", "end")
+        for rank, start, stop in run.tuned[node]:
+            kind = "listening" if rank == 0 else "backup"
+            picture.box(kind, at(start), y, max(at(stop) - at(start), 2), BAR, f"on from {start} to {stop}, rank {rank}")
+        for _, start, _, packet in run.sent[node]:
+            # A schedule with the counter 0 and the gap 0 opens a round.
+            if packet[0] in (1, 4) and counter_of(packet) == 0 and packet[3] % 16 == 0:
+                picture.box("sending", at(start) - 1.5, y - 4, 3, BAR + 8, f"opens a round at {start}")
+        for frame in [frame for frame, _, _, receiver in run.delivered if receiver == node]:
+            picture.dot("delivery", at(frame * run.frame + 1.9 * SECOND), y + BAR / 2, 4, f"delivers in frame {frame}")
+        y += ROW
+    entries = [("listening", "radio on, channel of rank 0")]
+    if any(rank for node in run.nodes for rank, _, _ in run.tuned[node]):
+        entries.append(("backup", "radio on, channel of rank 1"))
+    entries += [("sending", "opens a round"), ("delivery", "delivers a packet"), ("ground", "nothing drawn: radio off")]
+    picture.key(bottom + 40, entries)
+    return picture.written(bottom + 56)
+
+
+def energy_picture(run, title):
+    """How long the radio of each node was on, frame by frame added up."""
+    picture = Picture(title)
+    total = {node: sum(stop - start for _, start, stop in run.tuned[node]) for node in run.nodes}
+    scanned = {node: sum(stop - start for _, start, stop in run.tuned[node] if stop - start > SECOND) for node in run.nodes}
+    most = max(total.values())
+    picture.text(LEFT, 22, title)
+    y = 40
+    for node in run.nodes:
+        picture.text(LEFT - 10, y + 15, f"node {node}", "", "end")
+        scale = 0.86 * WIDTH / most
+        picture.box("backup", LEFT, y, scanned[node] * scale, BAR, "scanning")
+        picture.box("hearing", LEFT + scanned[node] * scale, y, (total[node] - scanned[node]) * scale, BAR, "in windows")
+        picture.text(LEFT + total[node] * scale + 6, y + 15, f"{total[node] / SECOND:.2f} s", "small")
+        y += ROW
+    picture.key(y + 14, [("backup", "on while it scans for a host"), ("hearing", "on in the windows of rounds")])
+    return picture.written(y + 30)
+
+
+def frame_picture(run, frame, names):
+    """From frames down to the steps of one flood."""
+    title = "Frames, a frame, its round of slots, and the steps of one slot"
+    picture = Picture(title)
+    host = int(run.values("host")[0][1])
+    first = 4
+    count = run.frames - first
+    picture.text(LEFT - 10, 47, "frames", "", "end")
+    for index in range(count):
+        x = LEFT + WIDTH * index / count
+        number = first + index
+        picture.box("box", x, 30, WIDTH / count, 26)
+        picture.text(x + WIDTH / count / 2 + 8, 47, str(number), "", "middle")
+        if run.slots_of(number, host):
+            picture.box("sending", x + WIDTH / count / 4, 30, 4, 26, f"the round of frame {number}")
+    x = LEFT + WIDTH * (frame - first) / count
+    picture.line("zoom", x, 56, LEFT, 100)
+    picture.line("zoom", x + WIDTH / count, 56, LEFT + WIDTH, 100)
+    begin = frame * run.frame
+    slots = run.slots_of(frame, host)
+
+    def in_frame(tick):
+        return LEFT + WIDTH * (tick - begin) / run.frame
+
+    last = slots[0][0] + len(names) * 33 * MILLISECOND
+    picture.text(LEFT - 10, 117, f"frame {frame}", "", "end")
+    picture.box("box", LEFT, 100, WIDTH, 26)
+    picture.box("sending", in_frame(slots[0][0]), 100, in_frame(last) - in_frame(slots[0][0]), 26)
+    picture.text(in_frame(last) + 8, 117, "the round, 1 s into the frame; then every radio is off", "small")
+    for second in range(5):
+        picture.text(LEFT + WIDTH * second / 4, 140, f"{second} s", "small", "middle")
+    picture.line("zoom", in_frame(slots[0][0]), 126, LEFT, 176)
+    picture.line("zoom", in_frame(last), 126, LEFT + WIDTH, 176)
+    picture.text(LEFT - 10, 193, "round", "", "end")
+    for index, name in enumerate(names):
+        x = LEFT + WIDTH * index / len(names)
+        picture.box("box", x, 176, WIDTH / len(names), 26)
+        picture.text(x + WIDTH / len(names) / 2, 193, f"slot {index}: {name}", "", "middle")
+    chosen = 1
+    start = slots[chosen][0]
+    length = 8 * MILLISECOND
+    share = WIDTH / len(names)
+    picture.text(LEFT + WIDTH, 216, "33 ms each", "small", "end")
+    picture.line("zoom", LEFT + share * chosen, 202, LEFT, 246)
+    picture.line("zoom", LEFT + share * (chosen + 8 / 33), 202, LEFT + WIDTH, 246)
+    picture.text(LEFT - 10, 238, f"slot {chosen}", "", "end")
+    y = radio_rows(picture, run, start, start + length, 250, True)
+    picture.text(LEFT + WIDTH, 265, "the first 8 ms of the slot", "small", "end")
+    steps = {}
+    for node in run.nodes:
+        for _, begun, ended, packet in run.sent[node]:
+            if start <= begun < start + length:
+                steps.setdefault(counter_of(packet), (begun, ended))
+    for counter, (begun, ended) in sorted(steps.items()):
+        x = LEFT + WIDTH * ((begun + ended) / 2 - start) / length
+        picture.text(x, y + 10, f"step {counter}", "small", "middle")
+    picture.key(y + 36, STATES)
+    return picture.written(y + 52)
+
+
+def example(name):
+    return (TOP / "examples" / name).read_text()
+
+
+def from_page(page, name):
+    """The text that a page puts into a file of that name."""
+    match = re.search(rf"^```text {re.escape(name)}\n(.*?)^```$", (TOP / page).read_text(), re.MULTILINE | re.DOTALL)
+    if not match:
+        sys.exit(f"tools/pictures.py: {page} has no text {name}")
+    return match[1]
+
+
+def pictures(program):
+    line = Run(program, example("packets-along-a-line.scenario"))
+    plain = ["opening", "data, node 4", "contention", "closing"]
+    yield "frame", frame_picture(line, 9, plain)
+    yield "round", round_picture(line, 9, plain, "The round of frame 9 of packets-along-a-line: what each radio does")
+    yield "slot", slot_picture(line, 9, 1, 8, "Slot 1 of that round: the packet of node 4 goes to node 1 in three steps")
+    meeting = Run(program, example("two-contenders.scenario"))
+    title = "Slot 1 of frame 5 of two-contenders: two requests start in step 0, and node 1 hears neither"
+    yield "contention", slot_picture(meeting, 5, 1, 8, title)
+    takeover = Run(program, example("backup-host-takes-over.scenario"))
+    yield "takeover", run_picture(takeover, "backup-host-takes-over: the host goes off in frame 6, and node 2 hosts from 27")
+
+    def tutorial(name):
+        return Run(program, from_page("docs/TUTORIAL.md", name))
+
+    yield "two-nodes", run_picture(tutorial("two-nodes.scenario"), "two-nodes: both scan, then the host opens a round")
+    yield "a-stream", run_picture(tutorial("a-stream.scenario"), "a-stream: the request in frame 5, the packet in frame 9")
+    lost = tutorial("a-lost-link.scenario")
+    yield "a-lost-link", run_picture(lost, "a-lost-link: node 2 misses opening and closing of frame 9 and scans")
+    backup = tutorial("a-backup-host.scenario")
+    yield "a-backup-host", run_picture(backup, "a-backup-host: node 1 goes off, and node 2 becomes the host")
+    yield "energy", energy_picture(backup, "a-backup-host: how long each radio was on in 128 seconds")
+
+
+def main():
+    if len(sys.argv) not in (2, 3):
+        sys.exit("usage: tools/pictures.py PROGRAM [FOLDER]")
+    folder = pathlib.Path(sys.argv[2]) if len(sys.argv) == 3 else TOP / "docs" / "pictures"
+    folder.mkdir(parents=True, exist_ok=True)
+    program = str(pathlib.Path(sys.argv[1]).resolve())
+    for name, text in pictures(program):
+        (folder / f"{name}.svg").write_text(text)
+
+
+if __name__ == "__main__":
+    main()
