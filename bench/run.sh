@@ -6,7 +6,9 @@
 # 32 streams of 8 nodes are owed more than the 40 slots that a round has, and have a packet in each frame.
 # The memory is measured by GNU time (/usr/bin/time), or else read again and again from /proc/PID/status of Linux; without
 # either it is not printed.
-# Usage: bench/run.sh PROGRAM [sparse | dense], where PROGRAM is the proved program.
+# Usage: bench/run.sh PROGRAM [sparse | dense | sizes], where PROGRAM is the proved program; or bench/run.sh --text sparse | dense,
+# which writes the text alone. With sizes it runs the dense scenario over as many frames as make about 10^3, 10^4, 10^5 and
+# 10^6 sendings, to compare the cost of one sending.
 set -eu
 
 program=${1:?the program}
@@ -47,17 +49,17 @@ sparse() {
 }
 
 # Nodes 8, 16 and so on up to 64 have four streams each, of one second. They ask for them one node after another, and all
-# have them by about frame 60.
+# have them by about frame 60. The argument is the number of frames.
 dense() {
-    awk 'BEGIN {
-        print "frames 256"
+    awk -v frames="$1" 'BEGIN {
+        print "frames", frames
         print "sends 4"
         for (id = 1; id <= 64; id++) print "node", id, id * 1000
         for (id = 1; id <= 64; id++) print "rate", id, 0, id % 41 - 20
         print "host 0 1"
         for (id = 2; id <= 64; id++) for (other = 1; other < id; other++) print "pair", other, id
         for (id = 1; id <= 64; id++) print "on 0", id
-        for (frame = 0; frame < 225; frame++) {
+        for (frame = 0; frame < frames - 31; frame++) {
             for (id = 8; id <= 64; id += 8) for (stream = 0; stream < 4; stream++) {
                 first = id == 8 ? 0 : 22 + 5 * (id / 8 - 2)
                 if (frame == first) print "stream", frame, id, stream, 1
@@ -114,6 +116,14 @@ measure() {
     if [ -n "$peak" ]; then echo "$1: $peak kB of memory at most"; fi
 }
 
+if [ "$program" = --text ]; then
+    case ${2:-} in
+        sparse | dense) "$2" ;;
+        *) echo "bench/run.sh: sparse or dense" >&2; exit 2 ;;
+    esac
+    exit
+fi
+
 for name in ${2:-sparse dense}; do
     case $name in
         sparse)
@@ -121,11 +131,22 @@ for name in ${2:-sparse dense}; do
             measure sparse 5
             ;;
         dense)
-            dense > "$folder/text"
+            dense 256 > "$folder/text"
             measure dense 1
             ;;
+        sizes)
+            while read -r frames runs; do
+                dense "$frames" > "$folder/text"
+                measure "$frames frames" "$runs"
+            done << END
+10 50
+36 10
+70 3
+176 1
+END
+            ;;
         *)
-            echo "bench/run.sh: sparse or dense, and not $name" >&2
+            echo "bench/run.sh: sparse, dense or sizes, and not $name" >&2
             exit 2
             ;;
     esac

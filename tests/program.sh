@@ -1,7 +1,8 @@
 #!/usr/bin/env bash
 # Runs the built program and says what it does other than it should: on each example, whose report in examples/expected was
-# worked out from the rules; on words that are no command, texts that are refused, and ends that fail; and, built by the
-# second compiler, on each example again. The last line is 'N passed, M failed', and the status is 0 where M is 0.
+# worked out from the rules; on words that are no command, texts that are refused, ends that fail, and the greatest sizes;
+# and, built by the second compiler, on each example again. The last line is 'N passed, M failed', and the status is 0 where
+# M is 0.
 # Usage: tests/program.sh [PROGRAM [OTHER]]. OTHER is the same program as the second compiler builds it. By default they are
 # what the gate built, or they are built.
 set -u
@@ -71,16 +72,24 @@ run_on() {
     status=$?
 }
 
+# reports WORD FILE EXPECTED: whether the program writes that of the file, by that word.
+reports() {
+    "$program" "$1" < "$2" > "$folder/out"
+    status=$?
+    says "$1 of $(basename "$2"): status $status" [ "$status" -eq 0 ]
+    says "$1 of $(basename "$2"): other report" cmp -s "$folder/out" "$top/examples/expected/$3"
+}
+
 examples() {
-    local file name word
-    for file in "$top"/examples/*.flood "$top"/examples/*.scenario "$top"/examples/*.deadlines; do
+    local file name
+    for file in "$top"/examples/*.flood "$top"/examples/*.deadlines; do
         name=$(basename "$file")
-        word=${name##*.}
-        [ "$word" = scenario ] && word=run
-        "$program" "$word" < "$file" > "$folder/out"
-        status=$?
-        says "$name: status $status" [ "$status" -eq 0 ]
-        says "$name: other report" cmp -s "$folder/out" "$top/examples/expected/${name%.*}.report"
+        reports "${name##*.}" "$file" "${name%.*}.report"
+    done
+    for file in "$top"/examples/*.scenario; do
+        name=$(basename "$file" .scenario)
+        reports run "$file" "$name.report"
+        reports bus "$file" "$name.bus-report"
     done
 }
 
@@ -90,7 +99,7 @@ by_both() {
     for file in "$top"/examples/*.flood "$top"/examples/*.scenario "$top"/examples/*.deadlines; do
         name=$(basename "$file")
         words=${name##*.}
-        [ "$words" = scenario ] && words="run log"
+        [ "$words" = scenario ] && words="run log bus"
         for word in $words; do
             "$program" "$word" < "$file" > "$folder/out"
             status=$?
@@ -100,6 +109,9 @@ by_both() {
             says "$word of $name by both compilers: other bytes" cmp -s "$folder/out" "$folder/other"
         done
     done
+    "$program" demo 7 20 50 > "$folder/out"
+    "$other" demo 7 20 50 > "$folder/other"
+    says "a demo by both compilers: other bytes" cmp -s "$folder/out" "$folder/other"
 }
 
 # What the program writes for these three numbers, with no input at all, and with one that it leaves alone.
@@ -113,7 +125,7 @@ demos() {
     ends "$name, with an input" 0 "$text"
 }
 
-usage=$'usage: flood | run | log | demo SEED NODES FRAMES | deadlines\n'
+usage=$'usage: flood | run | log | bus | demo SEED NODES FRAMES | deadlines\n'
 line=$'sends 2\nnode 1 0\nnode 2 0\nnode 3 0\npair 1 2\npair 2 3\nstart 1\n'
 base=$'sends 2\nnode 1 0\nnode 2 0\nhost 0 1\npair 1 2\n'
 
@@ -160,10 +172,39 @@ ends_that_fail() {
     if [ -w /dev/full ]; then
         "$program" flood < "$folder/in" > /dev/full
         says "a full device: status $?, not 4" [ $? -eq 4 ]
+        "$program" flood < /dev/null > /dev/full
+        says "a fault line to a full device: status $?, not 4" [ $? -eq 4 ]
+        "$program" floods > /dev/full
+        says "a usage line to a full device: status $?, not 4" [ $? -eq 4 ]
     fi
     # The reader of this pipe is gone before anything is written.
     (sleep 0.3; "$program" flood < "$folder/in" 2> "$folder/err"; echo $? > "$folder/status") | true
     says "a closed pipe: status $(cat "$folder/status"), not 4" [ "$(cat "$folder/status")" = 4 ]
+}
+
+# Two texts and a demo as large as they may be, with ample memory: that memory suffices is said by no clause.
+greatest_sizes() {
+    # Two thousand rates of one clock, which change nothing.
+    {
+        printf '%s' "$line"
+        seq -f 'rate 1 %.0f 0' 0 1999
+    } > "$folder/in"
+    "$program" flood < "$folder/in" > "$folder/out"
+    status=$?
+    ends "two thousand rates of one node" 0 $'accept 2 0\naccept 3 1\nsent 6\n'
+    # Thirty-two streams, each with a job in each frame that has to be served at once: a round has all their owners.
+    {
+        printf 'slots 40\nframes 1024\n'
+        seq -f 'stream %.0f 3 0 1 1' 1 32
+    } > "$folder/in"
+    {
+        seq -f 'admit %.0f 3' 1 32
+        seq -f "round %.0f $(seq -s ' ' 7 4 131)" 0 1023
+    } > "$folder/all"
+    "$program" deadlines < "$folder/in" > "$folder/out"
+    says "thirty-two streams in 1,024 frames: status $?, not 0" [ $? -eq 0 ]
+    says "thirty-two streams in 1,024 frames: other output" cmp -s "$folder/all" "$folder/out"
+    demos "a demo of 64 nodes in 256 frames" $'deliveries 63103\ndrops 2223\nsent 6072967168\non 435905812220\n' 7 64 256
 }
 
 # With so little memory that a text of 4 MiB has no room, and the program still starts.
@@ -178,6 +219,7 @@ demos "a demo of two nodes" $'deliveries 0\ndrops 0\nsent 0\non 512000000\n' 7 2
 demos "a demo of twenty nodes" $'deliveries 295\ndrops 0\nsent 52015104\non 111995785254\n' 7 20 50
 words_and_texts
 ends_that_fail
+greatest_sizes
 little_memory
 [ -n "$other" ] && by_both
 echo "$passed passed, $failed failed"

@@ -2,8 +2,9 @@
 """Draws the pictures of the documents from what the program writes.
 
 Usage: tools/pictures.py PROGRAM [FOLDER]. PROGRAM is the built program, FOLDER is docs/pictures if none is given. Each
-picture shows a run of an example, or of a text that stands in docs/TUTORIAL.md: the program's `log` says what was sent and
-heard, and when each radio was on. Only Python's standard library is used.
+picture but one shows a run of an example, or of a text that stands in docs/TUTORIAL.md: the program's `log` says what was
+sent and heard, and when each radio was on. The picture of the guard time is drawn from the numbers of the profiles. Only
+Python's standard library is used.
 """
 
 import pathlib
@@ -311,6 +312,82 @@ def frame_picture(run, frame, names):
     return picture.written(y + 52)
 
 
+class Profile:
+    """The times of a slot and the worst difference of two nodes, in ticks, and the longest packet in bytes."""
+
+    def __init__(self, name, close, slot, longest, apart):
+        self.name = name
+        self.listen = 64_000
+        self.close = close
+        self.slot = slot
+        self.longest = longest
+        self.apart = apart
+
+    def flood_end(self):
+        """When the last of twelve steps of the longest packet ends, by the clock of the initiator."""
+        airtime = (self.longest + 8) * 2_048
+        return self.listen + 12 * (airtime + 12_288) - 12_288
+
+
+PROFILES = [
+    Profile("profile 1", 2_096_000, 2_112_000, 64, 44_960),
+    Profile("profile 2", 3_568_000, 3_584_000, 125, 58_300),
+]
+
+
+def guard_picture():
+    """A slot at two nodes whose clocks are as far apart as they can be: its beginning and its end, with what is left."""
+    title = "The longest flood in a slot, at two nodes whose clocks are as far apart as they can be"
+    picture = Picture(title)
+    picture.text(LEFT, 22, title)
+    half = (WIDTH - 40) / 2
+    span = 4 * MILLISECOND
+    y = 50
+    for profile in PROFILES:
+        ends = [(LEFT, -MILLISECOND), (LEFT + half + 40, profile.flood_end() - MILLISECOND)]
+
+        def bar(kind, start, stop, row, hint):
+            for left, begin in ends:
+                low, high = max(start, begin), min(stop, begin + span)
+                if low < high:
+                    picture.box(kind, left + half * (low - begin) / span, row, half * (high - low) / span, BAR, hint)
+
+        def room(panel, start, stop, row):
+            left, begin = ends[panel]
+            x, x2 = (left + half * (tick - begin) / span for tick in (start, stop))
+            picture.line("box", x, row, x2, row)
+            for end in (x, x2):
+                picture.line("box", end, row - 4, end, row + 4)
+            picture.text(x2 + 6, row + 4, f"{(stop - start) / MILLISECOND:.2f} ms left", "small")
+
+        picture.text(LEFT, y, profile.name)
+        end = profile.flood_end()
+        rows = [("flood", None), ("node 1", 0), ("2, late", profile.apart), ("2, early", -profile.apart)]
+        for index, (name, shift) in enumerate(rows):
+            row = y + 12 + ROW * index
+            picture.text(LEFT - 10, row + 15, name, "", "end")
+            if shift is None:
+                bar("sending", profile.listen, end, row, f"from {profile.listen} to {end}")
+                continue
+            bar("listening", shift, shift + profile.close, row, f"window from {shift} to {shift + profile.close}")
+            following = shift + profile.slot
+            bar("backup", following, following + span, row, f"the next window from {following}")
+        bottom = y + 12 + ROW * len(rows)
+        room(0, profile.apart, profile.listen, y + 12 + ROW * 2 - 7)
+        room(1, end, profile.close - profile.apart, y + 12 + ROW * 3 - 7)
+        for left, begin in ends:
+            first = -(-begin // MILLISECOND)
+            for number in range(first, (begin + span) // MILLISECOND + 1):
+                x = left + half * (number * MILLISECOND - begin) / span
+                picture.line("faint", x, y + 8, x, bottom)
+                picture.text(x, bottom + 12, str(number), "small", "middle")
+        picture.text(LEFT - 10, bottom + 12, "ms", "small", "end")
+        y = bottom + 44
+    entries = [("sending", "twelve steps of the longest packet"), ("listening", "window of the slot")]
+    picture.key(y - 6, entries + [("backup", "window of the next slot")])
+    return picture.written(y + 10)
+
+
 def example(name):
     return (TOP / "examples" / name).read_text()
 
@@ -324,6 +401,7 @@ def from_page(page, name):
 
 
 def pictures(program):
+    yield "guard", guard_picture()
     line = Run(program, example("packets-along-a-line.scenario"))
     plain = ["opening", "data, node 4", "contention", "closing"]
     yield "frame", frame_picture(line, 9, plain)

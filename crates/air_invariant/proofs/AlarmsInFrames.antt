@@ -26,7 +26,7 @@ use Rattle.air_invariant.proofs.RunFacts.{run_fits, host_clock}
 module _ (s : ScenarioParts) (clocks : ℕ → ℕ → ℕ) (driven : IsDrivenWell s clocks) (air : List Entry) (v : ℕ) (drifts : IsClock (clocks v))
     (told : ℕ) (n : Node) (early : n.frame ≤ 4095) (tune : HasTune s clocks v n) where
   -- a point of the frame's round comes before the frame's end
-  point_in_frame : (z q : ℕ) → GoodFor s clocks (rank_at n) v z n.frame q → q ≤ closing s.profile (budget_of s.profile).last
+  pub point_in_frame : (z q : ℕ) → GoodFor s clocks (rank_at n) v z n.frame q → q ≤ closing s.profile (budget_of s.profile).last
       → point (clocks v) z q < frame_start s (n.frame + 1)
   point_in_frame z q good low =
       let fits = run_fits s driven.sound in
@@ -37,7 +37,7 @@ module _ (s : ScenarioParts) (clocks : ℕ → ℕ → ℕ) (driven : IsDrivenWe
       let next = alarm_before_next s.profile (budget_of s.profile) fits (clocks v) drifts n.frame early in
       omega (arith, alarm, next)
 
-  slot_low : (j : ℕ) → j ≤ (budget_of s.profile).last
+  pub slot_low : (j : ℕ) → j ≤ (budget_of s.profile).last
       → (opening s.profile j ≤ closing s.profile (budget_of s.profile).last) × (closing s.profile j ≤ closing s.profile (budget_of s.profile).last)
   slot_low j slot = let k = mul-le-mul_right s.profile.slot slot in (omega (arith, k), omega (arith, k))
 
@@ -46,7 +46,7 @@ module _ (s : ScenarioParts) (clocks : ℕ → ℕ → ℕ) (driven : IsDrivenWe
   opens_in_frame j slot good = point_in_frame n.zero (opening s.profile j) good (slot_low j slot).0
 
   -- a window's slot is of the round, and its closing good
-  closes_in_round : (j : ℕ) (w : Window) (b : Bool)
+  pub closes_in_round : (j : ℕ) (w : Window) (b : Bool)
       → Either b (RefFor s clocks (rank_at n) v n.zero n.frame n.frame j) (IsMember s clocks v n j w.last (is_last j w))
       → Either b ⊤ (HasRound s clocks air v told n j w)
       → (j ≤ (budget_of s.profile).last) × GoodFor s clocks (rank_at n) v n.zero n.frame (closing s.profile j)

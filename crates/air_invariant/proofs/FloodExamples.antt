@@ -1,9 +1,9 @@
 -- Sendings of the worked rounds of one packet in their floods: a request, the relay of data, and that of a closing.
-use Rattle.std.proofs.Common.{◌≡◌, ℕ, suc, ◌+◌, ◌*◌, ◌<◌, ◌≤◌, List, [], ◌∷◌, Some, None, Contains, refl, sym, arith, inl, inr}
+use Rattle.std.proofs.Common.{◌≡◌, ℕ, suc, refl, sym, arith, inr}
 use Rattle.lwb_base.specs.Messages.{least}
 use Rattle.schedule_codec.specs.Packing.{digits, number}
 use Rattle.schedule_codec.specs.Reading.{schedule_of, asks_in}
-use Rattle.air_safety.specs.OnePacket.{one_packet, drifting, one_packet_log, request_0, grant_0, grant_1, data_0, data_1}
+use Rattle.air_safety.specs.OnePacket.{request_0, grant_0, grant_1, data_0, data_1}
 use Rattle.air_safety.specs.OnePacketNodes.{first_plan, granted_plan}
 use Rattle.air_safety.proofs.OnePacketZeros.{host_due_at, member_due_at, opened, reopened}
 use Rattle.air_invariant.specs.WorkedRounds.{IsFlooded}

@@ -1,5 +1,5 @@
 -- The clauses at the guest of the worked rounds of one packet.
-use Rattle.std.proofs.Common.{◌≡◌, ℕ, suc, ◌+◌, ◌<◌, ◌≤◌, List, [], ◌∷◌, Bool, true, false, not, ◌==◌, ◌&&◌, ◌||◌, eqb-true, Some, None, Contains, refl, sym, ◌∙◌, ap, subst, arith, inl, inr, true≢false}
+use Rattle.std.proofs.Common.{◌≡◌, ℕ, ◌+◌, ◌<◌, List, [], ◌∷◌, Bool, true, not, ◌==◌, ◌&&◌, ◌||◌, eqb-true, Some, Contains, refl, sym, ◌∙◌, ap, subst, arith, inl, inr, true≢false}
 use Rattle.std.specs.List.{list_all}
 use Rattle.std.proofs.lemmas.Bool.{and_from, eq-eqb}
 use Rattle.radio_model.specs.Hearing.{slot_of, counter_of, frame_of}
@@ -12,15 +12,14 @@ use Rattle.schedule_codec.specs.Reading.{schedule_of, asks_in}
 use Rattle.radio_model.specs.declared.sending.Sending.{Sending}
 use Rattle.node_core.specs.Nodes.{zero_from}
 use Rattle.air_log.specs.WindowLogs.{WindowLog}
-use Rattle.air_safety.specs.OnePacket.{one_packet, drifting, one_packet_log, opening_0, grant_0, reopening_0, request_0, opening_1, opening_3, request_2, grant_1, grant_3, reopening_1, data_0, data_2, closing_0, closing_1, closing_3, reopening_with, closing_with}
+use Rattle.air_safety.specs.OnePacket.{drifting, opening_0, reopening_0, request_0, opening_1, opening_3, request_2, grant_1, grant_3, reopening_1, data_0, data_2, closing_0, closing_1, closing_3, reopening_with, closing_with}
 use Rattle.air_log.specs.FirstRound.{opening_with}
-use Rattle.air_safety.specs.OnePacketNodes.{first_plan, granted_plan, next_plan}
+use Rattle.air_safety.specs.OnePacketNodes.{first_plan, granted_plan}
 use Rattle.air_safety.specs.OnePacketMember.{member_7, member_14, member_28, member_34, member_53, member_60}
-use Rattle.air_invariant.specs.SentPlans.{StaysOnUntil, IsPlanned, HasHeardPlan, HasHeardOpening}
 use Rattle.air_safety.proofs.DriftingClocks.{slow, slow_due, member_clock}
 use Rattle.air_safety.proofs.OnePacketZeros.{member_due_at, opened, granted, reopened, closed}
 use Rattle.air_invariant.specs.WorkedRounds.{Holds}
-use Rattle.air_invariant.proofs.WorkedPlans.{stays, once, none_of, same_key, from_or, planned, heard_plan, fresh_plan, not_zero, first_planned, first_heard, first_fresh, next_planned, next_heard}
+use Rattle.air_invariant.proofs.WorkedPlans.{once, none_of, same_key, from_or, planned, heard_plan, fresh_plan, not_zero, first_planned, first_heard, first_fresh, next_planned, next_heard}
 
 reads : (t : ℕ) → drifting 2 t ≡ slow t
 reads t = ap (λ (clock : ℕ → ℕ). clock t) member_clock

@@ -1,12 +1,10 @@
 -- The clauses at the host of the worked rounds of one packet.
-use Rattle.std.proofs.Common.{◌≡◌, ℕ, suc, ◌+◌, ◌*◌, ◌<◌, ◌≤◌, List, [], ◌∷◌, Bool, true, false, not, ◌==◌, ◌&&◌, ◌||◌, Some, None, Contains, refl, sym, ◌∙◌, ap, subst, arith, inl, inr, true≢false, eqb-true}
+use Rattle.std.proofs.Common.{◌≡◌, ℕ, ◌+◌, ◌<◌, List, [], ◌∷◌, Bool, true, false, not, ◌==◌, ◌&&◌, ◌||◌, Some, Contains, refl, sym, ◌∙◌, ap, subst, arith, inl, inr, true≢false, eqb-true}
 use Rattle.std.specs.List.{list_all}
 use Rattle.std.proofs.lemmas.Bool.{and_from, eq-eqb}
-use Rattle.tick_clock.specs.Clocks.{Near, due}
+use Rattle.tick_clock.specs.Clocks.{due}
 use Rattle.lwb_base.specs.Messages.{least}
 use Rattle.lwb_base.specs.Profile.{one}
-use Rattle.time_reference.specs.Budgets.{budget_one}
-use Rattle.time_reference.specs.Zeros.{Ref, Good, nominal, started}
 use Rattle.schedule_codec.specs.Packing.{digits, number}
 use Rattle.schedule_codec.specs.Reading.{schedule_of, asks_in}
 use Rattle.radio_model.specs.declared.sending.Sending.{Sending}
@@ -14,11 +12,10 @@ use Rattle.radio_model.specs.Hearing.{slot_of, counter_of, frame_of}
 use Rattle.air_log.specs.WindowLogs.{WindowLog}
 use Rattle.air_log.proofs.Elements.{not_in_none, contains_cases}
 use Rattle.air_log.proofs.ComputedTrails.{all_passes}
-use Rattle.air_safety.specs.OnePacket.{one_packet, drifting, one_packet_log, opening_0, opening_2, request_1, request_3, grant_0, grant_2, reopening_0, data_0, data_1, data_3, closing_0, closing_2}
-use Rattle.air_safety.specs.OnePacketNodes.{first_plan, granted_plan, next_plan}
+use Rattle.air_safety.specs.OnePacket.{drifting, opening_0, opening_2, request_1, request_3, grant_0, grant_2, reopening_0, data_0, data_1, data_3, closing_0, closing_2}
+use Rattle.air_safety.specs.OnePacketNodes.{first_plan, granted_plan}
 use Rattle.air_safety.specs.OnePacketHost.{host_6, host_7, host_8, host_38, host_46, host_53, host_59}
-use Rattle.air_invariant.specs.SentPlans.{IsPlanned}
-use Rattle.air_safety.proofs.DriftingClocks.{fast, fast_due, host_clock}
+use Rattle.air_safety.proofs.DriftingClocks.{fast, fast_due}
 use Rattle.air_safety.proofs.OnePacketZeros.{host_due_at}
 use Rattle.air_invariant.specs.WorkedRounds.{Holds}
 use Rattle.air_invariant.proofs.HostZeros.{reads, good_5, good_9}

@@ -1,5 +1,5 @@
 -- The life of the host of the worked rounds of one packet, and what its device has of it.
-use Rattle.std.proofs.Common.{◌≡◌, ℕ, ◌+◌, ◌*◌, ◌<◌, ◌≤◌, List, [], ◌∷◌, true, false, Some, None, Option, Contains, refl, sym, ap, subst, arith, inl, inr}
+use Rattle.std.proofs.Common.{◌≡◌, ℕ, ◌*◌, ◌<◌, List, [], ◌∷◌, true, false, Some, None, Option, Contains, refl, ap, subst, arith, inl, inr}
 use Rattle.std.specs.List.{AllByRecursion}
 use Rattle.lwb_base.specs.Profile.{one}
 use Rattle.lwb_base.specs.Messages.{Schedule, least}

@@ -1,5 +1,5 @@
 -- The node that a window's opening leaves: its frame, its alarm, its radio, its tune and its flood.
-use Rattle.std.proofs.Common.{◌≡◌, ℕ, ◌+◌, ◌<◌, inl, inr, List, Bool, true, false, nat_lt, Option, Some, None, length, refl, sym, ◌∙◌, ap, subst, arith, eq-eqb, lt-ltb, le-ltb, true≢false}
+use Rattle.std.proofs.Common.{◌≡◌, ℕ, ◌+◌, ◌<◌, ◌≤◌, inl, inr, List, Bool, true, false, nat_lt, Option, Some, None, length, refl, sym, ◌∙◌, ap, subst, arith, eq-eqb, lt-ltb, le-ltb, true≢false}
 use Rattle.std.proofs.lemmas.Bool.{and_from, not_from_true, not_from_false}
 use Rattle.time_reference.specs.Reference.{host_zero}
 use Rattle.time_reference.specs.Zeros.{opening}
@@ -145,7 +145,7 @@ module _ (s : ScenarioParts) (clocks : ℕ → ℕ → ℕ) (air : List Entry) (
     round_kept (Scan r w) closes open_ round = (standing.fresh ∙ round.0, round.1)
     round_kept (Hold r due) closes open_ round = round
     round_kept (Host r due) closes open_ round =
-        (round.0, round.1, subst (λ (c : Bool). Either c (n.frame < due) (due ≡ n.frame)) (sym (open_ refl)) round.2)
+        (round.0, round.1, subst (λ (c : Bool). Either c ((n.frame < due) × (due ≤ n.frame + 4)) (due ≡ n.frame)) (sym (open_ refl)) round.2)
 
     round_by : IsNode (setup_of s v) n → Role S n.frame n.core j left → IsRoundOf s clocks v after j (is_last j window) left.core.tune
     round_by ranged (inl keeps) =
@@ -156,11 +156,16 @@ module _ (s : ScenarioParts) (clocks : ℕ → ℕ → ℕ) (air : List Entry) (
         let h = hosts_round (host_now n.frame n.core plans.now) in
         let gap = (host_plan_of S is_set n.frame n.core ranged.core).gap in
         let some = gap.0 in
+        let few = gap.1 in
         let behind = plans.last in
         let closes : is_last j window ≡ true =
         not_from_false (nat_lt j (last_slot n.core.plan)) (le-ltb j (last_slot n.core.plan) behind) in
-        subst (λ (x : Opened). IsRoundOf s clocks v after j (is_last j window) x.core.tune) (sym plans.is)
-        (h.host, h.zero, subst (λ (c : Bool). Either c (n.frame < n.frame + next.gap) (n.frame + next.gap ≡ n.frame)) (sym closes) (omega (arith, some)))
+        subst (λ (x : Opened). IsRoundOf s clocks v after j (is_last j window) x.core.tune) (sym plans.is) (
+          h.host,
+          h.zero,
+          subst (λ (c : Bool). Either c ((n.frame < n.frame + next.gap) × (n.frame + next.gap ≤ n.frame + 4)) (n.frame + next.gap ≡ n.frame)) (sym closes)
+              (omega (arith, some), omega (arith, few)),
+        )
 
     pub tune_clause : IsNode (setup_of s v) n → HasTune s clocks v after
     tune_clause ranged = record {

@@ -48,13 +48,13 @@ module _ (s : ScenarioParts) (clocks : ℕ → ℕ → ℕ) (air : List Entry) (
   abbrev moved : Node
   moved = record n { core = e; stage = stage }
 
-  plan_kept : (frame : ℕ) → KnowsPlan s clocks air v told_to n frame plan → KnowsPlan s clocks air v told_to moved frame plan
+  pub plan_kept : (frame : ℕ) → KnowsPlan s clocks air v told_to n frame plan → KnowsPlan s clocks air v told_to moved frame plan
   plan_kept frame knows = record {
     planned = subst (λ (r : ℕ). IsPlanned s air r frame plan) (sym same.rank) knows.planned;
     heard = λ guest. subst (λ (r : ℕ). HasHeardPlan s air v r frame plan told_to) (sym same.rank) (knows.heard (sym same.host ∙ guest));
   }
 
-  opening_kept : KnowsOpening s clocks air v n j plan → KnowsOpening s clocks air v moved j plan
+  pub opening_kept : KnowsOpening s clocks air v n j plan → KnowsOpening s clocks air v moved j plan
   opening_kept knows = record {
     behind = knows.behind;
     guest = same.host ∙ knows.guest;

@@ -1,5 +1,5 @@
 -- The clauses at nodes of the worked rounds of one packet that are off, scan, or have gone on to the next frame.
-use Rattle.std.proofs.Common.{◌≡◌, ℕ, ◌+◌, ◌*◌, ◌/◌, ◌≤◌, List, [], ◌∷◌, true, false, Some, None, refl, sym, subst, arith, inl, inr, true≢false}
+use Rattle.std.proofs.Common.{ℕ, ◌≤◌, List, [], ◌∷◌, refl, sym, subst, arith, inl, inr, true≢false}
 use Rattle.radio_model.specs.declared.sending.Sending.{Sending}
 use Rattle.air_log.specs.WindowLogs.{WindowLog}
 use Rattle.air_safety.specs.OnePacket.{opening_0, opening_2, request_1, request_3, grant_0, grant_2}

@@ -1,32 +1,19 @@
 -- What the clauses stand on at the worked rounds of one packet: who began which flood, and what was planned and heard.
-use Rattle.std.proofs.Common.{◌≡◌, ℕ, suc, ◌+◌, ◌-◌, ◌*◌, ◌<◌, ◌≤◌, List, [], ◌∷◌, Bool, true, false, not, ◌==◌, ◌&&◌, ◌||◌, nat_lt, nat_le, Some, None, Contains, refl, sym, ◌∙◌, ap, subst, arith, inl, inr, ◌⊎◌, ltb-true, true≢false, if◌then◌else◌, map, filter}
+use Rattle.std.proofs.Common.{◌≡◌, ℕ, ◌+◌, ◌*◌, List, [], ◌∷◌, Bool, true, false, not, ◌==◌, ◌&&◌, ◌||◌, nat_le, Contains, refl, sym, ◌∙◌, ap, arith, inl, inr, ◌⊎◌, true≢false}
 use Rattle.std.specs.List.{list_all}
-use Rattle.std.specs.Prelude.{ℤ}
-use Rattle.std.proofs.lemmas.Bool.{eq-eqb, and_parts, leb-true}
-use Rattle.tick_clock.specs.Clocks.{due}
-use Rattle.tick_clock.specs.Rates.{segment_reading}
+use Rattle.std.proofs.lemmas.Bool.{eq-eqb, leb-true}
 use Rattle.lwb_base.specs.Messages.{least}
 use Rattle.schedule_codec.specs.Packing.{digits, number}
 use Rattle.schedule_codec.specs.Reading.{schedule_of, asks_in}
-use Rattle.scenario_text.specs.declared.lines.NodeLine.{NodeLine}
-use Rattle.scenario_text.specs.declared.lines.RateLine.{RateLine}
-use Rattle.scenario_text.specs.declared.script.Act.TheVariants.{Off}
 use Rattle.scenario_text.specs.declared.script.ScriptLine.{ScriptLine}
 use Rattle.radio_model.specs.declared.sending.Sending.{Sending}
 use Rattle.radio_model.specs.Hearing.{slot_of, counter_of, frame_of}
-use Rattle.air_log.specs.WindowLogs.{WindowLog}
-use Rattle.air_log.specs.Devices.{Device}
 use Rattle.air_log.proofs.Elements.{not_in_none, contains_cases}
 use Rattle.air_log.proofs.ComputedTrails.{all_passes}
 use Rattle.lwb_base.specs.Profile.{one}
-use Rattle.time_reference.specs.Budgets.{budget_one}
-use Rattle.time_reference.specs.Zeros.{Ref, Good, point}
-use Rattle.air_safety.specs.OnePacket.{one_packet, drifting, one_packet_log, opening_0, grant_0, reopening_0, request_0, data_0, closing_0, opening_1, opening_3, request_2, grant_1, grant_3, reopening_1, sent_by_member, data_with, tuned_by_member}
+use Rattle.air_safety.specs.OnePacket.{one_packet, one_packet_log, opening_0, grant_0, reopening_0, closing_0}
 use Rattle.air_safety.specs.OnePacketNodes.{first_plan, granted_plan, next_plan}
-use Rattle.air_safety.specs.OnePacketHost.{host_38}
-use Rattle.air_safety.specs.OnePacketMember.{member_14, member_36, member_late, member_37}
 use Rattle.air_invariant.specs.SentPlans.{StaysOnUntil, IsPlanned, HasHeardPlan, HasHeardOpening}
-use Rattle.air_safety.proofs.OnePacketZeros.{host_due_at, member_due_at, opened, granted, reopened, closed}
 
 is_early : ScriptLine → Bool
 is_early l = nat_le l.frame 0

@@ -21,7 +21,7 @@ use Rattle.air_log.specs.DeviceStates.{DeviceState, whole, with_tuned, one_more,
 use Rattle.air_log.specs.WindowLogs.{WindowLog, is_alarm}
 use Rattle.air_log.specs.WindowSums.{WindowSum, IsCounted, in_window, sent_with, noted}
 use Rattle.air_log.specs.Courses.{CourseState, made_in, Shows, IsShown, Goes, Tells}
-use Rattle.air_log.proofs.CountedWindows.{after_event}
+use Rattle.air_log.proofs.CountedEvents.{counted_then}
 
 -- a device is shown still
 pub shown_still : (t : ℕ) (change : Setup → Device → Device) (old new : CourseState) → Goes t change old new → IsShown t old → IsShown t new
@@ -169,17 +169,6 @@ module _ (clock : ℕ → ℕ) (t : ℕ) (e : Event) (ended : Option Sending) (s
   made_sent (PowerOff boots) r made = refl
   made_sent (PowerOn n) r made = refl
 
-  module _ (p : Numbers) (n : ℕ) (few : n ≤ 4) (x : WindowSum) where
-    counted_by_row : (m : Node) (r : Option Stepped) (made : Made) → state.power ≡ PowerOn m → IsCounted p n made.windows x → (noted (in_window state.power) (in_window (after_row state r).power) (is_alarm e) (sent_with e ended) x).last ≤ 2 ^ 28
-        → IsCounted p n (made_by t e ended (PowerOn m) r made).windows (noted (in_window state.power) (in_window (after_row state r).power) (is_alarm e) (sent_with e ended) x)
-    counted_by_row m None made at is less = rw at (after_event p n few t e ended m m m.stage m.stage made.windows x is (rw at at less))
-    counted_by_row m (Some r) made at is less = rw at (after_event p n few t e ended m r.node m.stage r.node.stage made.windows x is (rw at at less))
-
-    pub counted_then : (s : Setup) (power : Power) (made : Made) → state.power ≡ power → IsCounted p n made.windows x → (noted (in_window state.power) (in_window (after_row state (row_at clock t e s power)).power) (is_alarm e) (sent_with e ended) x).last ≤ 2 ^ 28
-        → IsCounted p n (made_by t e ended power (row_at clock t e s power) made).windows (noted (in_window state.power) (in_window (after_row state (row_at clock t e s power)).power) (is_alarm e) (sent_with e ended) x)
-    counted_then s (PowerOff boots) made at is less = rw at is
-    counted_then s (PowerOn m) made at is less = counted_by_row m (row_at clock t e s (PowerOn m)) made at is less
-
 -- the whole event is what the row makes, and then its orders
 module _ (clock : ℕ → ℕ) (t : ℕ) (e : Event) (ended : Option Sending) (old : CourseState) where
   abbrev row_now : Option Stepped
@@ -209,7 +198,7 @@ module _ (clock : ℕ → ℕ) (t : ℕ) (e : Event) (ended : Option Sending) (o
       windows = making.windows;
       is = ap (whole (reacted old.device row_now)) made_is;
       setup = keeps_setup old.device row_now ∙ shows.setup;
-      counted = counted_then clock t e ended old.device shows.taken q.profile q.sends shows.few old.windows old.device.setup old.device.power (made_in old shows.drops shows.windows) refl shows.counted less;
+      counted = counted_then clock t e ended old.device q.profile q.sends shows.few old.windows old.device.setup old.device.power (made_in old shows.drops shows.windows) refl shows.counted less;
       few = shows.few;
       ended = shows.ended;
       happened = keeps_happened t old.device row_now shows.happened;

@@ -19,6 +19,8 @@ pub mod TunedBefore
 pub mod KeptPower
 pub mod ComputedTrails
 pub mod FirstRound
+pub mod CountedEvents
+pub mod ChargedWindows
 -- for this crate alone
 pub mod QuietTicks
 pub mod SmallCores

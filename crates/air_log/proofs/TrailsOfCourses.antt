@@ -23,8 +23,7 @@ use Rattle.air_log.specs.WindowLogs.{WindowLog}
 use Rattle.air_log.specs.WindowSums.{WindowSum, charge_by, AreSmall, IsCounted}
 use Rattle.air_log.specs.Courses.{CourseState, Shows, Tells, Goes, IsCut, frame_of, end_of, reception_in}
 use Rattle.air_log.proofs.KeptPower.{boots_up, turned_over}
-use Rattle.air_log.proofs.FewWindows.{by_alarm, few_windows, boots_of}
-use Rattle.air_log.proofs.CountedWindows.{total}
+use Rattle.air_log.proofs.ChargedWindows.{charge_is}
 use Rattle.air_log.proofs.ListCuts.{first_cut}
 
 module _ (clock : ℕ → ℕ) (s : ScenarioParts) (v : ℕ) (hs : List HeardEntry) where
@@ -95,27 +94,7 @@ module _ (clock : ℕ → ℕ) (s : ScenarioParts) (v : ℕ) (hs : List HeardEnt
       → Goes (frame_start s f) (λ q d. fold (after_line clock q (frame_start s f)) d (lines_at s q.id (frame_start s f))) c new → Shows (setup_of s v) (frame_start s f) new (at_frame s v clock rs f)
   after_lines_shows f told next tunes scanned c new at goes = goes (setup_of s v) (before_tick s v clock rs (frame_start s f)) at.shows
 
--- what all windows count
-counts_few : (p : Numbers) (n : ℕ) (ws : List WindowLog) → AreSmall p n ws → sum_by (charge_by p n) ws ≤ 2 ^ 28 * by_alarm ws
-counts_few p n [] small = omega arith
-counts_few p n (w ∷ ws) small =
-    let rest = counts_few p n ws small.1 in
-    let all = sum_by-cons (charge_by p n) w ws in
-    omega (arith, rest, all, one w small.0)
-  where
-    one : (w : WindowLog) → charge_by p n w ≤ 2 ^ 28 → charge_by p n w ≤ 2 ^ 28 * (if w.by_alarm then 1 else 0)
-    one w less = by w.by_alarm less
-      where
-        by : (b : Bool) → (if b then Rattle.air_log.specs.Charges.counted p (Rattle.bus_rules.specs.Charges.last_of n (Rattle.air_log.specs.Charges.sent_packets w)) else 0) ≤ 2 ^ 28
-            → (if b then Rattle.air_log.specs.Charges.counted p (Rattle.bus_rules.specs.Charges.last_of n (Rattle.air_log.specs.Charges.sent_packets w)) else 0) ≤ 2 ^ 28 * (if b then 1 else 0)
-        by true less = omega (arith, less)
-        by false less = omega arith
-
 module _ (clock : ℕ → ℕ) (s : ScenarioParts) (v : ℕ) (hs : List HeardEntry) (sound : IsSoundScenario s) (drifts : IsClock clock) where
-  boots_by : (power : Power) → boots_of s v clock (map reception_in hs) sound drifts power ≡ (seen_power power).1
-  boots_by (PowerOff boots) = refl
-  boots_by (PowerOn n) = refl
-
   few_boots : (told : ℕ) → (turned v (false, 0) (take told s.script)).1 ≤ 200
   few_boots told =
       let over = turned_over v (false, 0) (take told s.script) (drop told s.script) in
@@ -128,18 +107,9 @@ module _ (clock : ℕ → ℕ) (s : ScenarioParts) (v : ℕ) (hs : List HeardEnt
   pub windows_are : (told : ℕ) (c : CourseState) (last : CourseState) → Shows (setup_of s v) (run_end s) c (before_tick s v clock (map reception_in hs) (run_end s)) → seen_power c.device.power ≡ turned v (false, 0) (take told s.script)
       → Tells (setup_of s v) last (trail s v clock (map reception_in hs)) → (last.windows.earlier + last.windows.last) % 2 ^ 64 ≡ windows_charge s (trail s v clock (map reception_in hs))
   windows_are told c last shows power tells =
-      let t = trail s v clock (map reception_in hs) in
-      let sum = total s.profile s.sends sound.few_sends t.made.windows last.windows tells.counted in
-      let few = few_windows s v clock (map reception_in hs) sound drifts in
-      let boots : boots_of s v clock (map reception_in hs) sound drifts (before_tick s v clock (map reception_in hs) (run_end s)).power ≤ 200 =
-      (let same = boots_by (before_tick s v clock (map reception_in hs) (run_end s)).power in
       let seen = ap (λ (b : Bool × ℕ). b.1) (sym (ap (λ (x : Device). seen_power x.power) shows.is) ∙ power) in
       let less = few_boots told in
-      omega (arith, same, seen, less)) in
-      let small = counts_few s.profile s.sends t.made.windows tells.counted.small in
-      let times = mul-le-mul_right (2 ^ 20) boots in
-      let below : windows_charge s t < 2 ^ 64 = omega (arith, small, few, times) in
-      sum ∙ mod-eq_of_lt below
+      charge_is clock s v (map reception_in hs) sound drifts (omega (arith, seen, less)) last.windows tells.counted
 
 -- what is told, part by part
 same_told : (a b : List Sending) (c d : List Tuning) (e f : List Delivery) (g h i j : ℕ) (k l : List (Option Tune)) → b ≡ a → d ≡ c → f ≡ e → h ≡ g → j ≡ i → l ≡ k

@@ -15,6 +15,7 @@ pub mod FirstRound
 pub mod TrailEntries
 pub mod Charges
 pub mod Lawful
+pub mod NodeCharges
 pub mod Heedful
 pub mod Safe
 pub mod Deliveries

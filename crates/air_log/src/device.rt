@@ -9,6 +9,7 @@ ghost use Rattle.air_log.specs.Devices.{Made, nothing_made, at_rest, silenced, r
 ghost use Rattle.node_core.specs.Standing.{place_of};
 ghost use Rattle.node_core.specs.declared.stage.Stage.{Stage};
 ghost use Rattle.air_log.specs.Trails.{tune_of};
+ghost use Rattle.air_log.specs.Charges.{scans_with};
 ghost use Rattle.air_log.specs.WindowSums.{is_window, in_window};
 ghost use Rattle.air_log.specs.DeviceStates.{whole, with_tuned, EndedBefore, HappenedBy, IsSameNode, IsCoreAt, core_in};
 
@@ -142,8 +143,15 @@ impl Device {
         }
     }
 
-    // Whether its power is on and a window is open.
-    pub(crate) fn is_in_window(&self) -> bool
+    /// Whether its power is on and it scans.
+    pub fn scans(&self) -> bool
+        ensures { result ≡ scans_with (tune_of self.now.power) }
+    {
+        matches!(self.current_tune(), Some(Tune::Scan(_, _)))
+    }
+
+    /// Whether its power is on and a window is open.
+    pub fn is_in_window(&self) -> bool
         ensures { result ≡ in_window self.now.power }
     {
         self.on && is_window(self.core.place())

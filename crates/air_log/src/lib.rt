@@ -2,6 +2,7 @@
 #![tactic(auto)]
 
 mod air;
+mod charge;
 mod course;
 mod device;
 mod device_script;
@@ -16,11 +17,13 @@ mod trails;
 mod window_sum;
 
 pub use air::Air;
+pub use charge::NodeCharge;
 pub use device::Device;
 pub use entry::{Entry, HeardEntry, SentEntry, TunedEntry};
-pub use printing::text;
+pub use printing::{text, write_text};
 pub use trail::Trail;
 pub use trails::trail_of;
+pub use window_sum::WindowSum;
 
 #[cfg(test)]
 mod tests;

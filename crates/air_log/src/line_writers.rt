@@ -1,9 +1,8 @@
-ghost use Rattle.std.specs.Prelude.{◌≡◌, ◌++◌, ◌∷◌, ◌<◌, OnOk, codes, decimal, false, string_bytes};
-ghost use Rattle.std.specs.Fmt.{digit_glyph};
+ghost use Rattle.std.specs.Prelude.{◌≡◌, ◌++◌, ◌∷◌, OnOk, codes, string_bytes};
 ghost use Rattle.air_log.specs.LogText.{entry_line, sent_line, heard_line, tuned_line, hex_word};
 
 use crate::{Entry, HeardEntry, SentEntry, TunedEntry};
-use itoa::Buffer;
+use scenario_text::{write_hex, write_number};
 use std::alloc::AllocError;
 
 /// Writes the line of an entry.
@@ -51,15 +50,6 @@ fn write_tuned(text: &mut String, tuned: &TunedEntry) -> Result<(), AllocError>
     text.push_str("\n")
 }
 
-// A number behind a space.
-fn write_number(text: &mut String, number: u64) -> Result<(), AllocError>
-    ensures { OnOk result (string_bytes text.new ≡ string_bytes text.old ++ 32 ∷ decimal number) }
-{
-    text.push_str(" ")?;
-    let mut digits = Buffer::new();
-    text.push_str(digits.format(number))
-}
-
 // The bytes of a packet behind a space, and the end of the line.
 fn write_packet(text: &mut String, bytes: &[u8]) -> Result<(), AllocError>
     ensures { OnOk result (string_bytes text.new ≡ string_bytes text.old ++ 32 ∷ hex_word bytes.now ++ codes "\n") }
@@ -67,26 +57,4 @@ fn write_packet(text: &mut String, bytes: &[u8]) -> Result<(), AllocError>
     text.push_str(" ")?;
     write_hex(text, bytes)?;
     text.push_str("\n")
-}
-
-fn write_hex(text: &mut String, bytes: &[u8]) -> Result<(), AllocError>
-    ensures { OnOk result (string_bytes text.new ≡ string_bytes text.old ++ hex_word bytes.now) }
-{
-    for b in bytes {
-        text.push(hex_digit(*b / 16))?;
-        text.push(hex_digit(*b % 16))?;
-    }
-    Ok(())
-}
-
-fn hex_digit(value: u8) -> char
-    requires { value < 16 }
-    ensures digit { result ≡ digit_glyph false value }
-    ensures ascii { result < 128 }
-{
-    if value < 10 {
-        char::from(b'0' + value)
-    } else {
-        char::from(b'a' + (value - 10))
-    }
 }

@@ -1,6 +1,6 @@
-ghost use Rattle.std.specs.Prelude.{◌≡◌, map, IfOk, string_bytes};
+ghost use Rattle.std.specs.Prelude.{◌≡◌, ◌++◌, map, flat_map, IfOk, OnOk, string_bytes};
 ghost use Rattle.air_log.specs.Entries.{node_of};
-ghost use Rattle.air_log.specs.LogText.{log_text, in_order, is_before, start_of, kind_of};
+ghost use Rattle.air_log.specs.LogText.{entry_line, log_text, in_order, is_before, start_of, kind_of};
 
 use crate::line_writers::write_entry;
 use crate::{Air, Entry};
@@ -12,26 +12,35 @@ use std::alloc::{AllocError, Global};
 pub fn text(alloc: Global, a: &Air) -> Result<String, Memory>
     ensures { IfOk result (λ text. string_bytes text ≡ log_text a.now) }
 {
-    Ok(text_of(alloc, a)?)
-}
-
-fn text_of(alloc: Global, a: &Air) -> Result<String, AllocError>
-    ensures { IfOk result (λ text. string_bytes text ≡ log_text a.now) }
-{
-    let sorted = entries_in_order(alloc, a.entries())?;
     let mut text = String::new(alloc);
-    for entry in &sorted {
-        write_entry(&mut text, entry)?;
-    }
+    write_text(alloc, &mut text, a)?;
     Ok(text)
 }
 
-// References are sorted, so that no entry is copied.
+/// Writes the log text behind another text.
+pub fn write_text(alloc: Global, text: &mut String, a: &Air) -> Result<(), Memory>
+    ensures { OnOk result (string_bytes text.new ≡ string_bytes text.old ++ log_text a.now) }
+{
+    let sorted = entries_in_order(alloc, a.entries())?;
+    write_entries(text, &sorted)?;
+    Ok(())
+}
+
+fn write_entries(text: &mut String, entries: &[&Entry]) -> Result<(), AllocError>
+    ensures { OnOk result (string_bytes text.new ≡ string_bytes text.old ++ flat_map entry_line (map (λ e. e.now) entries.now)) }
+{
+    for entry in entries {
+        write_entry(text, entry)?;
+    }
+    Ok(())
+}
+
+// References are sorted, so that no entry is copied, and each entry is read once for its place.
 fn entries_in_order(alloc: Global, entries: &[Entry]) -> Result<Vec<&Entry>, AllocError>
     ensures { IfOk result (λ v. map (λ e. e.now) v.items ≡ in_order is_before entries.now) }
 {
     let mut sorted: Vec<&Entry> = entries.iter().collect(alloc)?;
-    sorted.sort_by_key(|entry| place(entry))?;
+    sorted.sort_by_cached_key(|entry| place(entry))?;
     Ok(sorted)
 }
 

@@ -8,9 +8,10 @@ ghost use Rattle.air_log.specs.WindowSums.{opened_sum, sent_sum, noted};
 use lwb_base::{Packet, Profile};
 use std::marker::Model;
 
-// That the sum of all windows of a run is below 2^64 is a law of trails, so on the way it may wrap.
+/// What the windows of a node count so far, in ticks of 1/64 µs, for what runs nodes in true time. That the sum of all windows
+/// of a run is below 2^64 is a law of trails, so on the way it may wrap.
 #[derive(Drop)]
-pub(crate) struct WindowSum {
+pub struct WindowSum {
     profile: Profile,
     sends: u8,
     earlier: u64,
@@ -31,8 +32,8 @@ impl Model for WindowSum {
 }
 
 impl WindowSum {
-    // Of no windows. In one flood a node sends at most n times.
-    pub(crate) fn new(profile: &Profile, n: u8) -> WindowSum
+    /// Of no windows. In one flood a node sends at most n times.
+    pub fn new(profile: &Profile, n: u8) -> WindowSum
         ensures { result ≡ record { profile = profile.now; sends = n; earlier = 0; last = 0; by_alarm = false; sent = 0 } }
     {
         WindowSum {
@@ -45,8 +46,8 @@ impl WindowSum {
         }
     }
 
-    // After an event that found a window open or not, and left one open or not. With it the sending of this packet ended.
-    pub(crate) fn note(&mut self, before: bool, after: bool, by_alarm: bool, sent: Option<Packet>)
+    /// After an event that found a window open or not, and left one open or not. With it the sending of this packet ended.
+    pub fn note(&mut self, before: bool, after: bool, by_alarm: bool, sent: Option<Packet>)
         ensures after { self.new ≡ noted before after by_alarm sent self.old }
         ensures small { self.new.last ≤ 2 ^ 28 }
     {
@@ -62,8 +63,8 @@ impl WindowSum {
         }
     }
 
-    // As 64 bits have it.
-    pub(crate) fn total(&self) -> u64
+    /// As 64 bits have it.
+    pub fn total(&self) -> u64
         ensures { result ≡ (self.now.earlier + self.now.last) % 2 ^ 64 }
     {
         self.earlier.wrapping_add(self.last)

@@ -1,8 +1,37 @@
+-- kept for the crates above
 pub mod Elements
 pub mod LifeSteps
+pub mod DriftingClocks
+pub mod OnePacketZeros
+pub mod ObeyedOrders
+pub mod RowsOfDevices
+pub mod RowsLeave
+pub mod SentInTrails
+pub mod TunedInTrails
+pub mod HeardInTrails
+pub mod HostRanks
+pub mod LinesOfTick
+pub mod WalkOfRun
+pub mod UnstoppedTimes
+pub mod HeardReferences
+pub mod SlotBounds
+pub mod OtherCounters
+pub mod SaidPackets
+pub mod ProfilePackets
+pub mod CoresInRange
+pub mod SaidInRange
+pub mod WindowsInRange
+pub mod DevicesInRange
+pub mod TrailsInRange
+pub mod RelayedMessages
+pub mod LogsInRange
 pub mod LifeLaws
-mod LifeExamples
 pub mod HeedfulLogs
+pub mod FilteredElements
+pub mod MemberSteps
+pub mod UnmovedDevices
+-- for this crate alone
+mod LifeExamples
 mod SafeTests
 mod SafeFirstRound
 mod BrokenClauses
@@ -11,51 +40,24 @@ mod UnsafeSpeech
 mod TurnedLogs
 mod QuietTests
 pub mod TrailSteps
-pub mod DriftingClocks
 pub mod HostSteps
-pub mod MemberSteps
-pub mod OnePacketZeros
 pub mod LateOpening
 pub mod DuePlaces
 pub mod OnePacketTrails
 pub mod OnePacketHearings
 pub mod OnePacketLog
 mod OnePacketSafe
-pub mod FilteredElements
-pub mod ObeyedOrders
-pub mod RowsOfDevices
-pub mod RowsLeave
-pub mod SentInTrails
-pub mod TunedInTrails
 pub mod ChannelsHeard
-pub mod HeardInTrails
-pub mod HostRanks
-pub mod LinesOfTick
 pub mod KnownDevices
-pub mod UnmovedDevices
 pub mod StepsOfTick
-pub mod WalkOfRun
 pub mod AwakeNodes
-pub mod UnstoppedTimes
-pub mod HeardReferences
-pub mod SlotBounds
-pub mod OtherCounters
 pub mod PacketLengths
-pub mod SaidPackets
 pub mod WrittenAgain
-pub mod ProfilePackets
 pub mod StreamsInRange
 pub mod TablesInRange
 pub mod PlansInRange
 pub mod SpokenInRange
-pub mod CoresInRange
-pub mod SaidInRange
-pub mod WindowsInRange
 pub mod ClosingsInRange
 pub mod RowsInRange
-pub mod DevicesInRange
 pub mod BootsSoFar
-pub mod TrailsInRange
-pub mod RelayedMessages
-pub mod LogsInRange
 mod RangeExamples

@@ -4,15 +4,15 @@ pub mod OneInitiator
 pub mod FirstHearings
 pub mod LeastPaths
 pub mod SendingCounts
+pub mod ReceivedByPaths
+pub mod ReceivedInRounds
+pub mod OtherRanks
+pub mod NumbersKept
+pub mod ListsInTurn
 -- for this crate alone
 mod WorkedFloods
 mod WorkedBuses
-pub mod ReceivedByPaths
-pub mod ReceivedInRounds
 pub mod NumberedStreams
-pub mod ListsInTurn
-pub mod NumbersKept
-pub mod OtherRanks
 pub mod NumbersSaid
 pub mod OrderedDeliveries
 pub mod ReachByDistance

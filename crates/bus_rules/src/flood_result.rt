@@ -19,6 +19,7 @@ impl Model for FloodResult {
 }
 
 impl FloodResult {
+    /// What these accept, each with a step, 0 to 11, and so many sendings in all.
     pub fn new(accepts: Vec<(NodeId, u8)>, sent: u32) -> FloodResult
         ensures { result ≡ record { accepts = accepts.items; sent = sent } }
     {

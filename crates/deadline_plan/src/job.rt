@@ -4,7 +4,10 @@ use lwb_base::Owner;
 /// release.
 #[derive(Clone, Copy, Debug, PartialEq, Eq, PartialOrd, Ord)]
 pub struct Job {
+    /// The frame by which it has to have its slot: one past the last that may give it, 1 to 1,024.
     pub end: u32,
+    /// The stream that needs it.
     pub owner: Owner,
+    /// The first frame that may give it, 0 to 1,023.
     pub release: u32,
 }

@@ -4,6 +4,7 @@ use lwb_base::{NodeId, Owner};
 /// is `deadline` after that.
 #[derive(Clone, Copy, Debug, PartialEq, Eq)]
 pub struct DeadlineStream {
+    /// The node and its stream.
     pub owner: Owner,
     /// 0 to 1,023.
     pub start: u32,

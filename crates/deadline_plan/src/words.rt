@@ -44,14 +44,11 @@ fn is_blank(byte: u8) -> bool
 pub fn words(alloc: Global, line: &[u8]) -> Result<Vec<&[u8]>, Memory>
     ensures { IfOk result (λ v. map (λ w. w.now) v.items ≡ words_of line.now) }
 {
-    match line
+    let words = line
         .split(|b| is_blank(*b))
         .filter(|w| !w.is_empty())
-        .collect(alloc)
-    {
-        Ok(words) => Ok(words),
-        Err(_) => Err(Memory),
-    }
+        .collect(alloc)?;
+    Ok(words)
 }
 
 /// Word i, where the first is word 0, or nothing.

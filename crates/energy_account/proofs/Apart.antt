@@ -9,7 +9,7 @@ use Rattle.energy_account.specs.Apart.{AreApart}
 reversed : {X : Type 0} (y : X) (xs : List X) → reverse (y ∷ xs) ≡ reverse xs ++ y ∷ []
 reversed y xs = reverse-append (y ∷ []) xs
 
-all_reverse : {X : Type 0} (P : X → Type 0) (xs : List X) → All P xs → All P (reverse xs)
+pub all_reverse : {X : Type 0} (P : X → Type 0) (xs : List X) → All P xs → All P (reverse xs)
 all_reverse P [] all = all
 all_reverse {X} P (x ∷ xs) all =
     subst (λ (l : List X). All P l) (sym (reversed x xs)) (All-push P (reverse xs) x (all_reverse P xs (All-tail P x xs all)) (All-head P x xs all))

@@ -1,7 +1,9 @@
-pub mod WindowCharges
-pub mod FirstRoundEnergy
-pub mod Apart
-pub mod SendingsApart
-pub mod ReadOff
+mod CountedLines
+mod SummedTimes
 pub mod AccountLines
+pub mod Apart
+pub mod FirstRoundEnergy
+pub mod ReadOff
+pub mod SendingsApart
 pub mod StatedPlaces
+pub mod WindowCharges

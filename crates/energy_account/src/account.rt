@@ -1,14 +1,16 @@
-ghost use Rattle.std.specs.Prelude.{◌≡◌, IfOk, true};
+ghost use Rattle.std.specs.Prelude.{◌≡◌, ◌<◌, IfOk, true, length, get_or};
 ghost use Rattle.scenario_text.specs.FloodParts.{knows};
 ghost use Rattle.scenario_text.specs.ScenarioGrammar.{IsScenario};
 ghost use Rattle.scenario_clocks.specs.StatedClocks.{scenario_clock};
 ghost use Rattle.air_log.specs.Lawful.{Lawful};
+ghost use Rattle.air_log.specs.NodeCharges.{charges_in};
 ghost use Rattle.energy_account.specs.Accounts.{IsAccount, line_of};
 ghost use Rattle.energy_account.specs.Energies.{energy_of};
 
 use crate::Energy;
 use crate::energy::energy_told;
-use air_log::{Air, trail_of};
+use crate::times::Times;
+use air_log::{Air, NodeCharge, trail_of};
 use lwb_base::{Memory, NodeId};
 use scenario_clocks::stated_clocks;
 use scenario_text::Scenario;
@@ -55,12 +57,48 @@ impl Account {
         Ok(Account { lines })
     }
 
+    /// The same by what was counted while the run went on: what the listening of each node came to, by ascending ids.
+    pub fn of_run(
+        alloc: Global,
+        s: &Scenario,
+        a: &Air,
+        charges: &[NodeCharge],
+    ) -> Result<Account, Memory>
+        requires scenario { IsScenario s.now }
+        requires lawful { Lawful s.now (scenario_clock s.now) a.now }
+        requires charges { charges.now ≡ charges_in s.now (scenario_clock s.now) a.now }
+        ensures { IfOk result (λ account. IsAccount s.now (scenario_clock s.now) a.now account) }
+    {
+        let nodes = s.nodes();
+        let times = Times::of(alloc, a)?;
+        let mut lines = Vec::new(alloc);
+        for place in 0..nodes.len() {
+            let node = nodes[place].node;
+            let charge = charge_at(charges, place);
+            let energy = Energy {
+                sent: times.sent(node),
+                windows: charge.windows,
+                scanned: charge.scanned,
+                on: times.on(node),
+            };
+            lines.push(AccountLine { node, energy })?;
+        }
+        Ok(Account { lines })
+    }
+
     /// The energy of a node; None exactly where it is not in the scenario.
     pub fn line(&self, node: NodeId) -> Option<Energy>
         ensures { result ≡ line_of self.now node }
     {
         self.lines.iter().find(|l| l.node == node).map(|l| l.energy)
     }
+}
+
+fn charge_at(charges: &[NodeCharge], place: usize) -> NodeCharge
+    requires { place < length charges.now }
+    ensures { result ≡ get_or charges.now place result }
+{
+    charges[place]
 }
 
 // The energy of one node of the scenario, by the clock that the scenario states for it.

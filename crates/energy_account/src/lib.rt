@@ -4,6 +4,7 @@
 mod account;
 mod energy;
 pub mod energy_laws;
+mod times;
 
 pub use account::Account;
 pub use energy::Energy;

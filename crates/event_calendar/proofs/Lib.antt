@@ -1,4 +1,5 @@
 pub mod FirstOrders
 pub mod NextOrders
 pub mod OneOrder
+pub mod StalePlaces
 pub mod TreeOfWinners

@@ -1,5 +1,5 @@
 -- A tree of winners: node 1 is the root, the children of node i are 2 i and 2 i + 1, and the place p has the leaf 64 + p.
-use Rattle.std.specs.Prelude.{◌≡◌, ◌≢◌, ℕ, ◌+◌, ◌*◌, ◌<◌, ◌≤◌, List, Bool, ◌&&◌, ◌||◌, ◌==◌, nat_lt, if◌then◌else◌, length, slice_index_or, Some, None}
+use Rattle.std.specs.Prelude.{◌≡◌, ◌≢◌, ℕ, ◌+◌, ◌*◌, ◌<◌, ◌≤◌, List, Bool, ◌&&◌, ◌||◌, ◌==◌, nat_lt, if◌then◌else◌, length, slice_index_or, slice_set, Some, None}
 use Rattle.std.specs.declared.option.Option.{Option}
 use Rattle.std.specs.Option.{option_map}
 use Rattle.event_calendar.specs.declared.class.Class.{Class}
@@ -35,3 +35,18 @@ pub record IsTreeOf (map : List Due) (tree : List (Option Order)) : Type 0 where
   pub winners : HasWinnersBut 0 tree
   pub few : length map ≤ 64
   pub leaf : (place : ℕ) → place < 64 → node tree (64 + place) ≡ first_due place (due_at map place)
+
+-- the same, but the orders of one place, if any, may have changed since its leaf was set
+abbrev pub IsTreeBut : Option ℕ → List Due → List (Option Order) → Type 0
+IsTreeBut None map tree = IsTreeOf map tree
+IsTreeBut (Some place) map tree = (place < length map) × (earlier : Due) × IsTreeOf (slice_set map place earlier) tree
+
+-- a leaf has that order, and each match is played after that
+pub record IsReplayed (leaf : ℕ) (order : Option Order) (before after : List (Option Order)) : Type 0 where
+  pub winners : HasWinnersBut 0 after
+  pub changed : node after leaf ≡ order
+  pub others : (i : ℕ) → 64 ≤ i → i ≢ leaf → node after i ≡ node before i
+
+-- what the root has then
+abbrev pub IsWinnerWith : ℕ → Option Order → List (Option Order) → Option Order → Type 0
+IsWinnerWith leaf order before winner = (after : List (Option Order)) × IsReplayed leaf order before after × (winner ≡ node after 1)

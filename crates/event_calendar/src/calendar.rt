@@ -3,7 +3,7 @@ ghost use Rattle.event_calendar.specs.Orders.{nothing_due, changed, IsNext};
 
 use crate::Class;
 use crate::due::Due;
-use crate::winners::replay;
+use crate::stale::{play, play_other, winner_with};
 use lwb_base::Memory;
 use std::alloc::Global;
 use std::marker::Model;
@@ -13,18 +13,21 @@ use std::marker::Model;
 pub struct Calendar {
     due: Vec<Due>,
     tree: Vec<Option<(u64, Class, u8)>>,
+    // The place, if any, whose orders have changed since its matches were played. An order that is taken away is mostly
+    // followed by another one of its place, and one path is played for both.
+    stale: Option<u8>,
 }
 
 impl Model for Calendar {
     ghost use Rattle.std.specs.Prelude.{List};
     ghost use Rattle.event_calendar.specs.Orders.{Due as DueOf};
-    ghost use Rattle.event_calendar.specs.Winners.{IsTreeOf};
+    ghost use Rattle.event_calendar.specs.Winners.{IsTreeBut};
 
     ghost Value = { List DueOf };
 
     ghost view = { λ c. c.due.items };
 
-    ghost invariant = { λ c. IsTreeOf c.due.items c.tree.items };
+    ghost invariant = { λ c. IsTreeBut c.stale c.due.items c.tree.items };
 }
 
 impl Calendar {
@@ -35,7 +38,8 @@ impl Calendar {
     {
         let due = vec![in alloc; Due::nothing(); usize::from(places)]?;
         let tree = vec![in alloc; None; 128]?;
-        Ok(Calendar { due, tree })
+        let stale = None;
+        Ok(Calendar { due, tree, stale })
     }
 
     /// The map has that tick of 1/64 µs there, and all else stays. Places are counted from 0.
@@ -44,6 +48,7 @@ impl Calendar {
         ensures { self.new ≡ changed self.old place class (Some tick) }
     {
         self.change(place, class, Some(tick));
+        self.play_stale();
     }
 
     /// The map has nothing there, and all else stays. Places are counted from 0.
@@ -59,17 +64,32 @@ impl Calendar {
         ensures least { IsNext self.now result }
         ensures within { IfSome result (λ x. x.2 < length self.now) }
     {
-        self.tree[1]
+        match self.stale {
+            None => self.tree[1],
+            Some(place) => {
+                let index = usize::from(place);
+                winner_with(&self.tree, 64 + index, self.due[index].first(place))
+            }
+        }
     }
 
+    // The place is stale after that.
     fn change(&mut self, place: u8, class: Class, tick: Option<u64>)
         requires { place < length self.old }
         ensures { self.new ≡ changed self.old place class tick }
     {
-        let index = usize::from(place);
-        let due = &mut self.due[index];
-        due.set(class, tick);
-        let order = due.first(place);
-        replay(&mut self.tree, 64 + index, order);
+        play_other(&mut self.tree, &self.due, self.stale, place);
+        self.due[usize::from(place)].set(class, tick);
+        self.stale = Some(place);
+    }
+
+    // No place is stale after that.
+    fn play_stale(&mut self)
+        ensures { self.new ≡ self.old }
+    {
+        if let Some(place) = self.stale {
+            play(&mut self.tree, &self.due, place);
+            self.stale = None;
+        }
     }
 }

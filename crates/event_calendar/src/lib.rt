@@ -6,6 +6,7 @@ mod class;
 mod due;
 pub mod laws;
 mod orders;
+mod stale;
 mod winners;
 
 pub use calendar::Calendar;

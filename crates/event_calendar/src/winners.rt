@@ -8,10 +8,19 @@ use crate::Class;
 pub fn first(a: Option<(u64, Class, u8)>, b: Option<(u64, Class, u8)>) -> Option<(u64, Class, u8)>
     ensures { result ≡ winners.first a b }
 {
+    // Orders are taken apart and put together, since a copy of a whole one copies the gap behind its place, too.
     match (a, b) {
-        (None, _) => b,
-        (Some(x), None) => Some(x),
-        (Some(x), Some(y)) => Some(if is_before(y, x) { y } else { x }),
+        (None, None) => None,
+        (None, Some((tick, class, place))) | (Some((tick, class, place)), None) => {
+            Some((tick, class, place))
+        }
+        (Some((tick, class, place)), Some((other_tick, other_class, other_place))) => {
+            if is_before((other_tick, other_class, other_place), (tick, class, place)) {
+                Some((other_tick, other_class, other_place))
+            } else {
+                Some((tick, class, place))
+            }
+        }
     }
 }
 

@@ -1,6 +1,7 @@
 -- kept for the crates above
 pub mod Orders
 pub mod MaskBits
+pub mod SmallSeals
 -- for this crate alone
 pub mod Inserted
 pub mod Together
@@ -8,4 +9,3 @@ pub mod CaptureKeys
 pub mod MaskReads
 pub mod MasksOfPassing
 pub mod MasksOfReaching
-pub mod SmallSeals

@@ -30,6 +30,7 @@ impl NodeId {
         }
     }
 
+    /// The id, 1 to 200.
     pub fn number(&self) -> u8
         ensures value { result ≡ self.now }
         ensures range { (1 ≤ self.now) × (self.now ≤ 200) }

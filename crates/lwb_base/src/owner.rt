@@ -24,6 +24,7 @@ impl Model for Owner {
 }
 
 impl Owner {
+    /// The owner that is this stream, 0 to 3, of the node.
     pub fn new(node: NodeId, stream: u8) -> Owner
         requires { stream ≤ 3 }
         ensures { result ≡ code_of node stream }
@@ -44,6 +45,7 @@ impl Owner {
         }
     }
 
+    /// Four times the id and the stream: 4 to 803.
     pub fn code(&self) -> u16
         ensures value { result ≡ self.now }
         ensures range { (4 ≤ self.now) × (self.now ≤ 803) }
@@ -51,6 +53,7 @@ impl Owner {
         self.code
     }
 
+    /// The node of the stream.
     pub fn node(&self) -> NodeId
         ensures { result ≡ node_of self.now }
     {

@@ -26,6 +26,7 @@ impl Rank {
         if rank <= 3 { Some(Rank { rank }) } else { None }
     }
 
+    /// The rank, 0 to 3.
     pub fn number(&self) -> u8
         ensures value { result ≡ self.now }
         ensures range { self.now ≤ 3 }

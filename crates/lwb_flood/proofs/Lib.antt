@@ -1,5 +1,8 @@
 -- kept for the crates above
 pub mod NodeClocks
+pub mod RuleInRun
+pub mod Slots
+pub mod WholeFlood
 -- for this crate alone
 mod ClosingLoop
 mod EndOfSending
@@ -25,14 +28,11 @@ mod LogReading
 mod MemberPlaces
 mod NextMember
 mod NextSteps
-mod RuleInRun
 mod SendingCounts
 mod SendingTimes
-mod Slots
 mod Stations
 mod StepHearings
 mod StepTimes
 mod TunedWindows
 mod TwoNodeRun
-mod WholeFlood
 mod WorldLists

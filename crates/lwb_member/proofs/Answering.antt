@@ -1,53 +1,16 @@
 -- Requests that are put to a table, one after another, and acknowledgements in their places by code.
-use Rattle.std.proofs.Common.{◌≡◌, ◌≢◌, ℕ, zero, suc, ◌+◌, ◌-◌, ◌<◌, ◌≤◌, List, [], ◌∷◌, ◌++◌, Bool, true, false, not, ◌==◌, nat_lt, nat_le, cond, if◌then◌else◌, Some, None, length, get_or, set, take, fold, refl, sym, ◌∙◌, ap, subst, arith, eq-eqb, one-add}
-use Rattle.std.specs.Option.{unwrap_or}
-use Rattle.std.specs.List.{All, insert, list_all, position, position_or_len, slice_get}
+use Rattle.std.proofs.Common.{◌≡◌, ℕ, zero, suc, ◌+◌, ◌-◌, ◌<◌, ◌≤◌, List, [], ◌∷◌, ◌++◌, Bool, true, not, ◌==◌, nat_lt, nat_le, if◌then◌else◌, length, get_or, take, fold, refl, sym, ◌∙◌, ap, subst, arith}
+use Rattle.std.specs.List.{All, list_all, slice_get}
 use Rattle.std.proofs.lemmas.List.{take_more, length-take}
-use Rattle.std.proofs.lemmas.List.Sums.{fold_more, prefix_len-le-length}
-use Rattle.std.proofs.lemmas.Bool.{ne_eqb, eqb-true, eqb-false, lt-ltb, le-ltb, ltb-false, leb-true, leb-false, and_parts, cond_both}
+use Rattle.std.proofs.lemmas.List.Sums.{fold_more}
+use Rattle.std.proofs.lemmas.Bool.{eqb-true, eqb-false, lt-ltb, ltb-false, leb-true, and_parts, cond_both}
 use Rattle.std.proofs.lemmas.List.Elements.{All-cons, All-head, All-tail, All-filter}
 use Rattle.lwb_base.specs.Messages.{Ask, code, code_of, node_of, stream_of}
 use Rattle.schedule_codec.specs.AckLists.{are_acks, strictly_ascend, ask_in_range, may_follow, takes_ack}
 use Rattle.bus_rules.specs.Streams.{Streams}
 use Rattle.bus_rules.specs.Tables.{Entry, Table, new_entry, with_entry, without, is_full, has_code, after_request}
 use Rattle.bus_rules.specs.HostPlans.{Answered, Served, with_ack, answer, answered, serve}
-use Rattle.lwb_member.specs.Planning.{AreAnswers, from_code, IsEarly}
-
--- an acknowledgement in its place
-replaced_by_test : (a b : Ask) (bs : List Ask) (t : Bool) → from_code (code_of a) b ≡ t
-    → cond (not t) (1 + position_or_len (from_code (code_of a)) bs) 0 < suc (length bs)
-    → code_of (get_or (b ∷ bs) (cond (not t) (1 + position_or_len (from_code (code_of a)) bs) 0) a) ≡ code_of a
-    → (position_or_len (from_code (code_of a)) bs < length bs → code_of (get_or bs (position_or_len (from_code (code_of a)) bs) a) ≡ code_of a → with_ack a bs ≡ set bs (position_or_len (from_code (code_of a)) bs) a)
-    → with_ack a (b ∷ bs) ≡ set (b ∷ bs) (cond (not t) (1 + position_or_len (from_code (code_of a)) bs) 0) a
-replaced_by_test a b bs true is within same rest = rw (eq-eqb (code_of a) (code_of b) (sym same)) refl
-replaced_by_test a b bs false is within same rest =
-    let below = leb-false (code_of a) (code_of b) is in
-    let apart : code_of a ≢ code_of b = omega arith in
-    rw (ne_eqb (code_of a) (code_of b) apart, le-ltb (code_of a) (code_of b) (omega arith), one-add) (ap (λ (l : List Ask). b ∷ l) (rest (omega arith) (subst (λ (n : ℕ). code_of (get_or (b ∷ bs) n a) ≡ code_of a) (one-add (position_or_len (from_code (code_of a)) bs)) same)))
-
-pub replaced : (a : Ask) (bs : List Ask) → position_or_len (from_code (code_of a)) bs < length bs → code_of (get_or bs (position_or_len (from_code (code_of a)) bs) a) ≡ code_of a
-    → with_ack a bs ≡ set bs (position_or_len (from_code (code_of a)) bs) a
-replaced a [] within same = absurd (omega arith)
-replaced a (b ∷ bs) within same = replaced_by_test a b bs (from_code (code_of a) b) refl within same (replaced a bs)
-
-inserted_by_test : (a b : Ask) (bs : List Ask) (t : Bool) → from_code (code_of a) b ≡ t
-    → (cond (not t) (1 + position_or_len (from_code (code_of a)) bs) 0 < suc (length bs) → code_of (get_or (b ∷ bs) (cond (not t) (1 + position_or_len (from_code (code_of a)) bs) 0) a) ≢ code_of a)
-    → ((position_or_len (from_code (code_of a)) bs < length bs → code_of (get_or bs (position_or_len (from_code (code_of a)) bs) a) ≢ code_of a) → with_ack a bs ≡ insert bs (position_or_len (from_code (code_of a)) bs) a)
-    → with_ack a (b ∷ bs) ≡ insert (b ∷ bs) (cond (not t) (1 + position_or_len (from_code (code_of a)) bs) 0) a
-inserted_by_test a b bs true is apart rest =
-    let from = leb-true (code_of a) (code_of b) is in
-    let other : code_of b ≢ code_of a = apart (omega arith) in
-    let turned : code_of a ≢ code_of b = omega arith in
-    rw (ne_eqb (code_of a) (code_of b) turned, lt-ltb (code_of a) (code_of b) (omega arith)) refl
-inserted_by_test a b bs false is apart rest =
-    let below = leb-false (code_of a) (code_of b) is in
-    let other : code_of a ≢ code_of b = omega arith in
-    rw (ne_eqb (code_of a) (code_of b) other, le-ltb (code_of a) (code_of b) (omega arith), one-add) (ap (λ (l : List Ask). b ∷ l) (rest (λ within. subst (λ (n : ℕ). code_of (get_or (b ∷ bs) n a) ≢ code_of a) (one-add (position_or_len (from_code (code_of a)) bs)) (apart (omega arith)))))
-
-pub inserted : (a : Ask) (bs : List Ask) → (position_or_len (from_code (code_of a)) bs < length bs → code_of (get_or bs (position_or_len (from_code (code_of a)) bs) a) ≢ code_of a)
-    → with_ack a bs ≡ insert bs (position_or_len (from_code (code_of a)) bs) a
-inserted a [] apart = refl
-inserted a (b ∷ bs) apart = inserted_by_test a b bs (from_code (code_of a) b) refl apart (inserted a bs)
+use Rattle.lwb_member.specs.Planning.{AreAnswers, IsEarly}
 
 -- the order by codes stays
 abbrev leads : Ask → List Ask → Bool
@@ -116,32 +79,6 @@ request_early frame t a all =
     (λ room. cond_both (a.interval == 0) (without (code_of a) t.entries) (with_entry (new_entry a frame) t.entries) (All (Early frame))
     (λ ends. All-filter (λ (e : Entry). not (has_code (code_of a) e)) (Early frame) t.entries all)
     (λ asks. with_early frame (new_entry a frame) t.entries (omega arith) all))
-
--- the place that was found, or the length
-pub place_or_end : (p : Ask → Bool) (xs : List Ask) → unwrap_or (position p xs) (length xs) ≡ position_or_len p xs
-place_or_end p xs = of_test (nat_lt (position_or_len p xs) (length xs)) refl
-  where
-    of_test : (b : Bool) → nat_lt (position_or_len p xs) (length xs) ≡ b → unwrap_or (if b then Some (position_or_len p xs) else None) (length xs) ≡ position_or_len p xs
-    of_test true is = refl
-    of_test false is = omega (arith, ltb-false (position_or_len p xs) (length xs) is, prefix_len-le-length (λ (a : Ask). not (p a)) xs)
-
-module _ (a : Ask) (bs xs after : List Ask) (n c : ℕ) (same : xs ≡ bs) (coded : c ≡ code_of a) (placed : n ≡ position_or_len (from_code c) xs) where
-  at : n ≡ position_or_len (from_code (code_of a)) bs
-  at = placed ∙ ap (λ (d : ℕ). position_or_len (from_code d) xs) coded ∙ ap (λ (l : List Ask). position_or_len (from_code (code_of a)) l) same
-
-  pub replaced_at : n < length xs → code_of (get_or xs n a) ≡ c → after ≡ set bs n a → after ≡ with_ack a bs
-  replaced_at within here is =
-      let k = position_or_len (from_code (code_of a)) bs in
-      let less : k < length bs = omega (arith, sym at, within, ap length same) in
-      let code : code_of (get_or bs k a) ≡ code_of a = ap (λ (m : ℕ). code_of (get_or bs m a)) (sym at) ∙ ap (λ (l : List Ask). code_of (get_or l n a)) (sym same) ∙ here ∙ coded in
-      is ∙ ap (λ (m : ℕ). set bs m a) at ∙ sym (replaced a bs less code)
-
-  pub inserted_at : (n < length xs → code_of (get_or xs n a) ≢ c) → after ≡ insert bs n a → after ≡ with_ack a bs
-  inserted_at apart is =
-      let k = position_or_len (from_code (code_of a)) bs in
-      let other : k < length bs → code_of (get_or bs k a) ≢ code_of a = λ less here.
-      apart (omega (arith, at, less, ap length same)) (ap (λ (l : List Ask). code_of (get_or l n a)) same ∙ ap (λ (m : ℕ). code_of (get_or bs m a)) at ∙ here ∙ sym coded) in
-      is ∙ ap (λ (m : ℕ). insert bs m a) at ∙ sym (inserted a bs other)
 
 -- each may follow those before it
 follows_at : (xs : List Ask) (i n : ℕ) (a : Ask) → strictly_ascend xs ≡ true → suc n ≡ i → i < length xs → a ≡ get_or xs i a → may_follow (slice_get (take i xs) n) a ≡ true

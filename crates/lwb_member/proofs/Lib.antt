@@ -5,6 +5,7 @@ pub mod Told
 pub mod Answering
 pub mod HostPlanned
 -- for this crate alone
+pub mod AnswersInOrder
 pub mod Meanings
 pub mod Beginning
 pub mod Accepting

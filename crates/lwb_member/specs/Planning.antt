@@ -1,13 +1,9 @@
 -- What holds while a host plans.
-use Rattle.std.specs.Prelude.{◌≡◌, ℕ, ◌≤◌, true, Bool, nat_le, List, length, All}
+use Rattle.std.specs.Prelude.{◌≡◌, ℕ, ◌≤◌, true, List, length, All}
 use Rattle.std.specs.List.{list_all}
-use Rattle.lwb_base.specs.Messages.{Ask, code_of}
+use Rattle.lwb_base.specs.Messages.{Ask}
 use Rattle.schedule_codec.specs.AckLists.{strictly_ascend, ask_in_range}
 use Rattle.bus_rules.specs.Tables.{Entry, Table}
-
--- its code is not below this one
-abbrev pub from_code : ℕ → Ask → Bool
-from_code c a = nat_le c (code_of a)
 
 -- acknowledgements while they are collected: by ascending code, each in its ranges
 pub record AreAnswers (acks : List Ask) : Type 0 where

@@ -1,6 +1,6 @@
-ghost use Rattle.std.specs.Prelude.{◌≡◌};
 ghost use Rattle.lwb_base.specs.Messages.{code_of};
 
+use code_order::Coded;
 use lwb_base::NodeId;
 use schedule_codec::Ack;
 use std::marker::Model;
@@ -34,11 +34,11 @@ impl Default for Kept {
     }
 }
 
-impl Kept {
-    // The code of the stream's owner.
-    pub(crate) fn code(&self) -> u16
-        ensures { result ≡ code_of self.now }
-    {
+// By the code of the stream's owner.
+impl Coded for Kept {
+    ghost code_of = { code_of };
+
+    fn code(&self) -> u16 {
         let stream = self.ask.stream;
         u16::from(self.ask.node.number()) * 4 + u16::from(stream)
     }

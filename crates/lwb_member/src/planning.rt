@@ -13,7 +13,7 @@ ghost use Rattle.bus_rules.specs.HostPlans.{with_ack, answer, answered, serve, s
 ghost use Rattle.bus_rules.specs.Slots.{host_closes};
 ghost use Rattle.lwb_member.specs.Members.{IsBoot};
 ghost use Rattle.lwb_member.specs.Said.{said_in, message_of, IsSaid};
-ghost use Rattle.lwb_member.specs.Planning.{AreAnswers, AreKept, IsEarly, from_code};
+ghost use Rattle.lwb_member.specs.Planning.{AreAnswers, AreKept, IsEarly};
 
 use crate::kept::Kept;
 use crate::member::Member;
@@ -84,7 +84,6 @@ fn answer_one(table: &mut Table, answers: &mut ArrayVec<Kept, 4>, ask: Ack, fram
 }
 
 // By ascending code, and instead of one of the same code.
-#[tactic(auto, using(crate::proofs::Answering::with_ascends, crate::proofs::Answering::with_ranges))]
 fn put_answer(answers: &mut ArrayVec<Kept, 4>, ask: Ack)
     requires few { length answers.old.items < 4 }
     requires ask { ask_in_range ask ≡ true }
@@ -93,45 +92,7 @@ fn put_answer(answers: &mut ArrayVec<Kept, 4>, ask: Ack)
     ensures few { length answers.new.items ≤ length answers.old.items + 1 }
     ensures are { AreAnswers answers.new.items }
 {
-    let kept = Kept { ask };
-    let code = kept.code();
-    let list = answers.as_slice();
-    let place = place_for(list, code);
-    if stands_at(list, place, code) {
-        set(answers, place, kept);
-    } else {
-        answers.insert(place, kept);
-    }
-}
-
-// The place of the first whose code is not below this one, or their number.
-#[tactic(auto, using(crate::proofs::Answering::place_or_end))]
-fn place_for(answers: &[Kept], code: u16) -> usize
-    ensures value { result ≡ position_or_len (from_code code) answers.now }
-    ensures within { result ≤ length answers.now }
-{
-    first_from(answers, code).unwrap_or(answers.len())
-}
-
-fn first_from(answers: &[Kept], code: u16) -> Option<usize>
-    ensures value { result ≡ position (from_code code) answers.now }
-    ensures within { IfSome result (λ i. i < length answers.now) }
-{
-    answers.iter().position(|kept| kept.code() >= code)
-}
-
-fn stands_at(answers: &[Kept], place: usize, code: u16) -> bool
-    ensures stands { result ≡ true → (place < length answers.now) × ((d : Ask) → code_of (get_or answers.now place d) ≡ code) }
-    ensures apart { result ≡ false → place < length answers.now → (d : Ask) → code_of (get_or answers.now place d) ≢ code }
-{
-    place < answers.len() && answers[place].code() == code
-}
-
-fn set(answers: &mut ArrayVec<Kept, 4>, place: usize, kept: Kept)
-    requires { place < length answers.old.items }
-    ensures { answers.new.items ≡ slice_set answers.old.items place kept }
-{
-    answers[place] = kept;
+    code_order::put(answers, Kept { ask });
 }
 
 fn as_acks(answers: &[Kept]) -> Acks

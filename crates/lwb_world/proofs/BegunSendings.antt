@@ -66,7 +66,7 @@ module _ (t p : ℕ) (w : FieldState) (field : IsField w) (due : List Due) (st n
   -- where nothing starts
   module _ (is : (made : Made) → begun st.setup t (whole st made) ≡ whole new (with_sent None made)) where
     abbrev silent_field : FieldState
-    silent_field = record { medium = w.medium; devices = set w.devices p new; air = w.air; deliveries = w.deliveries; drops = w.drops }
+    silent_field = record { medium = w.medium; devices = set w.devices p new; air = w.air; deliveries = w.deliveries; drops = w.drops; sums = w.sums }
 
     abbrev silent_due : List Due
     silent_due = changed due p SendingStart None
@@ -96,6 +96,7 @@ module _ (t p : ℕ) (w : FieldState) (field : IsField w) (due : List Due) (st n
             sending = known.sending ∙ ap (λ (e : Device). e.sending) (sym silent_now);
             set = silent_set;
           };
+          counted = sh.counted;
           ended = sh.ended;
           happened = keeps_time t sh.happened;
           taken = node.delivery ∙ sh.taken;
@@ -113,6 +114,7 @@ module _ (t p : ℕ) (w : FieldState) (field : IsField w) (due : List Due) (st n
           deliveries = refl;
           station = refl;
           due = elsewhere due p q _ other;
+          sums = refl;
         }) shows;
         hearings = refl;
         sendings = sym (append-nil (sendings_of w.air));
@@ -142,7 +144,7 @@ module _ (t p : ℕ) (w : FieldState) (field : IsField w) (due : List Due) (st n
   -- where x starts
   module _ (x : Sending) (is : (made : Made) → begun st.setup t (whole st made) ≡ whole new (with_sent (Some x) made)) where
     abbrev begun_field : FieldState
-    begun_field = record { medium = after t x.node (started w.medium.numbers t x.packet) w.medium; devices = set w.devices p new; air = w.air ++ sent_entry x ∷ []; deliveries = w.deliveries; drops = w.drops }
+    begun_field = record { medium = after t x.node (started w.medium.numbers t x.packet) w.medium; devices = set w.devices p new; air = w.air ++ sent_entry x ∷ []; deliveries = w.deliveries; drops = w.drops; sums = w.sums }
 
     abbrev begun_due : List Due
     begun_due = changed (changed due p SendingStart None) p SendingEnd (Some x.end)
@@ -224,6 +226,7 @@ module _ (t p : ℕ) (w : FieldState) (field : IsField w) (due : List Due) (st n
             sending = station_sends ∙ ap (λ (e : Device). e.sending) (sym begun_now);
             set = begun_set;
           };
+          counted = sh.counted;
           ended = sh.ended;
           happened = keeps_time t sh.happened;
           taken = node.delivery ∙ sh.taken;
@@ -239,6 +242,7 @@ module _ (t p : ℕ) (w : FieldState) (field : IsField w) (due : List Due) (st n
           deliveries = refl;
           station = other_station w.medium t x.node (started w.medium.numbers t x.packet) (started_keeps w.medium.numbers t x.packet).node s.id apart;
           due = elsewhere (changed due p SendingStart None) p q _ other ∙ elsewhere due p q _ other;
+          sums = refl;
         }) shows
 
     begun_time : IsTime begun_field.medium t

@@ -21,7 +21,7 @@ use Rattle.air_log.specs.Entries.{sending_in, hearing_in, tuning_in, sendings_of
 use Rattle.air_log.specs.Lawful.{sent_by, tuned_by}
 use Rattle.air_log.specs.Devices.{Device, Made}
 use Rattle.air_log.specs.DeviceStates.{DeviceState, whole, tuning_of, one_more, EndedBefore, HappenedBy}
-use Rattle.lwb_world.specs.Fields.{FieldState, Shows, IsField, IsLogged, entries_of, setup_of, id_of, setups_of, ids_of, due_of, rank_of, channel_of}
+use Rattle.lwb_world.specs.Fields.{FieldState, Shows, IsField, HasCounted, IsLogged, entries_of, setup_of, id_of, setups_of, ids_of, due_of, rank_of, channel_of}
 use Rattle.lwb_world.specs.FieldSteps.{GoesOn, AreSame, Acts}
 use Rattle.lwb_world.proofs.ActsInTurn.{same_ids}
 use Rattle.lwb_world.proofs.DevicePlaces.{at_set, at_other, map_stays, apart_at, contains_at}
@@ -109,6 +109,7 @@ pub record IsStepAt (t p : ℕ) (state after : DeviceState) (closed : Option Tun
   pub due : slice_get new_due p ≡ Some (due_of after)
   pub dues : (q : ℕ) → q ≢ p → slice_get new_due q ≡ slice_get old_due q
   pub places : length new_due ≡ length old_due
+  pub sums : (q : ℕ) → q ≢ p → slice_get new.sums q ≡ slice_get old.sums q
 
 -- what the device has made goes on
 pub record GoesOnMaking (closed : Option TunedEntry) (delivery : Option Delivery) (before after : Made) : Type 0 where
@@ -186,6 +187,7 @@ module _ (t p : ℕ) (state after : DeviceState) (closed : Option TunedEntry) (d
           sending = known.sending;
           set = is.dues q other ∙ known.set;
         };
+        counted = record { sum = shows.counted.sum; there = is.sums q other ∙ shows.counted.there; is = shows.counted.is; few = shows.counted.few };
         ended = shows.ended;
         happened = shows.happened;
         taken = shows.taken;
@@ -200,7 +202,8 @@ module _ (t p : ℕ) (state after : DeviceState) (closed : Option TunedEntry) (d
 
   module _ (taken : after.delivery ≡ None) (happened : HappenedBy t after) (before : IfSome closed (λ e. e.end < t)) (change : Setup → Device → Device) (making : Made → Made)
       (goes : (made : Made) → GoesOnMaking closed delivery made (making made))
-      (comes : (made : Made) → EndedBefore t made.tuned → change state.setup (whole state made) ≡ whole after (making made)) where
+      (comes : (made : Made) → EndedBefore t made.tuned → change state.setup (whole state made) ≡ whole after (making made))
+      (counts : (made : Made) → HasCounted old.sums p state.setup made.windows → HasCounted new.sums p state.setup (making made).windows) where
     pub shown_own : (s : Setup) (d : Device) → Shows s t old old_due p d → Shows s t new new_due p (change s d)
     shown_own s d shows =
         let same = same_state s d shows in
@@ -215,6 +218,7 @@ module _ (t p : ℕ) (state after : DeviceState) (closed : Option TunedEntry) (d
           is = sym (comes made shows.ended) ∙ ap (λ (x : DeviceState). change state.setup (whole x made)) (sym same) ∙ ap (λ (x : Setup). change x (whole shows.state made)) is_s ∙ ap (change s) shows.is;
           logged = subst (λ (v : ℕ). IsLogged new v (making made)) (sym own) (logged_own made (making made) (goes made) (subst (λ (v : ℕ). IsLogged old v made) own shows.logged));
           known = record { station = is.station.station; there = is.station.there; tuned = is.station.tuned; sending = is.station.sending; set = is.due };
+          counted = subst (λ (z : Setup). HasCounted new.sums p z (making made).windows) is_s (counts made (subst (λ (z : Setup). HasCounted old.sums p z made.windows) (sym is_s) shows.counted));
           ended = subst (λ (l : List Tuning). EndedBefore t l) (sym (goes made).tuned) (ended_more t closed made.tuned before shows.ended);
           happened = happened;
           taken = taken;

@@ -24,12 +24,14 @@ use Rattle.air_log.proofs.AlarmLoop.{early_in_run}
 use Rattle.air_log.specs.ClockLists.{clocks_by}
 use Rattle.lwb_world.specs.Fields.{FieldState, Shows, IsShown}
 use Rattle.lwb_world.specs.FieldSteps.{Acts, EndsSending, Sends, readings_at}
+use Rattle.lwb_world.specs.Counting.{TrailsStay}
 use Rattle.lwb_world.specs.Frames.{IsPast}
 use Rattle.lwb_world.specs.Moments.{At}
 use Rattle.lwb_world.specs.Running.{IsRunning}
 use Rattle.lwb_world.proofs.AlarmsAtPlaces.{alarms_end}
 use Rattle.lwb_world.proofs.ClocksAtPlaces.{all_drift, own_clock, clocks_at_places}
-use Rattle.lwb_world.proofs.HeardAtEnds.{not_own}
+use Rattle.lwb_world.proofs.CountedScans.{acts_stay, end_stays}
+use Rattle.lwb_world.proofs.HeardAtEnds.{not_own, heard_at_end}
 use Rattle.lwb_world.proofs.KnownAtPlaces.{shown_within, sends_at, ends_at_place}
 use Rattle.lwb_world.proofs.PastOrders.{past, later_places, were_at, were_at_end, alarm_gone, start_gone}
 use Rattle.lwb_world.proofs.PlacedNodes.{node_of_place, as_many_devices, at_place}
@@ -89,7 +91,7 @@ module _ {C : Type 0} (R : C → ℕ → ℕ) (law : (c : C) → IsClock (R c)) 
 
       pub end_done : (lines : Lines) → lines ≡ s.trace → (new : FieldState) (new_due : List Due)
           → ((x : Sending) → Sends t old old_due p x → (hearers : List ℕ) × EndsSending lines (readings_at R cs) t p x hearers old old_due new new_due)
-          → IsRunning s clocks told t (At SendingEnd) new new_due × IsPast t SendingEnd p new_due
+          → IsRunning s clocks told t (At SendingEnd) new new_due × IsPast t SendingEnd p new_due × TrailsStay s clocks t old.air new.air
       end_done lines by_trace new new_due done =
           let x = sending.0 in
           let all = done x sending.2 in
@@ -99,6 +101,7 @@ module _ {C : Type 0} (R : C → ℕ → ℕ) (law : (c : C) → IsClock (R c)) 
             after,
             past s clocks sound drifts told t within SendingEnd p few new new_due after
                 (later_places t SendingEnd p old_due new_due next_end (were_at_end s clocks told t p SendingEnd old old_due new new_due run_end_of after lines (readings_at R cs) x all.0 all.1 deaf refl)),
+            end_stays s clocks t x all.0 old.air new.air sending.1 (heard_at_end s clocks sound lines by_trace (readings_at R cs) t p x sending.1 all.0 old old_due new new_due all.1 run_end_of.places run_end_of.trails sending.2 node.0 node.1 air.scene air.holds _ air.has),
           )
 
     -- alarms
@@ -113,13 +116,14 @@ module _ {C : Type 0} (R : C → ℕ → ℕ) (law : (c : C) → IsClock (R c)) 
       alarms_over = alarms_end s clocks t p (R c) (own_clock R s sound cs count p c clock) old old_due sound drifts within run.places run_alarm_of.trails
 
       pub alarm_done : (new : FieldState) (new_due : List Due) → Acts t p (λ x d. alarmed (R c) x t d) [] [] old old_due new new_due
-          → IsRunning s clocks told t (At Alarm) new new_due × IsPast t Alarm p new_due
+          → IsRunning s clocks told t (At Alarm) new new_due × IsPast t Alarm p new_due × TrailsStay s clocks t old.air new.air
       alarm_done new new_due acts =
           let after = alarm_goes_on s clocks sound told t p node.0 node.1 old old_due new new_due drifts within (R c) (own_clock R s sound cs count p c clock) acts run_alarm_of in (
             after,
             past s clocks sound drifts told t within Alarm p few new new_due after
                 (later_places t Alarm p old_due new_due next_alarm (were_at s clocks told t p Alarm old old_due new new_due run_alarm_of after (λ x d. alarmed (R c) x t d) [] [] acts
                 (λ x d shows. alarm_gone (R c) x t d (alarms_over x d shows)))),
+            acts_stay s clocks t p (λ x d. alarmed (R c) x t d) [] [] old old_due new new_due acts,
           )
 
     -- a start
@@ -132,7 +136,7 @@ module _ {C : Type 0} (R : C → ℕ → ℕ) (law : (c : C) → IsClock (R c)) 
 
       pub start_done : (new : FieldState) (new_due : List Due)
           → (starts : List Sending) × Acts t p (λ x d. begun x t d) starts [] old old_due new new_due × ((x : Setup) (d : Device) → Shows x t old old_due p d → starts ≡ starting x t d)
-          → IsRunning s clocks told t (At SendingStart) new new_due × IsPast t SendingStart p new_due
+          → IsRunning s clocks told t (At SendingStart) new new_due × IsPast t SendingStart p new_due × TrailsStay s clocks t old.air new.air
       start_done new new_due all =
           let c = at_place cs p in_clocks in
           let after = begin_goes_on s clocks sound told t p node.0 node.1 old old_due new new_due drifts within (R c.0) (own_clock R s sound cs count p c.0 c.1) all.0 all.1 all.2 run_start_of in (
@@ -140,4 +144,5 @@ module _ {C : Type 0} (R : C → ℕ → ℕ) (law : (c : C) → IsClock (R c)) 
             past s clocks sound drifts told t within SendingStart p few new new_due after
                 (later_places t SendingStart p old_due new_due next_start (were_at s clocks told t p SendingStart old old_due new new_due run_start_of after (λ x d. begun x t d) all.0 [] all.1
                 (λ x d shows. start_gone x t d))),
+            acts_stay s clocks t p (λ x d. begun x t d) all.0 [] old old_due new new_due all.1,
           )

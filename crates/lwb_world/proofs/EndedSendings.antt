@@ -71,20 +71,20 @@ one_there ds p a b at_a at_b = of_some (sym at_a ∙ at_b)
     of_some is = cc
 
 abbrev pub over : ℕ → ℕ → DeviceState → FieldState → FieldState
-over t p st w = record { medium = after t st.setup.id finished w.medium; devices = set w.devices p (record st { sending = None }); air = w.air; deliveries = w.deliveries; drops = w.drops }
+over t p st w = record { medium = after t st.setup.id finished w.medium; devices = set w.devices p (record st { sending = None }); air = w.air; deliveries = w.deliveries; drops = w.drops; sums = w.sums }
 
 -- what the code makes of it
 pub as_over : (t i p u : ℕ) (w : FieldState) (m : MediumState) (st new : DeviceState) → i ≡ p → u ≡ st.setup.id → m ≡ after t u finished w.medium → new ≡ record st { sending = None }
-    → record { medium = m; devices = set w.devices i new; air = w.air; deliveries = w.deliveries; drops = w.drops } ≡ over t p st w
+    → record { medium = m; devices = set w.devices i new; air = w.air; deliveries = w.deliveries; drops = w.drops; sums = w.sums } ≡ over t p st w
 as_over t i p u w m st new place node medium device =
     ap with_medium (medium ∙ ap (λ (v : ℕ). after t v finished w.medium) node)
     ∙ ap with_devices (ap (λ (k : ℕ). set w.devices k new) place ∙ ap (set w.devices p) device)
   where
     with_medium : MediumState → FieldState
-    with_medium k = record { medium = k; devices = set w.devices i new; air = w.air; deliveries = w.deliveries; drops = w.drops }
+    with_medium k = record { medium = k; devices = set w.devices i new; air = w.air; deliveries = w.deliveries; drops = w.drops; sums = w.sums }
 
     with_devices : List DeviceState → FieldState
-    with_devices l = record { medium = after t st.setup.id finished w.medium; devices = l; air = w.air; deliveries = w.deliveries; drops = w.drops }
+    with_devices l = record { medium = after t st.setup.id finished w.medium; devices = l; air = w.air; deliveries = w.deliveries; drops = w.drops; sums = w.sums }
 
 -- the device says that it ends
 pub says_end : (t : ℕ) (sending r : Option Sending) (x : Sending) → sending ≡ Some x → x.end ≡ t → r ≡ ending_at t sending → r ≡ Some x
@@ -132,6 +132,7 @@ module _ (t p : ℕ) (w : FieldState) (due : List Due) (st : DeviceState) (x : S
           sending = refl;
           set = due_there due p SendingEnd None (due_of st) known.set;
         };
+        counted = sh.counted;
         ended = sh.ended;
         happened = record { closed = sh.happened.closed; listening = sh.happened.listening };
         taken = sh.taken;
@@ -147,6 +148,7 @@ module _ (t p : ℕ) (w : FieldState) (due : List Due) (st : DeviceState) (x : S
         deliveries = refl;
         station = other_station w.medium t st.setup.id finished finished_keeps.node s.id apart;
         due = elsewhere due p q _ other;
+        sums = refl;
       }) shows
 
   over_time : IsTime (over t p st w).medium t

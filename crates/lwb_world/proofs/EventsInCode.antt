@@ -7,10 +7,13 @@ use Rattle.event_calendar.specs.declared.class.Class.{Class}
 use Rattle.event_calendar.specs.declared.class.Class.TheVariants.{SendingEnd, Alarm, SendingStart}
 use Rattle.event_calendar.specs.Orders.{Due, Stands, IsNext, rank}
 use Rattle.air_log.specs.Trails.{run_end, frame_start}
+use Rattle.air_log.specs.declared.entry.Entry.{Entry}
+use Rattle.lwb_world.specs.Counting.{TrailsStay}
 use Rattle.lwb_world.specs.Fields.{FieldState}
 use Rattle.lwb_world.specs.Moments.{Before, At}
 use Rattle.lwb_world.specs.Running.{IsRunning}
 use Rattle.lwb_world.specs.Frames.{key, IsPast, least_from}
+use Rattle.lwb_world.proofs.CountedScans.{stay_same, stay_then, stay_until}
 use Rattle.lwb_world.proofs.NextMoments.{NoneBefore, none_before_next, none_stands, none_earlier, starts_apart}
 use Rattle.lwb_world.proofs.PlacedNodes.{as_many_devices}
 use Rattle.lwb_world.proofs.QueueKeys.{least_from_below, above_least}
@@ -18,13 +21,14 @@ use Rattle.lwb_world.proofs.RunPlaces.{place_of_order}
 use Rattle.lwb_world.proofs.RunsGoOn.{small_start, comes_next, frame_over}
 use Rattle.lwb_world.proofs.TrailsGoOn.{AreClocks}
 
--- the run has come to some tick of the frame
-pub record IsWithin (s : ScenarioParts) (clocks : ℕ → ℕ → ℕ) (told : List ScriptLine) (f : ℕ) (w : FieldState) (due : List Due) : Type 0 where
+-- the run has come to some tick of the frame, at the beginning of which this log was there
+pub record IsWithin (first : List Entry) (s : ScenarioParts) (clocks : ℕ → ℕ → ℕ) (told : List ScriptLine) (f : ℕ) (w : FieldState) (due : List Due) : Type 0 where
   pub tick : ℕ
   pub class : Class
   pub from : frame_start s f ≤ tick
   pub until : tick < frame_start s (suc f)
   pub running : IsRunning s clocks told tick (At class) w due
+  pub stay : TrailsStay s clocks (frame_start s f) first w.air
 
 -- how much of the frame is ahead
 abbrev pub last_key : ScenarioParts → ℕ → ℕ
@@ -50,20 +54,21 @@ nearer s f t class p old_due new_due few before stands past =
         small_rank SendingStart = omega arith
 
 module _ (s : ScenarioParts) (clocks : ℕ → ℕ → ℕ) (sound : IsSoundScenario s) (drifts : AreClocks clocks) (f : ℕ) (frame : f < s.frames) (told : List ScriptLine) where
-  pub at_start : (w : FieldState) (due : List Due) → IsRunning s clocks told (frame_start s f) (At SendingEnd) w due → IsWithin s clocks told f w due
+  pub at_start : (w : FieldState) (due : List Due) → IsRunning s clocks told (frame_start s f) (At SendingEnd) w due → IsWithin w.air s clocks told f w due
   at_start w due run = record {
     tick = frame_start s f;
     class = SendingEnd;
     from = omega arith;
     until = starts_apart s sound f (suc f) (omega arith);
     running = run;
+    stay = stay_same s clocks (frame_start s f) w.air;
   }
 
   -- the end of a frame by the tick that the code compares with
   pub frame_end : (until a b : ℕ) → until ≡ (a + 1) * b → a ≡ f → b ≡ s.profile.frame → until ≡ frame_start s (suc f)
   frame_end until a b is number long = is ∙ ap (λ (k : ℕ). (k + 1) * b) number ∙ ap (λ (k : ℕ). (f + 1) * k) long ∙ ap (λ (k : ℕ). k * s.profile.frame) (add-one f)
 
-  module _ (w : FieldState) (due : List Due) (within : IsWithin s clocks told f w due) where
+  module _ (w : FieldState) (due : List Due) (first : List Entry) (within : IsWithin first s clocks told f w due) where
     module _ (t : ℕ) (class : Class) (p : ℕ) (next : IsNext due (Some (t, class, p))) (before : t < frame_start s (suc f)) where
       pub tick_within : t < run_end s
       tick_within = let last = small_start s clocks sound drifts (suc f) (omega (arith, frame)) in omega (arith, before, last)
@@ -77,13 +82,14 @@ module _ (s : ScenarioParts) (clocks : ℕ → ℕ → ℕ) (sound : IsSoundScen
           let long = as_many_devices s w due within.running.places in
           omega (arith, inside, long, sound.few_nodes)
 
-      pub goes_on : (new : FieldState) (new_due : List Due) → IsRunning s clocks told t (At class) new new_due → IsWithin s clocks told f new new_due
-      goes_on new new_due run = record {
+      pub goes_on : (new : FieldState) (new_due : List Due) → IsRunning s clocks told t (At class) new new_due → TrailsStay s clocks t w.air new.air → IsWithin first s clocks told f new new_due
+      goes_on new new_due run stays = record {
         tick = t;
         class = class;
         from = (let up = runs_to.1 in omega (arith, within.from, up));
         until = before;
         running = run;
+        stay = stay_then s clocks (frame_start s f) first w.air new.air within.stay (stay_until s clocks (frame_start s f) t w.air new.air (let up = runs_to.1 in omega (arith, within.from, up)) stays);
       }
 
     pub over_at : NoneBefore due (frame_start s (suc f)) → IsRunning s clocks told (frame_start s (f + 1)) Before w due

@@ -58,6 +58,7 @@ pub record IsClosedUpto (t i : ℕ) (old new : FieldState) : Type 0 where
   pub sendings : sendings_of new.air ≡ sendings_of old.air
   pub deliveries : new.deliveries ≡ old.deliveries
   pub drops : new.drops ≡ old.drops
+  pub sums : new.sums ≡ old.sums
   pub powers : map power_of new.devices ≡ map power_of old.devices
   pub setups : map setup_of new.devices ≡ map setup_of old.devices
   pub cores : (p : ℕ) (d : DeviceState) → p < i → slice_get new.devices p ≡ Some d → IsCoreAt d.core d.power
@@ -72,6 +73,7 @@ closed_none t w = record {
   sendings = refl;
   deliveries = refl;
   drops = refl;
+  sums = refl;
   powers = refl;
   setups = refl;
   cores = λ p d below at. absurd (omega arith);
@@ -167,6 +169,7 @@ module _ (t i : ℕ) (old now new : FieldState) (field : IsField old) (is : IsCl
     sendings = sendings_tuned (now.air ++ entries_of goes.before) goes.last ∙ sendings_tuned now.air goes.before ∙ is.sendings;
     deliveries = is.deliveries;
     drops = is.drops;
+    sums = is.sums;
     powers = map_stays power_of now.devices i state goes.silent goes.there same_power ∙ is.powers;
     setups = map_stays setup_of now.devices i state goes.silent goes.there goes.setup ∙ is.setups;
     cores = one_core;
@@ -188,6 +191,7 @@ all_closed t i old due new is end = record {
   sendings = is.sendings;
   deliveries = is.deliveries;
   drops = is.drops;
+  sums = is.sums;
   powers = is.powers;
   cores = λ p d below. is.cores p (get_or new.devices p d) (let long = ap length is.setups in omega (arith, long, length-map new.devices setup_of, length-map old.devices setup_of)) (slice_get-get_or new.devices p d below);
   ids = same_ids new old is.setups;

@@ -29,7 +29,7 @@ id_there w p st at = get_or-map id_of w.devices p st 0 (slice_get_within w.devic
 
 -- a Heard entry more is seen at no device
 abbrev pub logged : ℕ → Sending → FieldState → FieldState
-logged u x w = record { medium = w.medium; devices = w.devices; air = w.air ++ heard_entry u x ∷ []; deliveries = w.deliveries; drops = w.drops }
+logged u x w = record { medium = w.medium; devices = w.devices; air = w.air ++ heard_entry u x ∷ []; deliveries = w.deliveries; drops = w.drops; sums = w.sums }
 
 pub shown_when_logged : (t q u : ℕ) (x : Sending) (w : FieldState) (due : List Due) (s : Setup) (d : Device) → Shows s t w due q d → Shows s t (logged u x w) due q d
 shown_when_logged t q u x w due s d shows =
@@ -40,6 +40,7 @@ shown_when_logged t q u x w due s d shows =
       deliveries = refl;
       station = refl;
       due = refl;
+      sums = refl;
     }) shows
 
 pub is_shown_when_logged : (t q u : ℕ) (x : Sending) (w : FieldState) (due : List Due) → IsShown t w due q → IsShown t (logged u x w) due q

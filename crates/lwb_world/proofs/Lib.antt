@@ -5,8 +5,11 @@ mod AlarmsAtPlaces
 mod AlarmsTaken
 mod BegunDevices
 mod BegunSendings
+mod ChargesOver
 mod ClocksAtPlaces
 mod CoresOver
+mod CountedPlaces
+mod CountedScans
 mod DeliveriesInOrder
 mod DeliveriesOver
 mod DevicePlaces

@@ -20,10 +20,13 @@ use Rattle.air_log.specs.ClockLists.{clocks_by}
 use Rattle.air_log.specs.DeviceStates.{CanBoot}
 use Rattle.lwb_world.specs.Fields.{FieldState, Shows, IsShown, ids_of, id_of, setup_of}
 use Rattle.lwb_world.specs.FieldSteps.{IsTold, node_id}
+use Rattle.air_log.specs.ScriptedDevices.{after_act}
+use Rattle.lwb_world.specs.Counting.{TrailsStay}
 use Rattle.lwb_world.specs.Frames.{IsNextLine}
 use Rattle.lwb_world.specs.Moments.{InLines}
 use Rattle.lwb_world.specs.Running.{IsRunning, HasPlaces, setup_by}
 use Rattle.lwb_world.proofs.ClocksAtPlaces.{own_clock}
+use Rattle.lwb_world.proofs.CountedScans.{acts_stay}
 use Rattle.lwb_world.proofs.KnownAtPlaces.{shown_within, line_node, line_range, can_boot}
 use Rattle.lwb_world.proofs.NodePlaces.{known_id}
 use Rattle.lwb_world.proofs.PlacedNodes.{at_place, as_many_devices, node_of_place, setup_at_place}
@@ -97,6 +100,8 @@ module _ {C : Type 0} (R : C → ℕ → ℕ) (s : ScenarioParts) (sound : IsSou
     boots q d shows = can_boot s (clocks_by R s.nodes cs) sound told next.rest line next.is t old old_due run.script p q d shows (to_node q d shows)
 
     pub line_done : (c : C) → slice_get cs p ≡ Some c → (new : FieldState) (new_due : List Due) → IsTold (R c) line t p line.act old old_due new new_due
-        → IsRunning s (clocks_by R s.nodes cs) (told ++ line ∷ []) t (InLines (told ++ line ∷ [])) new new_due
-    line_done c clock new new_due all =
-        line_goes_on s (clocks_by R s.nodes cs) sound told t p node.0 node.1 old old_due new new_due (R c) (own_clock R s sound cs count p c clock) line own next.now all.0 all.1 all.2 run
+        → IsRunning s (clocks_by R s.nodes cs) (told ++ line ∷ []) t (InLines (told ++ line ∷ [])) new new_due × TrailsStay s (clocks_by R s.nodes cs) t old.air new.air
+    line_done c clock new new_due all = (
+      line_goes_on s (clocks_by R s.nodes cs) sound told t p node.0 node.1 old old_due new new_due (R c) (own_clock R s sound cs count p c clock) line own next.now all.0 all.1 all.2 run,
+      acts_stay s (clocks_by R s.nodes cs) t p (λ x d. after_act (R c) x t line.frame d line.act d.power) [] all.0 old old_due new new_due all.1,
+    )

@@ -12,19 +12,23 @@ use Rattle.event_calendar.specs.declared.class.Class.TheVariants.{SendingEnd}
 use Rattle.event_calendar.specs.Orders.{Due}
 use Rattle.air_log.specs.Trails.{frame_start}
 use Rattle.lwb_world.specs.Fields.{FieldState}
+use Rattle.air_log.specs.declared.entry.Entry.{Entry}
+use Rattle.lwb_world.specs.Counting.{TrailsStay}
 use Rattle.lwb_world.specs.Frames.{told_before, IsCut, IsNextLine}
 use Rattle.lwb_world.specs.Moments.{Before, InLines, At}
 use Rattle.lwb_world.specs.Running.{IsRunning}
+use Rattle.lwb_world.proofs.CountedScans.{stay_same, stay_then}
 use Rattle.lwb_world.proofs.RunsGoOn.{lines_begin, lines_over}
 use Rattle.lwb_world.proofs.ScriptCuts.{told_at_cut, cut_at, cut_end, next_splits, one_more, more_before}
 use Rattle.lwb_world.proofs.TrailsGoOn.{AreClocks}
 
--- the lines of frame f before line k of the script have been told
-pub record AreTold (s : ScenarioParts) (clocks : ℕ → ℕ → ℕ) (f k : ℕ) (w : FieldState) (due : List Due) : Type 0 where
+-- the lines of frame f before line k of the script have been told, where this log was there before them
+pub record AreTold (first : List Entry) (s : ScenarioParts) (clocks : ℕ → ℕ → ℕ) (f k : ℕ) (w : FieldState) (due : List Due) : Type 0 where
   pub within : k ≤ length s.script
   pub before : (i : ℕ) (l : ScriptLine) → slice_get s.script i ≡ Some l → i < k → l.frame < f + 1
   pub behind : (i : ℕ) (l : ScriptLine) → slice_get s.script i ≡ Some l → k ≤ i → f ≤ l.frame
   pub run : IsRunning s clocks (take k s.script) (frame_start s f) (InLines (take k s.script)) w due
+  pub stay : TrailsStay s clocks (frame_start s f) first w.air
 
 -- the tick at which a frame starts, as it is computed
 pub tick_of : (s : ScenarioParts) (f i j : ℕ) (p : Numbers) → i ≡ f → j ≡ p.frame → p ≡ s.profile → i * j ≡ frame_start s f
@@ -48,15 +52,16 @@ behind_first xs k l (j, below, at) =
 
 module _ (s : ScenarioParts) (clocks : ℕ → ℕ → ℕ) (sound : IsSoundScenario s) (drifts : AreClocks clocks) (f k : ℕ) (w : FieldState) (due : List Due) where
   -- none yet
-  pub none_told : IsCut s k f → IsRunning s clocks (told_before s f) (frame_start s f) Before w due → AreTold s clocks f k w due
+  pub none_told : IsCut s k f → IsRunning s clocks (told_before s f) (frame_start s f) Before w due → AreTold w.air s clocks f k w due
   none_told cut run = record {
     within = cut.within;
     before = λ i l at less. (let early = cut.before i l at less in omega (arith, early));
     behind = cut.behind;
     run = subst (λ (told : List ScriptLine). IsRunning s clocks told (frame_start s f) (InLines told) w due) (told_at_cut s k f cut) (lines_begin s clocks sound drifts f w due run);
+    stay = stay_same s clocks (frame_start s f) w.air;
   }
 
-  module _ (so_far : AreTold s clocks f k w due) where
+  module _ (first : List Entry) (so_far : AreTold first s clocks f k w due) where
     -- the line at k is of the frame
     module _ (l : ScriptLine) (at : slice_get s.script k ≡ Some l) (same : l.frame ≡ f) (t : ℕ) (now : t ≡ frame_start s f) where
       is_next : IsNextLine s t (take k s.script) l
@@ -69,8 +74,8 @@ module _ (s : ScenarioParts) (clocks : ℕ → ℕ → ℕ) (sound : IsSoundScen
       next_told = (take k s.script, is_next, runs)
 
       pub one_more_told : k < length s.script → (new : FieldState) (new_due : List Due)
-          → ((told : List ScriptLine) → IsNextLine s t told l → IsRunning s clocks told t (InLines told) w due → IsRunning s clocks (told ++ l ∷ []) t (InLines (told ++ l ∷ [])) new new_due)
-          → AreTold s clocks f (k + 1) new new_due
+          → ((told : List ScriptLine) → IsNextLine s t told l → IsRunning s clocks told t (InLines told) w due → IsRunning s clocks (told ++ l ∷ []) t (InLines (told ++ l ∷ [])) new new_due × TrailsStay s clocks t w.air new.air)
+          → AreTold first s clocks f (k + 1) new new_due
       one_more_told below new new_due done =
           let after = done (take k s.script) is_next runs in
           let next_line : suc k ≡ k + 1 = omega arith in
@@ -81,7 +86,8 @@ module _ (s : ScenarioParts) (clocks : ℕ → ℕ → ℕ) (sound : IsSoundScen
             behind = λ i m there order. so_far.behind i m there (omega (arith, order));
             run =
                 subst (λ (told : List ScriptLine). IsRunning s clocks told (frame_start s f) (InLines told) new new_due) more
-                (subst (λ (u : ℕ). IsRunning s clocks (take k s.script ++ l ∷ []) u (InLines (take k s.script ++ l ∷ [])) new new_due) now after);
+                (subst (λ (u : ℕ). IsRunning s clocks (take k s.script ++ l ∷ []) u (InLines (take k s.script ++ l ∷ [])) new new_due) now after.0);
+            stay = stay_then s clocks (frame_start s f) first w.air new.air so_far.stay (subst (λ (u : ℕ). TrailsStay s clocks u w.air new.air) now after.1);
           }
 
     -- no line of the frame is left
@@ -90,6 +96,9 @@ module _ (s : ScenarioParts) (clocks : ℕ → ℕ → ℕ) (sound : IsSoundScen
 
     pub no_line : slice_get s.script k ≡ None → IsCut s k (f + 1)
     no_line = cut_end s sound.script_ascends k f so_far.within so_far.before so_far.behind
+
+    pub lines_told : IsCut s k (f + 1) → IsRunning s clocks (told_before s (f + 1)) (frame_start s f) (InLines (told_before s (f + 1))) w due
+    lines_told cut = subst (λ (told : List ScriptLine). IsRunning s clocks told (frame_start s f) (InLines told) w due) (sym (told_at_cut s k (f + 1) cut)) so_far.run
 
     pub all_told : IsCut s k (f + 1) → IsRunning s clocks (told_before s (f + 1)) (frame_start s f) (At SendingEnd) w due
     all_told cut =

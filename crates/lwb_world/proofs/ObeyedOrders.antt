@@ -13,6 +13,7 @@ use Rattle.radio_model.specs.Stations.{MediumState, IsTime, station_of, after as
 use Rattle.air_log.specs.declared.entry.TunedEntry.{TunedEntry}
 use Rattle.air_log.specs.Devices.{Listening, Made}
 use Rattle.air_log.specs.DeviceStates.{DeviceState, with_tuned, IsSameNode}
+use Rattle.air_log.specs.WindowSums.{WindowSum}
 use Rattle.lwb_world.specs.Fields.{FieldState, IsField, IsKnown, entries_of, due_of, channel_of}
 use Rattle.lwb_world.specs.FieldSteps.{GoesOn}
 use Rattle.lwb_world.proofs.ActsInTurn.{goes_nowhere}
@@ -55,6 +56,7 @@ module _ (t p : ℕ) (state after : DeviceState) (closed : Option TunedEntry) (r
     pub air : new.air ≡ old.air ++ entries_of closed
     pub deliveries : new.deliveries ≡ old.deliveries
     pub drops : new.drops ≡ old.drops
+    pub sums : new.sums ≡ old.sums
 
   pub retunes_step : Retunes → IsStepAt t p state after closed None [] old due new due
   retunes_step r = record {
@@ -72,6 +74,7 @@ module _ (t p : ℕ) (state after : DeviceState) (closed : Option TunedEntry) (r
     due = r.known.set ∙ ap (λ (d : Due). Some d) (same_due state after r.set_sending r.set_alarm r.set_ordered);
     dues = λ q other. refl;
     places = refl;
+    sums = λ q other. ap (λ (l : List WindowSum). slice_get l q) r.sums;
   }
 
 -- a step of which the medium is not told
@@ -92,6 +95,7 @@ module _ (t p : ℕ) (state after : DeviceState) (delivery : Option Delivery) (o
     pub due : slice_get new_due p ≡ Some (due_of after)
     pub dues : (q : ℕ) → q ≢ p → slice_get new_due q ≡ slice_get old_due q
     pub places : length new_due ≡ length old_due
+    pub sums : (q : ℕ) → q ≢ p → slice_get new.sums q ≡ slice_get old.sums q
 
   pub quiet_step : IsQuietStep → IsStepAt t p state after None delivery [] old old_due new new_due
   quiet_step q = record {
@@ -114,6 +118,7 @@ module _ (t p : ℕ) (state after : DeviceState) (delivery : Option Delivery) (o
     due = q.due;
     dues = q.dues;
     places = q.places;
+    sums = q.sums;
   }
 
 -- what is made of a tuning more

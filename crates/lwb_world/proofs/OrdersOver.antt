@@ -14,7 +14,7 @@ use Rattle.lwb_world.proofs.NodePlaces.{same_some}
 use Rattle.lwb_world.proofs.TrailsOver.{at_place}
 
 -- a list that has at each place what a map gives
-each_place : {X Y : Type 0} (f : X → Y) (xs : List X) (ys : List Y) → length ys ≡ length xs → ((p : ℕ) (x : X) → slice_get xs p ≡ Some x → slice_get ys p ≡ Some (f x)) → ys ≡ map f xs
+pub each_place : {X Y : Type 0} (f : X → Y) (xs : List X) (ys : List Y) → length ys ≡ length xs → ((p : ℕ) (x : X) → slice_get xs p ≡ Some x → slice_get ys p ≡ Some (f x)) → ys ≡ map f xs
 each_place f [] [] long each = refl
 each_place f [] (y ∷ ys) long each = absurd (omega arith)
 each_place f (x ∷ xs) [] long each = absurd (omega arith)

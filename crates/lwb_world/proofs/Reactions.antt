@@ -1,6 +1,8 @@
 -- What an event does to a field before the device's orders are obeyed: a row at the device, and its delivery in the list.
-use Rattle.std.proofs.Common.{◌≡◌, ℕ, List, [], ◌++◌, set, get_or, fold, Option, Some, None, option_to_list, refl, sym, ◌∙◌, ap, subst}
+use Rattle.std.proofs.Common.{◌≡◌, ◌≢◌, ℕ, ◌≤◌, ◌^◌, List, [], ◌++◌, set, get_or, fold, Bool, Option, Some, None, option_to_list, refl, sym, ◌∙◌, ap, subst, arith}
+use Rattle.std.specs.List.{slice_get}
 use Rattle.std.proofs.lemmas.List.{append-nil}
+use Rattle.std.proofs.lemmas.Option.{get_or_from_slice_get}
 use Rattle.lwb_base.specs.declared.event.Event.{Event}
 use Rattle.lwb_base.specs.declared.order.Order.{Order}
 use Rattle.event_calendar.specs.Orders.{Due}
@@ -12,12 +14,20 @@ use Rattle.node_core.specs.Rows.{Stepped}
 use Rattle.node_core.specs.Runs.{orders_by}
 use Rattle.air_log.specs.Devices.{Device, Power, PowerOff, PowerOn, Made, obeyed, event}
 use Rattle.air_log.specs.DeviceStates.{DeviceState, whole, HappenedBy, row_at, row_of, after_row, made_by}
-use Rattle.lwb_world.specs.Fields.{FieldState, IsShown, IsField, due_of}
+use Rattle.air_log.specs.WindowLogs.{is_alarm}
+use Rattle.air_log.specs.WindowSums.{WindowSum, IsCounted, in_window, sent_with, noted}
+use Rattle.air_log.proofs.CountedEvents.{counted_then}
+use Rattle.lwb_world.specs.Fields.{FieldState, HasCounted, IsShown, IsField, due_of}
+use Rattle.lwb_world.proofs.ShownPlaces.{there_now, elsewhere}
 use Rattle.lwb_world.specs.FieldSteps.{Acts}
 use Rattle.lwb_world.proofs.ActsInTurn.{acts_then, acts_as}
 use Rattle.lwb_world.proofs.DeviceSteps.{GoesOnMaking}
 use Rattle.node_core.proofs.NamedDeliveries.{IsTo, DeliversTo, delivers_to}
 use Rattle.lwb_world.proofs.StepsInCode.{state_known, state_happened, state_taken, same_as_shown, quiet_acts}
+
+-- the sums are no part of what a field keeps
+pub field_summed : (w : FieldState) (sums : List WindowSum) → IsField w → IsField (record w { sums = sums })
+field_summed w sums is = record { medium = is.medium; nodes = is.nodes; numbers = is.numbers }
 
 -- the device after a row, whose delivery has been taken
 abbrev pub reacted : DeviceState → Option Stepped → DeviceState
@@ -76,11 +86,40 @@ module _ (t p : ℕ) (old : FieldState) (due : List Due) (shown : IsShown t old 
   abbrev stepped : Option Stepped
   stepped = row_of clock t e state
 
+  -- what the windows count after it, as code comes to it
+  pub noted_is : (ended : Option Sending) (moved : DeviceState) (before after alarm : Bool) (sent : Option (List ℕ)) (sum next : WindowSum) → moved ≡ after_row state stepped → before ≡ in_window state.power → after ≡ in_window moved.power → alarm ≡ is_alarm e → sent ≡ sent_with e ended → next ≡ noted before after alarm sent sum
+      → next ≡ noted (in_window state.power) (in_window (after_row state stepped).power) (is_alarm e) (sent_with e ended) sum
+  noted_is ended moved before after alarm sent sum next is_moved is_before is_after is_alarmed is_sent is_next =
+      is_next
+      ∙ ap (λ (b : Bool). noted b after alarm sent sum) is_before
+      ∙ ap (λ (b : Bool). noted (in_window state.power) b alarm sent sum) (is_after ∙ ap (λ (d : DeviceState). in_window d.power) is_moved)
+      ∙ ap (λ (b : Bool). noted (in_window state.power) (in_window (after_row state stepped).power) b sent sum) is_alarmed
+      ∙ ap (λ (o : Option (List ℕ)). noted (in_window state.power) (in_window (after_row state stepped).power) (is_alarm e) o sum) is_sent
+
+  -- and at the places
+  module _ (ended : Option Sending) (j : ℕ) (here : j ≡ p) (sum next : WindowSum) (read : sum ≡ get_or old.sums j sum) (goes : next ≡ noted (in_window state.power) (in_window (after_row state stepped).power) (is_alarm e) (sent_with e ended) sum) (small : next.last ≤ 2 ^ 28) where
+    pub noted_others : (q : ℕ) → q ≢ p → slice_get (set old.sums j next) q ≡ slice_get old.sums q
+    noted_others q other = elsewhere old.sums j q next (λ same. other (same ∙ here))
+
+    pub noted_own : (made : Made) → HasCounted old.sums p state.setup made.windows → HasCounted (set old.sums j next) p state.setup (made_by t e ended state.power stepped made).windows
+    noted_own made has =
+        let same : has.sum ≡ sum = sym (get_or_from_slice_get old.sums p has.sum sum has.there) ∙ ap (λ (n : ℕ). get_or old.sums n sum) (sym here) ∙ sym read in
+        let so_far : IsCounted state.setup.profile state.setup.sends made.windows sum = subst (λ (x : WindowSum). IsCounted state.setup.profile state.setup.sends made.windows x) same has.is in
+        let less : (noted (in_window state.power) (in_window (after_row state stepped).power) (is_alarm e) (sent_with e ended) sum).last ≤ 2 ^ 28 = omega (arith, small, ap (λ (x : WindowSum). x.last) goes) in
+        record {
+          sum = next;
+          there = ap (λ (n : ℕ). slice_get (set old.sums n next) p) here ∙ there_now old.sums p has.sum next has.there;
+          is = subst (λ (x : WindowSum). IsCounted state.setup.profile state.setup.sends (made_by t e ended state.power stepped made).windows x) (sym goes)
+              (counted_then clock t e ended state state.setup.profile state.setup.sends has.few sum state.setup state.power made refl so_far less);
+          few = has.few;
+        }
+
   -- the row and its delivery
   pub moves_acts : IsField old → IsTime old.medium t → (ended : Option Sending) (after : DeviceState) (delivery : Option Delivery) (new : FieldState) → after ≡ reacted state stepped → delivery ≡ (after_row state stepped).delivery
-      → new ≡ record { medium = old.medium; devices = set old.devices i after; air = old.air; deliveries = old.deliveries ++ option_to_list delivery; drops = old.drops }
+      → (sums : List WindowSum) → ((q : ℕ) → q ≢ p → slice_get sums q ≡ slice_get old.sums q) → ((made : Made) → HasCounted old.sums p state.setup made.windows → HasCounted sums p state.setup (made_by t e ended state.power stepped made).windows)
+      → new ≡ record { medium = old.medium; devices = set old.devices i after; air = old.air; deliveries = old.deliveries ++ option_to_list delivery; drops = old.drops; sums = sums }
       → Acts t p (moves t e ended state stepped) [] [] old due new due
-  moves_acts field time ended after delivery new is_after is_delivery is_new =
+  moves_acts field time ended after delivery new is_after is_delivery sums others counts is_new =
       let taken = state_taken t p old due shown i at state is in
       let gives = (after_row state stepped).delivery in
       let acts = quiet_acts t p old due shown i at state is field time (reacted state stepped) gives due
@@ -89,10 +128,10 @@ module _ (t p : ℕ) (old : FieldState) (due : List Due) (shown : IsShown t old 
       ((state_known t p old due shown i at state is).set ∙ ap (λ (d : Due). Some d) (keeps_due state stepped)) (λ q other. refl) refl
       (moves t e ended state stepped) (made_by t e ended state.power stepped)
       (making_goes_on clock t e ended state taken state.setup state.power)
-      (λ made before. moved_whole t e ended state state.power stepped made) in
+      (λ made before. moved_whole t e ended state state.power stepped made) sums others counts in
       subst (λ (w : FieldState). Acts t p (moves t e ended state stepped) [] [] old due w due)
-      (ap (λ (x : DeviceState). record { medium = old.medium; devices = set old.devices i x; air = old.air; deliveries = old.deliveries ++ option_to_list gives; drops = old.drops }) (sym is_after)
-      ∙ ap (λ (o : Option Delivery). record { medium = old.medium; devices = set old.devices i after; air = old.air; deliveries = old.deliveries ++ option_to_list o; drops = old.drops }) (sym is_delivery) ∙ sym is_new)
+      (ap (λ (x : DeviceState). record { medium = old.medium; devices = set old.devices i x; air = old.air; deliveries = old.deliveries ++ option_to_list gives; drops = old.drops; sums = sums }) (sym is_after)
+      ∙ ap (λ (o : Option Delivery). record { medium = old.medium; devices = set old.devices i after; air = old.air; deliveries = old.deliveries ++ option_to_list o; drops = old.drops; sums = sums }) (sym is_delivery) ∙ sym is_new)
       acts
 
   -- with all orders obeyed it is the event

@@ -4,7 +4,7 @@ use Rattle.scenario_text.specs.ScenarioParts.{ScenarioParts}
 use Rattle.scenario_text.specs.ScenarioFacts.{IsSoundScenario}
 use Rattle.event_calendar.specs.Orders.{Due}
 use Rattle.air_log.specs.Trails.{run_end}
-use Rattle.air_log.specs.Lawful.{FollowsHearing}
+use Rattle.air_log.specs.Lawful.{Lawful, FollowsHearing}
 use Rattle.air_log.specs.Deliveries.{comes_before}
 use Rattle.air_log.specs.LogText.{in_order}
 use Rattle.air_log.specs.DeviceStates.{core_in}
@@ -14,6 +14,8 @@ use Rattle.lwb_world.specs.Moments.{Before}
 use Rattle.lwb_world.specs.Running.{IsRunning}
 use Rattle.lwb_world.specs.Runs.{IsRun, orders_left}
 use Rattle.lwb_world.specs.Worlds.{core_of}
+use Rattle.safe_air.proofs.SafeRuns.{lawful_logs_are_safe}
+use Rattle.lwb_world.proofs.TrailsGoOn.{AreClocks}
 use Rattle.lwb_world.proofs.TrailsOver.{trails_over}
 use Rattle.lwb_world.proofs.DeliveriesOver.{deliveries_over}
 use Rattle.lwb_world.proofs.DropsOver.{drops_over}
@@ -21,15 +23,17 @@ use Rattle.lwb_world.proofs.CoresOver.{cores_over}
 use Rattle.lwb_world.proofs.OrdersOver.{orders_over}
 
 -- where the log follows the rule of hearing
-pub run_over : (s : ScenarioParts) (clocks : ℕ → ℕ → ℕ) (w : FieldState) (due : List Due) (closed : FieldState) → IsSoundScenario s → IsRunning s clocks s.script (run_end s) Before w due → IsClosed (run_end s) w due closed
-    → FollowsHearing s closed.air
+pub run_over : (s : ScenarioParts) (clocks : ℕ → ℕ → ℕ) (w : FieldState) (due : List Due) (closed : FieldState) → IsSoundScenario s
+    → AreClocks clocks → IsRunning s clocks s.script (run_end s) Before w due → IsClosed (run_end s) w due closed → FollowsHearing s closed.air
     → IsRun s clocks closed.air (in_order comes_before closed.deliveries) closed.drops (core_of (map core_in closed.devices)) × (due ≡ orders_left s clocks closed.air)
-run_over s clocks w due closed sound running over hearing = (
-  record {
-    lawful = record { trails = trails_over s clocks w due closed running over; hearing = hearing };
-    deliveries = deliveries_over s clocks w due closed sound running over;
-    drops = drops_over s clocks w due closed running over;
-    cores = cores_over s clocks w due closed sound running over;
-  },
-  orders_over s clocks w due closed running over,
-)
+run_over s clocks w due closed sound drifts running over hearing =
+    let lawful : Lawful s clocks closed.air = record { trails = trails_over s clocks w due closed running over; hearing = hearing } in (
+      record {
+        lawful = lawful;
+        safe = lawful_logs_are_safe s clocks closed.air (record { sound = sound; drift = λ v known. drifts v }) lawful;
+        deliveries = deliveries_over s clocks w due closed sound running over;
+        drops = drops_over s clocks w due closed running over;
+        cores = cores_over s clocks w due closed sound running over;
+      },
+      orders_over s clocks w due closed running over,
+    )

@@ -16,8 +16,9 @@ use Rattle.air_log.specs.Lawful.{sent_by, tuned_by, heard_by}
 use Rattle.air_log.specs.Trails.{setup_of as setup_in}
 use Rattle.air_log.proofs.Elements.{not_in_none}
 use Rattle.air_log.specs.DeviceStates.{DeviceState}
+use Rattle.air_log.specs.WindowSums.{WindowSum}
 use Rattle.lwb_world.specs.Fields.{FieldState, IsField, Shows, setup_of, id_of}
-use Rattle.lwb_world.specs.FieldSteps.{IsFirst, first_device, node_id}
+use Rattle.lwb_world.specs.FieldSteps.{IsFirst, first_device, node_id, nothing_counted}
 use Rattle.lwb_world.specs.Moments.{Before}
 use Rattle.lwb_world.specs.Running.{IsRunning, IsOnTrail, setup_by}
 use Rattle.lwb_world.proofs.FirstField.{first_field}
@@ -93,6 +94,12 @@ module _ (s : ScenarioParts) (clocks : ℕ → ℕ → ℕ) (sound : IsSoundScen
       deliveries = ap (filter (λ d. d.node == n.node)) (sym first.deliveries);
     };
     known = record { station = fresh n.node p; there = station_at p n at; tuned = refl; sending = refl; set = due_at_first p n at };
+    counted = record {
+      sum = nothing_counted s;
+      there = ap (λ (l : List WindowSum). slice_get l p) first.sums ∙ same_at (length s.nodes) p (nothing_counted s) (slice_get_within s.nodes p n at);
+      is = record { profile = refl; sends = refl; counts = record { earlier = refl; last = refl; by_alarm = refl }; small = tt };
+      few = sound.few_sends;
+    };
     ended = tt;
     happened = record { closed = tt; listening = tt };
     taken = refl;

@@ -43,6 +43,7 @@ shows_later q t u w due p d up shows = record {
   is = shows.is;
   logged = shows.logged;
   known = shows.known;
+  counted = shows.counted;
   ended = ended_earlier t u shows.made.tuned up shows.ended;
   happened = record { closed = closed_by t u shows.state.closed up shows.happened.closed; listening = listening_by t u shows.state.listening up shows.happened.listening };
   taken = shows.taken;

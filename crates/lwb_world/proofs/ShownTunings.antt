@@ -44,6 +44,7 @@ shows_later q t u w due p d order is = record {
   is = is.is;
   logged = is.logged;
   known = is.known;
+  counted = is.counted;
   ended = ended_later t u is.made.tuned order is.ended;
   happened = record {
     closed = if_later is.state.closed _ _ (λ e by. omega (arith, by)) is.happened.closed;

@@ -22,7 +22,8 @@ use Rattle.air_log.specs.Devices.{Device, Power, PowerOff, PowerOn, Listening, M
 use Rattle.air_log.specs.ScriptedDevices.{after_act, dropped, with_new_core}
 use Rattle.air_log.specs.Drops.{drop_by}
 use Rattle.air_log.specs.DeviceStates.{DeviceState, whole, with_tuned, with_drop, HappenedBy, IsSameNode}
-use Rattle.lwb_world.specs.Fields.{FieldState, Shows, IsShown, IsField, entries_of, due_of, channel_of}
+use Rattle.air_log.specs.WindowLogs.{WindowLog}
+use Rattle.lwb_world.specs.Fields.{FieldState, HasCounted, Shows, IsShown, IsField, entries_of, due_of, channel_of}
 use Rattle.lwb_world.specs.FieldSteps.{Acts, IsTold}
 use Rattle.lwb_world.proofs.ActsInTurn.{goes_nowhere, acts_then, acts_as}
 use Rattle.lwb_world.proofs.DeviceSteps.{IsStepAt, GoesOnMaking, acts_at}
@@ -103,9 +104,10 @@ module _ (t p : ℕ) (old : FieldState) (old_due : List Due) (shown : IsShown t 
       → (change : Setup → Device → Device) (making : Made → Made) → ((made : Made) → GoesOnMaking None None made (making made))
       → StaysSet (whole state nothing_made) (whole after (making nothing_made))
       → ((made : Made) → change state.setup (whole state made) ≡ whole after (making made))
-      → Acts t p change [] lost old old_due (record { medium = old.medium; devices = set old.devices i after; air = old.air; deliveries = old.deliveries; drops = lines }) old_due
-  told_acts field time after lost lines setup taken happened more change making goes set_as comes =
-      let next : FieldState = record { medium = old.medium; devices = set old.devices i after; air = old.air; deliveries = old.deliveries; drops = lines } in
+      → ((made : Made) → (making made).windows ≡ made.windows)
+      → Acts t p change [] lost old old_due (record { medium = old.medium; devices = set old.devices i after; air = old.air; deliveries = old.deliveries; drops = lines; sums = old.sums }) old_due
+  told_acts field time after lost lines setup taken happened more change making goes set_as comes still =
+      let next : FieldState = record { medium = old.medium; devices = set old.devices i after; air = old.air; deliveries = old.deliveries; drops = lines; sums = old.sums } in
       let known = state_known t p old old_due shown i at state is in
       let step : IsStepAt t p state after None None lost old old_due next old_due = record {
         here = state_here t p old old_due shown i at state is;
@@ -127,15 +129,16 @@ module _ (t p : ℕ) (old : FieldState) (old_due : List Due) (shown : IsShown t 
         due = known.set ∙ ap (λ (d : Due). Some d) (same_due state after set_as.sending set_as.alarm set_as.ordered);
         dues = λ q other. refl;
         places = refl;
+        sums = λ q other. refl;
       } in
-      acts_at t p state after None None lost old next old_due old_due step taken happened tt change making goes (λ made ended. comes made) field
+      acts_at t p state after None None lost old next old_due old_due step taken happened tt change making goes (λ made ended. comes made) (λ made counted. subst (λ (ws : List WindowLog). HasCounted old.sums p state.setup ws) (sym (still made)) counted) field
 
   -- the device goes off
   pub off_acts : IsField old → IsTime old.medium t → (after : DeviceState) (closed : Option TunedEntry) (v : ℕ) (medium : MediumState) (new : FieldState) (mid new_due : List Due)
       → v ≡ state.setup.id
       → medium ≡ medium_after t v (retuned None t) old.medium
       → ((a : Scene) → Holds old.medium a → Holds medium (after_tuning old.medium v None t a))
-      → new ≡ record { medium = medium; devices = set old.devices i after; air = old.air ++ entries_of closed; deliveries = old.deliveries; drops = old.drops }
+      → new ≡ record { medium = medium; devices = set old.devices i after; air = old.air ++ entries_of closed; deliveries = old.deliveries; drops = old.drops; sums = old.sums }
       → mid ≡ changed old_due p AlarmOf None → new_due ≡ changed mid p SendingStart None
       → after.setup ≡ state.setup → after.delivery ≡ state.delivery → IfSome closed (λ e. e.node ≡ state.setup.id) → IfSome closed (λ e. e.end < t) → HappenedBy t after
       → after.listening ≡ None → after.alarm ≡ None → after.ordered ≡ None → after.sending ≡ state.sending
@@ -143,7 +146,7 @@ module _ (t p : ℕ) (old : FieldState) (old_due : List Due) (shown : IsShown t 
       → Acts t p change [] [] old old_due new new_due
   off_acts field time after closed v medium new mid new_due id tuned holds is_new is_mid is_due setup delivery own before happened silent no_alarm no_order sending change comes =
       let known = state_known t p old old_due shown i at state is in
-      let next : FieldState = record { medium = medium; devices = set old.devices i after; air = old.air ++ entries_of closed; deliveries = old.deliveries; drops = old.drops } in
+      let next : FieldState = record { medium = medium; devices = set old.devices i after; air = old.air ++ entries_of closed; deliveries = old.deliveries; drops = old.drops; sums = old.sums } in
       let cleared : slice_get new_due p ≡ Some (due_of after) =
       ap (λ (l : List Due). slice_get l p) is_due
       ∙ due_changed mid p SendingStart None (with_tick AlarmOf None (due_of state)) (ap (λ (l : List Due). slice_get l p) is_mid ∙ due_changed old_due p AlarmOf None (due_of state) known.set)
@@ -163,9 +166,10 @@ module _ (t p : ℕ) (old : FieldState) (old_due : List Due) (shown : IsShown t 
         due = cleared;
         dues = λ q other. ap (λ (l : List Due). slice_get l q) is_due ∙ due_kept mid p SendingStart None q other ∙ ap (λ (l : List Due). slice_get l q) is_mid ∙ due_kept old_due p AlarmOf None q other;
         places = ap (λ (l : List Due). length l) is_due ∙ due_places mid p SendingStart None ∙ ap (λ (l : List Due). length l) is_mid ∙ due_places old_due p AlarmOf None;
+        sums = λ q other. refl;
       } in
       subst (λ (w : FieldState). Acts t p change [] [] old old_due w new_due) (sym is_new)
-      (acts_at t p state after closed None [] old next old_due new_due step (delivery ∙ state_taken t p old old_due shown i at state is) happened before change (with_tuned closed) (tuned_goes_on closed) (λ made ended. comes made) field)
+      (acts_at t p state after closed None [] old next old_due new_due step (delivery ∙ state_taken t p old old_due shown i at state is) happened before change (with_tuned closed) (tuned_goes_on closed) (λ made ended. comes made) (λ made counted. counted) field)
 
   -- what a trail's device at the place is
   same_state : (s : Setup) (d : Device) → (shows : Shows s t old old_due p d) → shows.state ≡ state
@@ -184,13 +188,13 @@ module _ (t p : ℕ) (old : FieldState) (old_due : List Due) (shown : IsShown t 
 
   -- the device goes on, of which it is to be told
   pub on_acts : IsField old → IsTime old.medium t → (after : DeviceState) → after ≡ record state { core = after.core; power = after.power; delivery = None } → HappenedBy t after
-      → Acts t p (turned after.power) [] [] old old_due (record { medium = old.medium; devices = set old.devices i after; air = old.air; deliveries = old.deliveries; drops = old.drops }) old_due
+      → Acts t p (turned after.power) [] [] old old_due (record { medium = old.medium; devices = set old.devices i after; air = old.air; deliveries = old.deliveries; drops = old.drops; sums = old.sums }) old_due
   on_acts field time after changed happened =
       let comes : (made : Made) → turned after.power state.setup (whole state made) ≡ whole after made = λ made. ap (λ (x : DeviceState). whole x made) (sym changed) in
       told_acts field time after [] old.drops (ap (λ (x : DeviceState). x.setup) changed) (ap (λ (x : DeviceState). x.delivery) changed) happened (sym (append-nil old.drops))
       (turned after.power) (λ made. made) (λ made. record { sent = refl; tuned = refl; deliveries = sym (append-nil made.deliveries) })
       (subst (λ (x : Device). StaysSet (whole state nothing_made) x) (comes nothing_made) (record { listening = refl; alarm = refl; ordered = refl; sending = refl }))
-      comes
+      comes (λ made. refl)
 
   pub booted_acts : (clock : ℕ → ℕ) (frame : ℕ) (after : DeviceState) (mid new : FieldState) (new_due : List Due) → after ≡ record state { core = after.core; power = after.power; delivery = None }
       → ((made : Made) → after_act clock state.setup t frame (whole state made) On state.power ≡ event clock state.setup t Boot None (whole after made))
@@ -209,13 +213,13 @@ module _ (t p : ℕ) (old : FieldState) (old_due : List Due) (shown : IsShown t 
     lines = if lost then one_drop line.frame state.setup.id stream ∷ [] else []
 
     pub put_acts : IsField old → IsTime old.medium t → (drops : List DropLine) → IsSameNode state after → HappenedBy t after → drops ≡ old.drops ++ lines
-        → Acts t p (λ s d. after_act clock s t line.frame d (Put stream payload) d.power) [] lines old old_due (record { medium = old.medium; devices = set old.devices i after; air = old.air; deliveries = old.deliveries; drops = drops }) old_due
+        → Acts t p (λ s d. after_act clock s t line.frame d (Put stream payload) d.power) [] lines old old_due (record { medium = old.medium; devices = set old.devices i after; air = old.air; deliveries = old.deliveries; drops = drops; sums = old.sums }) old_due
     put_acts field time drops node happened more =
         told_acts field time after lines drops node.setup (node.delivery ∙ state_taken t p old old_due shown i at state is) happened more
         (λ s d. after_act clock s t line.frame d (Put stream payload) d.power) (with_drop lost (one_drop line.frame state.setup.id stream))
         (λ made. record { sent = refl; tuned = refl; deliveries = sym (append-nil made.deliveries) })
         (subst (λ (d : Device). StaysSet (whole state nothing_made) d) (puts nothing_made) (put_stays clock state.setup t line.frame (whole state nothing_made) stream payload state.power))
-        puts
+        puts (λ made. refl)
 
     pub put_lost : line.node ≡ state.setup.id → (s : Setup) (d : Device) → Shows s t old old_due p d → lines ≡ option_to_list (drop_by line (Put stream payload) d.power)
     put_lost own s d shows =
@@ -227,12 +231,12 @@ module _ (t p : ℕ) (old : FieldState) (old_due : List Due) (shown : IsShown t 
   module _ (clock : ℕ → ℕ) (line : ScriptLine) (act : Act) (loses : (power : Power) → drop_by line act power ≡ None) (stays : (power : Power) → StaysSet (whole state nothing_made) (after_act clock state.setup t line.frame (whole state nothing_made) act power)) (after : DeviceState)
       (wishes : (made : Made) → after_act clock state.setup t line.frame (whole state made) act state.power ≡ whole after made) where
     pub wish_told : IsField old → IsTime old.medium t → IsSameNode state after → HappenedBy t after
-        → IsTold clock line t p act old old_due (record { medium = old.medium; devices = set old.devices i after; air = old.air; deliveries = old.deliveries; drops = old.drops }) old_due
+        → IsTold clock line t p act old old_due (record { medium = old.medium; devices = set old.devices i after; air = old.air; deliveries = old.deliveries; drops = old.drops; sums = old.sums }) old_due
     wish_told field time node happened = (
       [],
       told_acts field time after [] old.drops node.setup (node.delivery ∙ state_taken t p old old_due shown i at state is) happened (sym (append-nil old.drops))
           (λ s d. after_act clock s t line.frame d act d.power) (λ made. made) (λ made. record { sent = refl; tuned = refl; deliveries = sym (append-nil made.deliveries) })
           (subst (λ (d : Device). StaysSet (whole state nothing_made) d) (wishes nothing_made) (stays state.power))
-          wishes,
+          wishes (λ made. refl),
       λ s d shows. ap option_to_list (sym (loses d.power)),
     )

@@ -11,16 +11,21 @@ use Rattle.air_log.specs.Deliveries.{comes_before}
 use Rattle.air_log.specs.LogText.{in_order}
 use Rattle.air_log.specs.ClockLists.{clocks_by}
 use Rattle.air_log.specs.DeviceStates.{core_in}
+use Rattle.air_log.specs.declared.charge.NodeCharge.{NodeCharge}
+use Rattle.air_log.specs.NodeCharges.{charges_in}
+use Rattle.lwb_world.specs.Counting.{all_scans_before, AreCharges}
 use Rattle.lwb_world.specs.Fields.{FieldState, IsShown}
 use Rattle.lwb_world.specs.FieldSteps.{IsClosed}
 use Rattle.lwb_world.specs.Moments.{Before}
 use Rattle.lwb_world.specs.Running.{IsRunning}
 use Rattle.lwb_world.specs.Runs.{IsRun, orders_left}
 use Rattle.lwb_world.specs.Worlds.{WorldState, HasRun, core_of, core_id, line_id}
+use Rattle.lwb_world.proofs.ChargesOver.{charges_over}
 use Rattle.lwb_world.proofs.KnownAtPlaces.{shown_within}
 use Rattle.lwb_world.proofs.LineSteps.{ids_of_nodes}
 use Rattle.lwb_world.proofs.RunOver.{run_over}
 use Rattle.lwb_world.proofs.RunsOnAir.{hearing_followed}
+use Rattle.lwb_world.proofs.TrailsGoOn.{AreClocks}
 
 module _ (s : ScenarioParts) (sound : IsSoundScenario s) (clocks : ℕ → ℕ → ℕ) (w : FieldState) (due : List Due) (run : IsRunning s clocks s.script (run_end s) Before w due) where
   -- all tunings end at tick t, which is the end of the run
@@ -29,12 +34,22 @@ module _ (s : ScenarioParts) (sound : IsSoundScenario s) (clocks : ℕ → ℕ �
     over = subst (λ (u : ℕ). IsClosed u w due closed) end (closes due (λ q within. subst (λ (u : ℕ). IsShown u w due q) (sym end) (shown_within s clocks (run_end s) Before w due run.places run.trails q within)))
 
     -- the field without its deliveries, and these in order
-    pub run_left : (left : FieldState) → left ≡ record closed { deliveries = [] } → (made : List Delivery) → made ≡ in_order comes_before closed.deliveries
+    pub run_left : AreClocks clocks → (left : FieldState) → left ≡ record closed { deliveries = [] } → (made : List Delivery) → made ≡ in_order comes_before closed.deliveries
         → IsRun s clocks left.air made left.drops (core_of (map core_in left.devices)) × (due ≡ orders_left s clocks left.air)
-    run_left left rest made taken =
-        let is = run_over s clocks w due closed sound run over (hearing_followed s clocks s.script w due run run.places.field closed over) in
+    run_left drifts left rest made taken =
+        let is = run_over s clocks w due closed sound drifts run over (hearing_followed s clocks s.script w due run run.places.field closed over) in
         subst (λ (l : FieldState). IsRun s clocks l.air made l.drops (core_of (map core_in l.devices)) × (due ≡ orders_left s clocks l.air)) (sym rest)
         (subst (λ (ds : List Delivery). IsRun s clocks closed.air ds closed.drops (core_of (map core_in closed.devices))) (sym taken) is.0, is.1)
+
+    -- what was counted of its nodes
+    pub sums_left : (left : FieldState) → left ≡ record closed { deliveries = [] } → left.sums ≡ w.sums
+    sums_left left rest = ap (λ (l : FieldState). l.sums) rest ∙ over.sums
+
+    pub charges_left : AreClocks clocks → (left : FieldState) → left ≡ record closed { deliveries = [] } → (scanned : List ℕ) → scanned ≡ all_scans_before s clocks w.air s.frames → (charges : List NodeCharge) → AreCharges left.sums scanned charges
+        → charges ≡ charges_in s clocks left.air
+    charges_left drifts left rest scanned counted charges are =
+        charges_over s clocks w due closed sound drifts run over scanned charges counted (subst (λ (l : FieldState). AreCharges l.sums scanned charges) rest are)
+        ∙ ap (λ (l : FieldState). charges_in s clocks l.air) (sym rest)
 
     -- and the ids of its cores
     pub cores_left : (left : FieldState) → left ≡ record closed { deliveries = [] } → map core_id (map core_in left.devices) ≡ map line_id s.nodes

@@ -1,5 +1,5 @@
 -- What a step of a run does: at one device, on the air, and in the lists.
-use Rattle.std.specs.Prelude.{◌≡◌, ◌≢◌, ◌⊎◌, ◌↔◌, ℕ, ◌<◌, List, [], ◌∷◌, ◌++◌, map, length, slice_get, slice_set, slice_index_or, All, AllPairs, Contains, Some, None, option_to_list}
+use Rattle.std.specs.Prelude.{◌≡◌, ◌≢◌, ◌⊎◌, ◌↔◌, ℕ, ◌<◌, List, [], ◌∷◌, ◌++◌, map, length, replicate, slice_get, slice_set, slice_index_or, All, AllPairs, Contains, Some, None, option_to_list, false}
 use Rattle.std.specs.declared.option.Option.{Option}
 use Rattle.std.specs.Option.{IfSome}
 use Rattle.lwb_base.specs.declared.event.Event.TheVariants.{Heard, Sent}
@@ -26,6 +26,7 @@ use Rattle.scenario_text.specs.declared.script.Act.{Act}
 use Rattle.scenario_text.specs.declared.script.ScriptLine.{ScriptLine}
 use Rattle.node_core.specs.Nodes.{rebooted}
 use Rattle.air_log.specs.DeviceStates.{DeviceState, IsCoreAt, whole, with_tuned}
+use Rattle.air_log.specs.WindowSums.{WindowSum}
 use Rattle.lwb_world.specs.Fields.{FieldState, Shows, IsLogged, entries_of, ids_of, setups_of, power_of}
 
 -- a scene that the medium holds after a step at t: these sendings have begun, and nothing has changed before t
@@ -130,6 +131,7 @@ pub record IsClosed (t : ℕ) (old : FieldState) (old_due : List Due) (new : Fie
   pub sendings : sendings_of new.air ≡ sendings_of old.air
   pub deliveries : new.deliveries ≡ old.deliveries
   pub drops : new.drops ≡ old.drops
+  pub sums : new.sums ≡ old.sums
   pub powers : map power_of new.devices ≡ map power_of old.devices
   pub cores : All (λ d. IsCoreAt d.core d.power) new.devices
   pub ids : ids_of new ≡ ids_of old
@@ -149,6 +151,10 @@ first_device s n = record {
   delivery = None;
 }
 
+-- of no windows
+abbrev pub nothing_counted : ScenarioParts → WindowSum
+nothing_counted s = record { profile = s.profile; sends = s.sends; earlier = 0; last = 0; by_alarm = false; sent = 0 }
+
 abbrev pub node_id : NodeLine → ℕ
 node_id n = n.node
 
@@ -159,3 +165,4 @@ pub record IsFirst (s : ScenarioParts) (w : FieldState) : Type 0 where
   pub air : w.air ≡ []
   pub deliveries : w.deliveries ≡ []
   pub drops : w.drops ≡ []
+  pub sums : w.sums ≡ replicate (length s.nodes) (nothing_counted s)

@@ -1,5 +1,5 @@
 -- The devices of a run by place, the air that they share, and what is in the lists so far.
-use Rattle.std.specs.Prelude.{◌≡◌, ℕ, List, [], ◌∷◌, map, filter, reverse, slice_get, All, ◌==◌, Some, None}
+use Rattle.std.specs.Prelude.{◌≡◌, ℕ, ◌≤◌, List, [], ◌∷◌, map, filter, reverse, slice_get, All, ◌==◌, Some, None}
 use Rattle.std.specs.declared.option.Option.{Option}
 use Rattle.std.specs.Option.{option_map}
 use Rattle.radio_model.specs.declared.sending.Sending.{Sending}
@@ -16,14 +16,17 @@ use Rattle.air_log.specs.declared.entry.TunedEntry.{TunedEntry}
 use Rattle.air_log.specs.Devices.{Device, Power, Made, Listening, Ordered}
 use Rattle.air_log.specs.Lawful.{sent_by, tuned_by}
 use Rattle.air_log.specs.DeviceStates.{DeviceState, whole, EndedBefore, HappenedBy}
+use Rattle.air_log.specs.WindowLogs.{WindowLog}
+use Rattle.air_log.specs.WindowSums.{WindowSum, IsCounted}
 
--- deliveries and drops stand in the order in which they were made
+-- deliveries and drops stand in the order in which they were made; sums: what the windows of each device count so far
 pub record FieldState : Type 0 where
   pub medium : MediumState
   pub devices : List DeviceState
   pub air : List Entry
   pub deliveries : List Delivery
   pub drops : List DropLine
+  pub sums : List WindowSum
 
 abbrev pub setup_of : DeviceState → Setup
 setup_of d = d.setup
@@ -81,6 +84,13 @@ pub record IsKnown (w : FieldState) (due : List Due) (p : ℕ) (d : DeviceState)
   pub sending : station.sending ≡ d.sending
   pub set : slice_get due p ≡ Some (due_of d)
 
+-- at the place it is known what these windows of a device count
+pub record HasCounted (sums : List WindowSum) (p : ℕ) (s : Setup) (windows : List WindowLog) : Type 0 where
+  pub sum : WindowSum
+  pub there : slice_get sums p ≡ Some sum
+  pub is : IsCounted s.profile s.sends windows sum
+  pub few : s.sends ≤ 4
+
 -- at tick t the device at the place, with all that it has made, is this one of a trail
 pub record Shows (s : Setup) (t : ℕ) (w : FieldState) (due : List Due) (p : ℕ) (d : Device) : Type 0 where
   pub state : DeviceState
@@ -90,6 +100,7 @@ pub record Shows (s : Setup) (t : ℕ) (w : FieldState) (due : List Due) (p : �
   pub is : whole state made ≡ d
   pub logged : IsLogged w s.id made
   pub known : IsKnown w due p state
+  pub counted : HasCounted w.sums p s made.windows
   pub ended : EndedBefore t made.tuned
   pub happened : HappenedBy t state
   pub taken : state.delivery ≡ None

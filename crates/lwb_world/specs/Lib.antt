@@ -4,6 +4,7 @@ pub mod FieldHearings
 pub mod Moments
 pub mod Running
 pub mod Runs
+pub mod Counting
 pub mod Worlds
 pub mod WorldShapes
 pub mod Frames

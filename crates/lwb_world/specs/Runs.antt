@@ -13,6 +13,7 @@ use Rattle.node_core.specs.Nodes.{NodeState}
 use Rattle.air_log.specs.declared.entry.Entry.{Entry}
 use Rattle.air_log.specs.Devices.{Device, Power, PowerOff, PowerOn, Ordered}
 use Rattle.air_log.specs.Lawful.{Lawful, trail_in}
+use Rattle.air_log.specs.Safe.{Safe}
 use Rattle.air_log.specs.Deliveries.{deliveries_of}
 use Rattle.air_log.specs.Drops.{drops_of}
 
@@ -39,9 +40,10 @@ standing_at s clocks air n = standing (trail_in s clocks air n.node)
 abbrev pub orders_left : ScenarioParts → (ℕ → ℕ → ℕ) → List Entry → List Due
 orders_left s clocks air = map (standing_at s clocks air) s.nodes
 
--- a log that is lawful, the deliveries and drops of its trails, and the cores where the trails leave them
+-- a log that is lawful and safe, the deliveries and drops of its trails, and the cores where the trails leave them
 pub record IsRun (s : ScenarioParts) (clocks : ℕ → ℕ → ℕ) (air : List Entry) (made : List Delivery) (lost : List DropLine) (core : ℕ → Option NodeState) : Type 0 where
   pub lawful : Lawful s clocks air
+  pub safe : Safe s clocks air
   pub deliveries : made ≡ deliveries_of s clocks air
   pub drops : lost ≡ drops_of s clocks air
   pub cores : (v : ℕ) → knows s.nodes v ≡ true → IsCoreOf (core v) (trail_in s clocks air v).power

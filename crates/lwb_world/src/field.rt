@@ -10,20 +10,23 @@ ghost use Rattle.air_log.specs.AlarmRuns.{IsAlarmRun};
 ghost use Rattle.air_log.specs.Devices.{Device as DeviceOf, obeyed, event as event_at};
 ghost use Rattle.air_log.specs.Trails.{is_due, alarmed, begun as begun_at, starting};
 ghost use Rattle.air_log.specs.DeviceStates.{IsTimely};
+ghost use Rattle.air_log.specs.WindowLogs.{is_alarm};
+ghost use Rattle.air_log.specs.WindowSums.{sent_with};
 ghost use Rattle.lwb_world.specs.Fields.{Shows, IsShown, entries_of};
 ghost use Rattle.lwb_world.specs.FieldSteps.{Acts, IsFirst, IsClosed};
 
-use air_log::{Air, Device, Entry, SentEntry, TunedEntry};
+use air_log::{Air, Device, Entry, SentEntry, TunedEntry, WindowSum};
 use bus_rules::{Delivery, DropLine};
 use event_calendar::{Class, Orders};
-use lwb_base::{Event, Memory, NodeId, Order, RecordingRadio};
+use lwb_base::{Event, Memory, NodeId, Order, Packet, RecordingRadio};
 use radio_model::Medium;
 use scenario_text::Scenario;
 use std::alloc::Global;
 use std::marker::Model;
 use tick_clock::DriftClock;
 
-// The medium, the devices by ascending ids, and what is in the lists so far, in the order in which it was made.
+// The medium, the devices by ascending ids, what is in the lists so far, in the order in which it was made, and what the
+// windows of each device count.
 #[derive(Drop)]
 pub(crate) struct Field {
     pub(crate) medium: Medium,
@@ -31,6 +34,7 @@ pub(crate) struct Field {
     pub(crate) air: Air,
     pub(crate) deliveries: Vec<Delivery>,
     pub(crate) drops: Vec<DropLine>,
+    pub(crate) sums: Vec<WindowSum>,
 }
 
 impl Model for Field {
@@ -38,13 +42,14 @@ impl Model for Field {
 
     ghost Value = { FieldState };
 
-    ghost view = { λ w. record { medium = w.medium; devices = w.devices.items; air = w.air; deliveries = w.deliveries.items; drops = w.drops.items } };
+    ghost view = { λ w. record { medium = w.medium; devices = w.devices.items; air = w.air; deliveries = w.deliveries.items; drops = w.drops.items; sums = w.sums.items } };
 
-    ghost invariant = { λ w. IsField (record { medium = w.medium; devices = w.devices.items; air = w.air; deliveries = w.deliveries.items; drops = w.drops.items }) };
+    ghost invariant = { λ w. IsField (record { medium = w.medium; devices = w.devices.items; air = w.air; deliveries = w.deliveries.items; drops = w.drops.items; sums = w.sums.items }) };
 }
 
 impl Field {
-    // The device at the place is told of an event at tick t, and what it orders is done.
+    // The device at the place is told of an event at tick t, and what it orders is done. A Sent comes with the packet of the
+    // sending that ended.
     pub(crate) fn tell<C: DriftClock, Q: Orders>(
         &mut self,
         orders: &mut Q,
@@ -52,16 +57,23 @@ impl Field {
         place: u8,
         t: u64,
         event: Event,
+        sent: Option<Packet>,
     ) -> Result<(), Memory>
+        requires sent { (ended : Option SendingOf) × (sent ≡ sent_with event ended) }
         requires shown { IsShown t self.old (Q.map orders.old) place }
         requires time { IsTime self.old.medium t }
         requires early { t ≤ 2 ^ 45 }
-        ensures { (ended : Option SendingOf) → OnOk result (Acts t place (λ s d. event_at (C.readings clock.now) s t event ended d) [] [] self.old (Q.map orders.old) self.new (Q.map orders.new)) }
+        ensures { (ended : Option SendingOf) → sent ≡ sent_with event ended → OnOk result (Acts t place (λ s d. event_at (C.readings clock.now) s t event ended d) [] [] self.old (Q.map orders.old) self.new (Q.map orders.new)) }
     {
+        let by_alarm = is_alarm(&event);
         let mut radio = RecordingRadio::new();
         let device = &mut self.devices[usize::from(place)];
+        let before = device.is_in_window();
         device.react(clock, t, event, &mut radio);
+        let after = device.is_in_window();
         let delivery = device.delivered();
+        let windows = &mut self.sums[usize::from(place)];
+        windows.note(before, after, by_alarm, sent);
         self.log_delivery(delivery)?;
         self.obey_all(orders, clock, place, t, radio)
     }
@@ -145,7 +157,7 @@ impl Field {
             if !self.take_alarm(orders, place, t) {
                 return Ok(());
             }
-            self.tell(orders, clock, place, t, Event::Alarm)?;
+            self.tell(orders, clock, place, t, Event::Alarm, None)?;
         }
         unreachable!()
     }
@@ -218,4 +230,10 @@ impl Field {
             None => Ok(()),
         }
     }
+}
+
+fn is_alarm(event: &Event) -> bool
+    ensures { result ≡ is_alarm event.now }
+{
+    matches!(event, Event::Alarm)
 }

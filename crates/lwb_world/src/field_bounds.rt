@@ -1,15 +1,15 @@
 //! A field at the beginning and at the end of a run.
 
-ghost use Rattle.std.specs.Prelude.{◌≡◌, ◌≤◌, ◌<◌, ◌^◌, ℕ, List, [], OnOk, IfOk, length, map, slice_get, Some, Contains};
+ghost use Rattle.std.specs.Prelude.{◌≡◌, ◌≤◌, ◌<◌, ◌^◌, ℕ, List, [], OnOk, IfOk, length, map, replicate, slice_get, Some, Contains};
 ghost use Rattle.lwb_world.specs.Fields.{IsShown, ids_of};
-ghost use Rattle.lwb_world.specs.FieldSteps.{IsFirst, IsClosed, GoesSilent, first_device, node_id};
+ghost use Rattle.lwb_world.specs.FieldSteps.{IsFirst, IsClosed, GoesSilent, first_device, node_id, nothing_counted};
 ghost use Rattle.event_calendar.specs.Orders.{Due as DueOf};
 ghost use Rattle.air_log.specs.LogText.{in_order};
 ghost use Rattle.air_log.specs.Deliveries.{comes_before};
 
 use crate::deliveries::sort_deliveries;
 use crate::field::Field;
-use air_log::{Air, Device};
+use air_log::{Air, Device, WindowSum};
 use bus_rules::Delivery;
 use lwb_base::{Memory, NodeId};
 use radio_model::Medium;
@@ -31,6 +31,7 @@ impl Field {
             air: Air::new(alloc),
             deliveries: Vec::new(alloc),
             drops: Vec::new(alloc),
+            sums: sums(alloc, s)?,
         })
     }
 
@@ -114,4 +115,15 @@ fn devices(alloc: Global, s: &Scenario) -> Result<Vec<Device>, Memory>
         devices.push(device)?;
     }
     Ok(devices)
+}
+
+fn sums(alloc: Global, s: &Scenario) -> Result<Vec<WindowSum>, Memory>
+    ensures { IfOk result (λ v. v.items ≡ replicate (length s.now.nodes) (nothing_counted s.now)) }
+{
+    let profile = s.profile();
+    let mut sums = Vec::new(alloc);
+    for _ in 0..s.nodes().len() {
+        sums.push(WindowSum::new(&profile, s.sends()))?;
+    }
+    Ok(sums)
 }

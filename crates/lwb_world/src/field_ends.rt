@@ -47,7 +47,14 @@ impl Field {
             return Ok(());
         };
         self.hear_all(orders, clocks, &hearers, &x)?;
-        self.tell(orders, &clocks[usize::from(place)], place, t, Event::Sent)
+        self.tell(
+            orders,
+            &clocks[usize::from(place)],
+            place,
+            t,
+            Event::Sent,
+            Some(x.packet),
+        )
     }
 
     // These nodes hear the sending that has ended.
@@ -97,6 +104,6 @@ impl Field {
         };
         self.air.push(Entry::Heard(entry))?;
         let heard = Event::Heard(x.packet.copy());
-        self.tell(orders, clock, place, x.end, heard)
+        self.tell(orders, clock, place, x.end, heard, None)
     }
 }

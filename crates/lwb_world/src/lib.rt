@@ -4,6 +4,7 @@
 mod deliveries;
 mod field;
 mod field_bounds;
+mod field_counts;
 mod field_ends;
 mod field_script;
 mod frames;

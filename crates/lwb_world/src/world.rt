@@ -7,7 +7,7 @@ ghost use Rattle.lwb_world.specs.Runs.{orders_left};
 ghost use Rattle.lwb_world.specs.Worlds.{new_world, core_of, HasRun};
 
 use crate::field::Field;
-use air_log::Air;
+use air_log::{Air, NodeCharge};
 use bus_rules::{Delivery, DropLine};
 use event_calendar::{Calendar, Orders};
 use lwb_base::{Memory, NodeId};
@@ -26,6 +26,7 @@ pub struct World<'a, C: DriftClock> {
     pub(crate) ran: bool,
     pub(crate) field: Field,
     pub(crate) deliveries: Vec<Delivery>,
+    pub(crate) charges: Vec<NodeCharge>,
 }
 
 impl<'a, C: DriftClock> Model for World<'a, C> {
@@ -36,7 +37,7 @@ impl<'a, C: DriftClock> Model for World<'a, C> {
 
     ghost Value = { WorldState × List C };
 
-    ghost view = { λ w. (record { scenario = w.scenario.now; ran = w.ran; air = w.field.air; deliveries = w.deliveries.items; drops = w.field.drops; cores = map core_in w.field.devices }, w.clocks.items) };
+    ghost view = { λ w. (record { scenario = w.scenario.now; ran = w.ran; air = w.field.air; deliveries = w.deliveries.items; drops = w.field.drops; charges = w.charges.items; cores = map core_in w.field.devices }, w.clocks.items) };
 
     ghost invariant = { λ w. IsWorld w.scenario.now w.ran w.field w.deliveries.items (length w.clocks.items) };
 }
@@ -54,6 +55,7 @@ impl<'a, C: DriftClock> World<'a, C> {
             ran: false,
             field: Field::new(alloc, s)?,
             deliveries: Vec::new(alloc),
+            charges: Vec::new(alloc),
         })
     }
 
@@ -80,12 +82,14 @@ impl<'a, C: DriftClock> World<'a, C> {
     {
         let profile = self.scenario.profile();
         self.ran = true;
-        self.field
-            .frames(orders, self.scenario, self.clocks.as_slice())?;
+        let clocks = self.clocks.as_slice();
+        let scanned = self.field.frames(alloc, orders, self.scenario, clocks)?;
         let end = u64::from(self.scenario.frames()) * profile.frame();
         self.field.close(end)?;
         let deliveries = self.field.take_deliveries(alloc)?;
         self.deliveries = deliveries;
+        let charges = self.field.charges(alloc, scanned.as_slice())?;
+        self.charges = charges;
         Ok(())
     }
 
@@ -108,6 +112,13 @@ impl<'a, C: DriftClock> World<'a, C> {
         ensures { result.now ≡ self.now.0.drops }
     {
         &self.field.drops
+    }
+
+    /// What the windows of each node count and in how many frames it scans, by ascending ids. There are none before the run.
+    pub fn charges(&self) -> &[NodeCharge]
+        ensures { result.now ≡ self.now.0.charges }
+    {
+        &self.charges
     }
 
     /// The core that the world drives for a node. None comes exactly for a node that is not in the scenario.

@@ -1,12 +1,23 @@
+-- kept for the crates above
+pub mod ListsInPlace
+pub mod MembersOfSlots
+pub mod SlotsMet
+pub mod StepsCounted
+pub mod TextFloods
+-- for this crate alone
 pub mod Picks
 pub mod OffersRead
 pub mod HeardByMasks
 pub mod SteppedByMasks
-pub mod TextFloods
-pub mod MembersOfSlots
-pub mod ListsInPlace
 pub mod SaidBehind
 pub mod ClosedBehind
 pub mod HeardOrigins
 pub mod SlotsClosed
 pub mod SlotsRun
+pub mod SendersKept
+pub mod FoundPlaces
+pub mod ReadLengths
+pub mod WindowTimes
+pub mod OriginsKept
+pub mod SlotsCharged
+pub mod RoundsLed

@@ -1,11 +1,11 @@
 -- A flood by masks of the nodes that a trace is sealed with.
-use Rattle.std.specs.Prelude.{◌≡◌, ◌<◌, ◌==◌, ℕ, ◌+◌, ◌*◌, ◌^◌, ◌%◌, bit_or, List, Bool, true, false, is_some, is_none, not, ◌&&◌, ◌||◌, nat_lt, Some, None, if◌then◌else◌, length, map, slice_index_or, option_map}
+use Rattle.std.specs.Prelude.{◌≡◌, ◌<◌, ◌==◌, ℕ, ◌+◌, ◌*◌, ◌^◌, ◌%◌, bit_or, List, Bool, true, false, is_some, is_none, not, ◌&&◌, ◌||◌, nat_lt, Some, None, if◌then◌else◌, length, map, slice_index, slice_index_or, option_map}
 use Rattle.std.specs.declared.option.Option.{Option}
 use Rattle.std.specs.Int.{bit_at}
 use Rattle.link_trace.specs.Masks.{IsMask}
 use Rattle.link_trace.specs.Passes.{passes, captured}
 use Rattle.link_trace.specs.Sealed.{Traced}
-use Rattle.bus_model.specs.Flooding.{Setting, Moment, STEPS, has, agrees, first_heard}
+use Rattle.bus_model.specs.Flooding.{Setting, Moment, moment, STEPS, has, agrees, first_heard}
 use Rattle.plain_bus.specs.declared.station.Flood.{Flood}
 use Rattle.plain_bus.specs.declared.station.Station.{Station}
 use Rattle.plain_bus.specs.declared.station.Stations.{Stations}
@@ -33,6 +33,16 @@ station_at m v = record { node = v; sends = m.sends v; times = m.times v; heard 
 pub record AreAt (m : Moment) (nodes : List ℕ) (x : Stations) : Type 0 where
   pub each : x.each.items ≡ map (station_at m) nodes
   pub senders : IsMask (λ v. is_some (m.sends v)) nodes x.senders
+
+-- who sends in each of these steps, as masks by step
+abbrev pub AreSendersOf : (ℕ → ℕ → Bool) → List ℕ → List ℕ → Type 0
+AreSendersOf sends nodes masks = (k : ℕ) → k < length masks → IsMask (λ v. sends v k) nodes (slice_index masks k)
+
+abbrev pub sends_in : Setting → ℕ → ℕ → Bool
+sends_in s v k = is_some ((moment s k).sends v)
+
+abbrev pub AreSenders : Setting → List ℕ → List ℕ → Type 0
+AreSenders s nodes masks = AreSendersOf (sends_in s) nodes masks
 
 -- what the node at place i sends, if it is one of the mask
 abbrev pub sent_at : List Station → ℕ → ℕ → Station → Option ℕ

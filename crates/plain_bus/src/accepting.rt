@@ -19,7 +19,7 @@ pub fn accepts(alloc: Global, f: &FloodText) -> Result<FloodResult, Memory>
     ensures { IfOk result (λ r. r ≡ outcome f.now) }
 {
     let end = flooded(f.trace(), &flood_of(f), f.nodes());
-    let stations = end.each.as_slice();
+    let stations = end.stations.each.as_slice();
     let sent = sendings(stations);
     let accepts = acceptances(alloc, f.start(), stations)?;
     Ok(FloodResult::new(accepts, sent))

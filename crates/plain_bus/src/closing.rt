@@ -1,6 +1,7 @@
 //! A slot closes at all nodes, by what each accepted of its flood.
 
-ghost use Rattle.std.specs.Prelude.{◌≡◌, ◌≤◌, ◌++◌, ℕ, List, All, IfSome, OnOk, true, Some, length, map, take, filter_map, option_to_list};
+ghost use Rattle.std.specs.Prelude.{◌≡◌, ◌≤◌, ◌<◌, ◌++◌, ℕ, All, IfSome, OnOk, true, Some, length, map, take, filter_map, option_to_list};
+ghost use Rattle.std.specs.List.{AllPairs};
 ghost use Rattle.std.specs.Option.{option_map};
 ghost use Rattle.lwb_member.specs.Members.{IsHeard};
 ghost use Rattle.lwb_member.specs.Said.{meaning};
@@ -10,6 +11,7 @@ ghost use Rattle.plain_bus.specs.SlotFloods.{seen};
 ghost use Rattle.plain_bus.specs.Closings.{Behind, IsBehind, AllMay, heard_in, closed_node, delivers_node};
 
 use crate::node::BusNode;
+use crate::places::place_of;
 use crate::station::Station;
 use crate::window::Window;
 use bus_rules::{Delivery, Part};
@@ -17,12 +19,13 @@ use lwb_base::{Memory, NodeId, Rank};
 use lwb_member::{Heard, message_in};
 
 /// The slot of this part and number closes at all nodes in the round of this rank and frame, which is at most 16,777,215:
-/// by the windows and the stations behind the flood, in the order of the nodes. What they deliver comes to the end of `log`.
-/// Err is want of memory.
+/// by the windows and the stations behind the flood, in the order of the nodes, whose ids ascend. What they deliver comes to
+/// the end of `log`. Err is want of memory.
 pub fn close_all(
     nodes: &mut [BusNode],
     windows: &[Window],
     stations: &[Station],
+    ids: &[NodeId],
     rank: Rank,
     frame: u32,
     slot: u8,
@@ -32,17 +35,19 @@ pub fn close_all(
     requires frame { frame ≤ 16777215 }
     requires windows { length windows.now ≡ length nodes.old }
     requires stations { length stations.now ≡ length nodes.old }
+    requires ids { length ids.now ≡ length nodes.old }
+    requires ascending { AllPairs (λ a b. a < b) ids.now }
     requires early { All (λ n. IsEarlyState frame n.state) nodes.old }
     ensures early { OnOk result (All (λ n. IsEarlyState frame n.state) nodes.new) }
-    ensures nodes { OnOk result ((b : Behind) (ids : List ℕ) (n : ℕ → NodeOf) → IsBehind b ids windows.now stations.now → nodes.old ≡ map n ids → AllMay b ids n
-        → nodes.new ≡ map (closed_node b frame part.now n) ids) }
-    ensures log { OnOk result ((b : Behind) (ids : List ℕ) (n : ℕ → NodeOf) → IsBehind b ids windows.now stations.now → nodes.old ≡ map n ids → AllMay b ids n
-        → log.new.items ≡ log.old.items ++ filter_map (delivers_node b rank frame slot part.now n) ids) }
+    ensures nodes { OnOk result ((b : Behind) (n : ℕ → NodeOf) → IsBehind b ids.now windows.now stations.now → nodes.old ≡ map n ids.now → AllMay b ids.now n
+        → nodes.new ≡ map (closed_node b frame part.now n) ids.now) }
+    ensures log { OnOk result ((b : Behind) (n : ℕ → NodeOf) → IsBehind b ids.now windows.now stations.now → nodes.old ≡ map n ids.now → AllMay b ids.now n
+        → log.new.items ≡ log.old.items ++ filter_map (delivers_node b rank frame slot part.now n) ids.now) }
 {
     let mut place = 0;
     for node in nodes.iter_mut() {
         let window = &windows[place];
-        let accepted = heard_by(window, &stations[place], windows, stations);
+        let accepted = heard_by(window, &stations[place], windows, ids);
         let delivery = node.close(rank, frame, slot, *part, window, accepted);
         push_some(log, delivery)?;
         place += 1;
@@ -51,14 +56,10 @@ pub fn close_all(
 }
 
 // What the node of this window and station accepts.
-fn heard_by(
-    window: &Window,
-    station: &Station,
-    windows: &[Window],
-    stations: &[Station],
-) -> Option<Heard>
-    requires { length windows.now ≡ length stations.now }
-    ensures value { (b : Behind) (ids : List ℕ) → IsBehind b ids windows.now stations.now → ((o k : ℕ) → station.now.heard ≡ Some (o, k) → has ids o ≡ true)
+fn heard_by(window: &Window, station: &Station, windows: &[Window], ids: &[NodeId]) -> Option<Heard>
+    requires windows { length windows.now ≡ length ids.now }
+    requires ascending { AllPairs (λ a b. a < b) ids.now }
+    ensures value { (b : Behind) → map seen windows.now ≡ map b.window ids.now → ((o k : ℕ) → station.now.heard ≡ Some (o, k) → has ids.now o ≡ true)
         → option_map meaning result ≡ heard_in b window.now.initiates station.now.heard }
     ensures ranges { IfSome result IsHeard }
 {
@@ -66,24 +67,23 @@ fn heard_by(
         return None;
     }
     match station.heard {
-        Some((origin, _)) => said_by(windows, stations, origin),
+        Some((origin, _)) => said_by(windows, ids, origin),
         None => None,
     }
 }
 
 // What the node of this id says.
-fn said_by(windows: &[Window], stations: &[Station], origin: NodeId) -> Option<Heard>
-    requires { length windows.now ≡ length stations.now }
-    ensures value { (b : Behind) (ids : List ℕ) → IsBehind b ids windows.now stations.now → has ids origin ≡ true
+fn said_by(windows: &[Window], ids: &[NodeId], origin: NodeId) -> Option<Heard>
+    requires windows { length windows.now ≡ length ids.now }
+    requires ascending { AllPairs (λ a b. a < b) ids.now }
+    ensures value { (b : Behind) → map seen windows.now ≡ map b.window ids.now → has ids.now origin ≡ true
         → option_map meaning result ≡ (b.window origin).message }
     ensures ranges { IfSome result IsHeard }
 {
-    for (i, station) in stations.iter().enumerate() {
-        if station.node == origin {
-            return said_in(&windows[i]);
-        }
+    match place_of(ids, origin) {
+        Some(place) => said_in(&windows[place]),
+        None => None,
     }
-    None
 }
 
 // What is said in a window.

@@ -3,10 +3,15 @@
 #![tactic(auto)]
 
 mod accepting;
+mod charging;
 mod closing;
+mod cost;
 mod hearing;
+mod leading;
+mod network;
 mod node;
 mod offers;
+mod places;
 mod slot_flood;
 mod slot_windows;
 mod station;
@@ -14,13 +19,18 @@ mod stepping;
 mod window;
 
 pub use accepting::accepts;
+pub use charging::charge_all;
 pub use closing::close_all;
+pub use cost::{Cost, Steps};
 pub use hearing::hears;
+pub use leading::parts_of_round;
+pub use network::Network;
 pub use node::BusNode;
+pub use places::place_of;
 pub use slot_flood::{flood_in, open_slot};
 pub use slot_windows::open_all;
 pub use station::{Flood, Station, Stations};
-pub use stepping::flooded;
+pub use stepping::{FloodEnd, flooded};
 pub use window::Window;
 
 #[cfg(test)]

@@ -5,9 +5,11 @@ ghost use Rattle.bus_rules.specs.Cores.{frame_ended as core_ended};
 ghost use Rattle.bus_rules.specs.States.{StateOff, at_core, switched_on, switched_off, declares, leaves, puts, loses};
 ghost use Rattle.scenario_text.specs.ScenarioFacts.{IsAct};
 ghost use Rattle.bus_model.specs.Rounds.{rank_in};
-ghost use Rattle.bus_model.specs.ScriptedStates.{after_act};
+ghost use Rattle.bus_rules.specs.Tuning.{is_scan};
+ghost use Rattle.bus_model.specs.ScriptedStates.{after_act, is_on};
 ghost use Rattle.plain_bus.specs.BusNodes.{MayBoot, MayDo, loses_by};
 
+use bus_rules::Tune;
 use lwb_base::{Memory, NodeId, Payload, Profile, Rank};
 use lwb_member::Member;
 use scenario_text::Act;
@@ -127,6 +129,13 @@ impl BusNode {
             Put::Dropped => true,
             Put::Queued(_) => false,
         }
+    }
+
+    /// It is on and scans for a host.
+    pub fn scans(&self) -> bool
+        ensures { result ≡ is_on (λ c. is_scan c.tune) self.now.state }
+    {
+        self.is_on && matches!(self.member.tune(), Tune::Scan(..))
     }
 
     /// The rounds of a frame begin: it takes part in that of the rank which it scans, holds or hosts now.

@@ -4,7 +4,7 @@ ghost use Rattle.std.specs.Prelude.{◌≡◌, ◌<◌, ◌≤◌, ◌+◌, ◌+
 ghost use Rattle.bus_model.specs.Flooding.{Setting, Moment, moment, beginning, next as next_moment, STEPS};
 ghost use Rattle.link_trace.specs.Sealed.{Traced};
 ghost use Rattle.scenario_text.specs.FloodParts.{IsSealed};
-ghost use Rattle.plain_bus.specs.FloodMasks.{AreAt, IsFlood, IsKnown, station_at, station_after, station_first, with_sender};
+ghost use Rattle.plain_bus.specs.FloodMasks.{AreAt, AreSenders, IsFlood, IsKnown, station_at, station_after, station_first, with_sender};
 
 use crate::hearing::hears;
 use crate::station::{Flood, Station, Stations, has_bit};
@@ -128,17 +128,33 @@ fn initiator(flood: &Flood, place: u8, node: NodeId) -> Station
     }
 }
 
-/// All nodes behind the flood, which are those that the trace is sealed with.
-pub fn flooded(trace: &Trace, flood: &Flood, nodes: &[NodeLine]) -> Stations
+/// A flood that went by.
+#[derive(Drop)]
+pub struct FloodEnd {
+    /// All nodes behind it.
+    pub stations: Stations,
+    /// The mask of those that sent in each of its 12 steps.
+    pub senders: ArrayVec<u64, 12>,
+}
+
+/// The flood among all nodes, which are those that the trace is sealed with.
+pub fn flooded(trace: &Trace, flood: &Flood, nodes: &[NodeLine]) -> FloodEnd
     requires sealed { IsSealed trace.now nodes.now }
     requires few { length nodes.now ≤ 64 }
-    ensures each { (s : Setting) → IsFlood s trace.now flood.now → result.each.items ≡ map (station_at (moment s STEPS)) trace.now.nodes }
-    ensures length { length result.each.items ≡ length nodes.now }
-    ensures times { All (λ x. x.times ≤ STEPS) result.each.items }
+    ensures each { (s : Setting) → IsFlood s trace.now flood.now → result.stations.each.items ≡ map (station_at (moment s STEPS)) trace.now.nodes }
+    ensures senders { (s : Setting) → IsFlood s trace.now flood.now → AreSenders s trace.now.nodes result.senders.items }
+    ensures length { length result.stations.each.items ≡ length nodes.now }
+    ensures steps { length result.senders.items ≡ STEPS }
+    ensures times { All (λ x. x.times ≤ STEPS) result.stations.each.items }
 {
     let mut now = first(flood, nodes);
+    let mut senders = ArrayVec::new();
     for step in 0..12 {
+        senders.push(now.senders);
         now = now.behind(trace, flood, step);
     }
-    now
+    FloodEnd {
+        stations: now,
+        senders,
+    }
 }

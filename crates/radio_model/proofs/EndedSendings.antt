@@ -1,5 +1,5 @@
 -- The ended sendings that a node keeps stand by their ends, so a look at the newest tells what came of all.
-use Rattle.std.proofs.Common.{◌≡◌, ℕ, zero, suc, ◌+◌, ◌-◌, ◌<◌, ◌≤◌, inl, inr, List, [], ◌∷◌, ◌++◌, length, take, drop, set, get_or, Bool, true, false, ◌&&◌, ◌==◌, nat_lt, Option, Some, None, filter_map, refl, sym, ◌∙◌, ap, subst, arith, All, AllPairs, length-append}
+use Rattle.std.proofs.Common.{◌≡◌, ℕ, zero, suc, ◌+◌, ◌-◌, ◌<◌, ◌≤◌, inl, inr, List, [], ◌∷◌, ◌++◌, length, take, drop, set, get_or, Bool, true, false, ◌&&◌, ◌==◌, nat_lt, Option, Some, None, filter_map, refl, sym, ◌∙◌, ap, subst, arith, All, length-append}
 use Rattle.std.proofs.lemmas.Bool.{cases_lt, cond_both, cond-false, lt-ltb, le-ltb, and_from}
 use Rattle.std.proofs.lemmas.List.{get_or-take, get_or-drop, length-take, length-drop, get_or_append_left}
 use Rattle.std.proofs.Math.Seq.{get_or-append_seam}
@@ -11,22 +11,22 @@ use Rattle.circular_buffer.specs.Buffer.{Buffer}
 use Rattle.lwb_base.specs.Profile.{Numbers}
 use Rattle.radio_model.specs.Stations.{overlaps, retuned, tuned_in, tuned_out, is_tuned_to, finished, fresh, stations_from}
 use Rattle.radio_model.specs.Ages.{IsAged, ByEnd}
-use Rattle.radio_model.specs.Meetings.{rival_to, key_of, comes_in_time}
+use Rattle.radio_model.specs.Meetings.{rival_to}
 use Rattle.radio_model.specs.declared.sending.Sending.{Sending}
 use Rattle.radio_model.specs.declared.station.Station.{Station}
 use Rattle.radio_model.proofs.Members.{any_of}
 
-none_kept : {X Y : Type 0} (f : X → Option Y) (xs : List X) → All (λ (x : X). f x ≡ None) xs → filter_map f xs ≡ []
+pub none_kept : {X Y : Type 0} (f : X → Option Y) (xs : List X) → All (λ (x : X). f x ≡ None) xs → filter_map f xs ≡ []
 none_kept f [] all = refl
 none_kept {X} {Y} f (x ∷ xs) all =
     ap (λ (o : Option Y). cons_option o (filter_map f xs)) (All-head (λ (z : X). f z ≡ None) x xs all) ∙ none_kept f xs (All-tail (λ (z : X). f z ≡ None) x xs all)
 
-second_false : (a b c : Bool) → b ≡ false → (a && (b && c)) ≡ false
+pub second_false : (a b c : Bool) → b ≡ false → (a && (b && c)) ≡ false
 second_false true false c is = refl
 second_false false false c is = refl
 second_false a true c is = cc
 
-first_false : (b c : Bool) → b ≡ false → (b && c) ≡ false
+pub first_false : (b c : Bool) → b ≡ false → (b && c) ≡ false
 first_false false c is = refl
 first_false true c is = cc
 

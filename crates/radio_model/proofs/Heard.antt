@@ -1,6 +1,6 @@
 -- Whom the medium names hears, and who hears it names.
 use Rattle.std.proofs.Common.{◌≡◌, ℕ, ◌+◌, ◌*◌, ◌/◌, ◌<◌, ◌≤◌, ◌↔◌, ◌⊎◌, inl, inr, List, length, Bool, true, false, not, ◌&&◌, ◌||◌, ◌==◌, if◌then◌else◌, Option, Some, None, refl, sym, ◌∙◌, ap, subst, arith, eq-eqb, Contains}
-use Rattle.std.proofs.lemmas.Bool.{and_parts, and_from, or_cases, or_left, or_right, eqb-true, cases_Bool, both_ways, not-true, not_from_false, false_from_ne_true, false≢true, true≢false}
+use Rattle.std.proofs.lemmas.Bool.{and_parts, and_from, or_cases, or_left, or_right, eqb-true, cases_Bool, both_ways, not-true, not_from_false, false_from_ne_true, false≢true}
 use Rattle.std.proofs.Math.Nat.{mul-le-mul_right}
 use Rattle.std.specs.List.{list_any}
 use Rattle.lwb_base.specs.Profile.{Numbers, IsProfile}
@@ -42,7 +42,7 @@ chosen_parts : (lines : Lines) (v : ℕ) (rs : List Rival) (o : Option ℕ) → 
 chosen_parts lines v rs None is = absurd (false≢true is)
 chosen_parts lines v rs (Some w) is = (w, refl, is)
 
-chosen_from : (lines : Lines) (v : ℕ) (rs : List Rival) (o : Option ℕ) (w : ℕ) → o ≡ Some w → list_any (comes_from lines v w) rs ≡ true → is_chosen lines v rs o ≡ true
+pub chosen_from : (lines : Lines) (v : ℕ) (rs : List Rival) (o : Option ℕ) (w : ℕ) → o ≡ Some w → list_any (comes_from lines v w) rs ≡ true → is_chosen lines v rs o ≡ true
 chosen_from lines v rs o w same any = ap (is_chosen lines v rs) same ∙ any
 
 module _ (m : MediumState) (is : IsMedium m) (a : Scene) (h : Holds m a) (u : ℕ) (su : Station) (su_there : Contains m.stations su) (su_node : su.node ≡ u) (x : Sending) (runs : su.sending ≡ Some x) (x_kept : Contains (on_air su) x) (later : m.now ≤ x.end) where

@@ -16,7 +16,11 @@ pub mod AtFirst
 pub mod ChangedStations
 -- for this crate alone
 pub mod RivalLists
-pub mod PlacedRivals
+pub mod PlacedStations
+pub mod Crowds
+pub mod Marked
+pub mod Alike
+pub mod Origins
 pub mod EndedSendings
 pub mod Reaching
 pub mod Ending

@@ -1,5 +1,5 @@
 -- What a list has, after a map and after a choice of some.
-use Rattle.std.proofs.Common.{◌≡◌, zero, suc, ◌⊎◌, inl, inr, List, [], ◌∷◌, map, get_or, Option, Some, None, filter_map, option_to_list, refl, sym, ◌∙◌, ap, subst, arith, Contains, Bool, true, AllPairs}
+use Rattle.std.proofs.Common.{◌≡◌, ℕ, ◌<◌, length, zero, suc, ◌⊎◌, inl, inr, List, [], ◌∷◌, map, get_or, Option, Some, None, filter_map, option_to_list, refl, sym, ◌∙◌, ap, subst, arith, Contains, Bool, true, AllPairs}
 use Rattle.std.proofs.lemmas.List.Elements.{Contains-append_left, Contains-append_right, Contains-append_cases, Contains-get_or}
 use Rattle.std.proofs.lemmas.Bool.{or_cases, or_left, or_right, false≢true}
 use Rattle.std.specs.List.{cons_option, flat_map, list_any}
@@ -107,3 +107,8 @@ pairs_tail R x xs all i j d less below = all (suc i) (suc j) d (omega arith) (om
 
 pub pairs_head : {X : Type 0} (R : X → X → Type 0) (x : X) (xs : List X) → AllPairs R (x ∷ xs) → (y : X) → Contains xs y → R x y
 pairs_head R x xs all y (k, below, at) = subst (R x) at (all 0 (suc k) y (omega arith) (omega arith))
+
+pub same_default : {X : Type 0} (xs : List X) (k : ℕ) (d e : X) → k < length xs → get_or xs k d ≡ get_or xs k e
+same_default [] k d e below = absurd (omega arith)
+same_default (x ∷ xs) zero d e below = refl
+same_default (x ∷ xs) (suc k) d e below = same_default xs k d e (omega arith)

@@ -5,7 +5,7 @@ use Rattle.std.proofs.lemmas.List.Elements.{All-map}
 use Rattle.std.proofs.lemmas.Bool.{cond-true, cond-false, cond_both, cases_eq, cases_order, ne_eqb}
 use Rattle.lwb_base.specs.Profile.{Numbers, IsProfile}
 use Rattle.link_trace.specs.Masks.{AreNodes}
-use Rattle.radio_model.specs.Stations.{MediumState, IsMedium, node_of, is_of, changed_at, after, fresh, stations_from, first_state}
+use Rattle.radio_model.specs.Stations.{MediumState, IsMedium, node_of, nodes_of, is_of, changed_at, after, fresh, stations_from, first_state}
 use Rattle.radio_model.specs.declared.station.Station.{Station}
 use Rattle.radio_model.proofs.OneStation.{nodes_stay}
 
@@ -123,12 +123,6 @@ first_is_medium p nodes profile are = record {
   rooms = λ k d below. rooms_from 0 nodes k d below;
 }
 
--- some station is the node's
-pub somewhere : (xs : List Station) (v : ℕ) → Contains (map node_of xs) v → ((k : ℕ) (d : Station) → k < length xs → (get_or xs k d).node ≡ v → ⊥) → ⊥
-somewhere xs v (k, below, at) none =
-    let within : k < length xs = omega (arith, length-map xs node_of) in
-    none k (fresh 0 0) within (sym (get_or-map node_of xs k (fresh 0 0) v within) ∙ at)
-
 -- a call that changes the station at a place
 module _ (m : MediumState) (is : IsMedium m) (f : Station → Station) (keeps : Keeps f) (v t i : ℕ) (old new : Station) (below : i < length m.stations) (at : old ≡ get_or m.stations i old) (of : old.node ≡ v) (change : new ≡ f old) where
   abbrev changed : List Station → MediumState
@@ -140,7 +134,5 @@ module _ (m : MediumState) (is : IsMedium m) (f : Station → Station) (keeps : 
   pub after_medium : IsMedium (changed (set m.stations i new))
   after_medium = subst IsMedium (sym after_is) (still_medium f keeps v t m is)
 
--- what a search through the same stations says of the place that it found
-pub placed : (xs ys : List Station) (i v : ℕ) (old : Station) → ys ≡ xs → i < length ys → ((d : Station) → (get_or ys i d).node ≡ v) → old ≡ get_or xs i old → (i < length xs) × (old.node ≡ v)
-placed xs ys i v old same below there at =
-    (omega (arith, ap length same), ap node_of at ∙ ap (λ (l : List Station). (get_or l i old).node) (sym same) ∙ there old)
+  pub nodes_same : nodes_of (changed (set m.stations i new)) ≡ nodes_of m
+  nodes_same = ap nodes_of after_is ∙ nodes_stay f v keeps.node m.stations

@@ -48,7 +48,7 @@ before_from p x y b close =
 
 module _ (p : Numbers) (x : Sending) where
   abbrev pub rival : Station → Sending → Rival
-  rival st y = record { place = st.place; node = st.node; key = key_of p y; same = bytes_eq y.packet x.packet; in_time = comes_in_time p x y }
+  rival st y = record { node = st.node; key = key_of p y; same = bytes_eq y.packet x.packet; in_time = comes_in_time p x y }
 
   pub in_rivals : (sts : List Station) (st : Station) (y : Sending) → Contains sts st → Contains (on_air st) y → y.rank ≡ x.rank → Meets x y → Contains (rivals_to p x sts) (rival st y)
   in_rivals sts st y there kept rank meets =
@@ -66,7 +66,7 @@ module _ (p : Numbers) (x : Sending) where
     pub meets : Meets x sending
     pub is : rival station sending ≡ r
 
-  of_test : (b : Bool) (s r : Rival) → (if b then Some s else None) ≡ Some r → (b ≡ true) × (s ≡ r)
+  pub of_test : (b : Bool) (s r : Rival) → (if b then Some s else None) ≡ Some r → (b ≡ true) × (s ≡ r)
   of_test true s r is = (refl, cc)
   of_test false s r is = cc
 

@@ -1,9 +1,14 @@
 -- Lists of rivals, one more at a time.
-use Rattle.std.proofs.Common.{◌≡◌, ◌+◌, ◌<◌, ◌≤◌, ℕ, List, [], ◌∷◌, ◌++◌, length, take, get_or, Option, Some, None, option_to_list, filter_map, refl, sym, ◌∙◌, ap, arith, append_assoc, append-nil, length-append, Bool, true, false, if◌then◌else◌}
-use Rattle.std.proofs.lemmas.List.{take_more, take_all}
+use Rattle.std.proofs.Common.{◌≡◌, ◌+◌, ◌<◌, ◌≤◌, ℕ, List, [], ◌∷◌, ◌++◌, length, take, get_or, Option, Some, None, option_to_list, filter_map, refl, sym, ◌∙◌, ap, arith, append-nil, length-append, Bool, true, false, if◌then◌else◌}
+use Rattle.std.proofs.lemmas.List.{take_more, take_all, flat_map_more}
 use Rattle.std.proofs.lemmas.List.Elements.{filter_map-append}
+use Rattle.lwb_base.specs.Profile.{Numbers}
+use Rattle.radio_model.specs.Meetings.{rival_to, rivals_in, rivals_to}
+use Rattle.radio_model.specs.declared.sending.Sending.{Sending}
+use Rattle.radio_model.specs.declared.station.Station.{Station}
+use Rattle.radio_model.specs.declared.rivals.Rival.{Rival}
 
-one_kept : {X Y : Type 0} (f : X → Option Y) (x : X) → filter_map f (x ∷ []) ≡ option_to_list (f x)
+pub one_kept : {X Y : Type 0} (f : X → Option Y) (x : X) → filter_map f (x ∷ []) ≡ option_to_list (f x)
 one_kept {X} {Y} f x = of_one (f x)
   where
     of_one : (o : Option Y) → filter_map (λ (z : Option Y). z) (o ∷ []) ≡ option_to_list o
@@ -16,20 +21,27 @@ filter_map_more f xs i x below at =
     ∙ filter_map-append f (take i xs) (x ∷ [])
     ∙ ap (λ (l : List _). filter_map f (take i xs) ++ l) (one_kept f x)
 
-pub adds_kept : {X Y : Type 0} (f : X → Option Y) (xs : List X) (i : ℕ) (x : X) (old new now : List Y) → i < length xs → x ≡ get_or xs i x → now ≡ old ++ filter_map f (take i xs) → new ≡ now ++ option_to_list (f x)
-    → new ≡ old ++ filter_map f (take (i + 1) xs)
-adds_kept f xs i x old new now below at is adds =
-    adds ∙ ap (λ (l : List _). l ++ option_to_list (f x)) is ∙ append_assoc old (filter_map f (take i xs)) (option_to_list (f x))
-    ∙ ap (λ (l : List _). old ++ l) (sym (filter_map_more f xs i x below at))
+-- what a list of stations brings, with one more station
+pub rivals_more : (p : Numbers) (x : Sending) (sts : List Station) (i : ℕ) (st : Station) → i < length sts → st ≡ get_or sts i st
+    → rivals_to p x (take (i + 1) sts) ≡ rivals_to p x (take i sts) ++ rivals_in p x st
+rivals_more p x sts i st below at =
+    ap (rivals_to p x) (take_more sts i st below ∙ ap (λ (s : Station). take i sts ++ s ∷ []) (sym at))
+    ∙ sym (flat_map_more (rivals_in p x) [] (take i sts) st)
 
--- all of a list, and then one more or none
-pub kept_all : {X Y : Type 0} (f : X → Option Y) (xs : List X) (i : ℕ) (x : X) (old new now : List Y) → length xs ≤ i → now ≡ old ++ filter_map f (take i xs) → new ≡ now ++ option_to_list (f x)
-    → new ≡ old ++ filter_map f (xs ++ x ∷ [])
-kept_all f xs i x old new now all is adds =
-    adds ∙ ap (λ (l : List _). l ++ option_to_list (f x)) is ∙ append_assoc old (filter_map f (take i xs)) (option_to_list (f x))
-    ∙ ap (λ (l : List _). old ++ (filter_map f l ++ option_to_list (f x))) (take_all i xs all)
-    ∙ ap (λ (l : List _). old ++ (filter_map f xs ++ l)) (sym (one_kept f x))
-    ∙ ap (λ (l : List _). old ++ l) (sym (filter_map-append f xs (x ∷ [])))
+-- a station whose ended sendings have all been looked at, and which sends, or does not
+module _ (p : Numbers) (x : Sending) (st : Station) (i : ℕ) (all : length st.ended.items ≤ i) where
+  pub rivals_sending : (y : Sending) → st.sending ≡ Some y → rivals_in p x st ≡ filter_map (rival_to p x st) (take i st.ended.items) ++ option_to_list (rival_to p x st y)
+  rivals_sending y is =
+      let f = rival_to p x st in
+      let ended = st.ended.items in
+      ap (λ (o : Option Sending). filter_map f (ended ++ option_to_list o)) is ∙ filter_map-append f ended (y ∷ [])
+      ∙ ap (λ (l : List Sending). filter_map f l ++ filter_map f (y ∷ [])) (sym (take_all i ended all))
+      ∙ ap (λ (l : List Rival). filter_map f (take i ended) ++ l) (one_kept f y)
+
+  pub rivals_ended : st.sending ≡ None → rivals_in p x st ≡ filter_map (rival_to p x st) (take i st.ended.items)
+  rivals_ended none =
+      ap (λ (o : Option Sending). filter_map (rival_to p x st) (st.ended.items ++ option_to_list o)) none
+      ∙ ap (filter_map (rival_to p x st)) (append-nil st.ended.items ∙ sym (take_all i st.ended.items all))
 
 -- a list by a test, one element more
 pub adds_passing : {X Y : Type 0} (test : X → Bool) (value : X → Y) (xs : List X) (i : ℕ) (x : X) (b : Bool) (new now : List Y) → i < length xs → x ≡ get_or xs i x → b ≡ test x

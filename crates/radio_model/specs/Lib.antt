@@ -3,5 +3,6 @@ pub mod Hearing
 pub mod Stations
 pub mod Ages
 pub mod Pairs
+pub mod Marks
 pub mod Meetings
 pub mod Holding

@@ -1,13 +1,17 @@
 -- What decides whether a sending is heard, as the medium works it out from what it keeps.
-use Rattle.std.specs.Prelude.{◌≡◌, ℕ, ◌+◌, ◌/◌, ◌<◌, List, Bool, true, false, not, ◌&&◌, ◌||◌, ◌==◌, nat_lt, nat_le, if◌then◌else◌, Option, Some, None, filter_map, length, slice_index}
+use Rattle.std.specs.Prelude.{◌≡◌, ℕ, ◌+◌, ◌/◌, ◌<◌, List, Bool, false, not, ◌&&◌, ◌||◌, ◌==◌, nat_lt, nat_le, if◌then◌else◌, Option, Some, None, filter_map, length, slice_index}
 use Rattle.std.specs.List.{list_any, flat_map}
 use Rattle.std.specs.Str.{bytes_eq}
+use Rattle.std.specs.Int.RustNames.{bit_or}
 use Rattle.lwb_base.specs.Profile.{Numbers}
 use Rattle.link_trace.specs.Passes.{Lines, passes}
 use Rattle.link_trace.specs.Passes.{captured}
+use Rattle.link_trace.specs.Masks.{IsMask}
 use Rattle.radio_model.specs.Stations.{on_air, overlaps, covers}
 use Rattle.radio_model.specs.declared.sending.Sending.{Sending}
 use Rattle.radio_model.specs.declared.station.Station.{Station}
+use Rattle.radio_model.specs.declared.brought.Brought.{Brought}
+use Rattle.radio_model.specs.declared.crowd.Crowd.{Crowd}
 use Rattle.radio_model.specs.declared.rivals.Key.{Key}
 use Rattle.radio_model.specs.declared.rivals.Rival.{Rival}
 
@@ -22,7 +26,7 @@ comes_in_time p x y = (nat_lt x.start y.start || ((x.start == y.start) && nat_le
 abbrev pub rival_to : Numbers → Sending → Station → Sending → Option Rival
 rival_to p x st y =
     if (y.rank == x.rank) && overlaps x y
-    then Some (record { place = st.place; node = st.node; key = key_of p y; same = bytes_eq y.packet x.packet; in_time = comes_in_time p x y })
+    then Some (record { node = st.node; key = key_of p y; same = bytes_eq y.packet x.packet; in_time = comes_in_time p x y })
     else None
 
 abbrev pub rivals_in : Numbers → Sending → Station → List Rival
@@ -45,6 +49,10 @@ spoils lines v r = reaches lines v r && r.same && not r.in_time
 -- another packet comes to v
 abbrev pub differs : Lines → ℕ → Rival → Bool
 differs lines v r = reaches lines v r && not r.same
+
+-- the same packet comes to v
+abbrev pub repeats : Lines → ℕ → Rival → Bool
+repeats lines v r = reaches lines v r && r.same
 
 -- the same packet comes to v from this node
 abbrev pub comes_from : Lines → ℕ → ℕ → Rival → Bool
@@ -77,3 +85,34 @@ hearers_to p lines u x sts = filter_map (heard_by lines u x (key_of p x) (rivals
 pub record IsPlaced (nodes : List ℕ) (place node : ℕ) : Type 0 where
   pub below : place < length nodes
   pub there : slice_index nodes place ≡ node
+
+-- to which nodes these rivals bring what, by masks
+pub record IsBrought (lines : Lines) (nodes : List ℕ) (rs : List Rival) (b : Brought) : Type 0 where
+  pub mixed : IsMask (λ v. list_any (differs lines v) rs) nodes b.mixed
+  pub spoiled : IsMask (λ v. list_any (spoils lines v) rs) nodes b.spoiled
+  pub same : IsMask (λ v. list_any (repeats lines v) rs) nodes b.same
+
+abbrev pub nothing : Brought
+nothing = record { mixed = 0; spoiled = 0; same = 0 }
+
+abbrev pub both_brought : Brought → Brought → Brought
+both_brought a b = record { mixed = bit_or a.mixed b.mixed; spoiled = bit_or a.spoiled b.spoiled; same = bit_or a.same b.same }
+
+-- by a rival that reaches the nodes of this mask
+abbrev pub brought_by : Rival → ℕ → Brought
+brought_by r reach = record {
+  mixed = if not r.same then reach else 0;
+  spoiled = if r.same && not r.in_time then reach else 0;
+  same = if r.same then reach else 0;
+}
+
+-- what they bring that keeps x from being heard
+pub record IsCrowd (lines : Lines) (nodes : List ℕ) (rs : List Rival) (c : Crowd) : Type 0 where
+  pub mixed : IsMask (λ v. list_any (differs lines v) rs) nodes c.mixed
+  pub spoiled : IsMask (λ v. list_any (spoils lines v) rs) nodes c.spoiled
+
+abbrev pub no_crowd : Crowd
+no_crowd = record { mixed = 0; spoiled = 0 }
+
+abbrev pub both_crowds : Crowd → Crowd → Crowd
+both_crowds a b = record { mixed = bit_or a.mixed b.mixed; spoiled = bit_or a.spoiled b.spoiled }

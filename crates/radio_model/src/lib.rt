@@ -1,9 +1,12 @@
 //! Who hears what on the air: the medium that all nodes share.
 #![tactic(auto)]
 
+mod brought;
+mod crowd;
 mod hearers;
 pub mod laws;
 mod listeners;
+mod mark;
 mod medium;
 mod rivals;
 pub mod sending;

@@ -1,4 +1,4 @@
-ghost use Rattle.std.specs.Prelude.{◌≡◌, ◌≤◌, ◌<◌, ◌^◌, ◌∷◌, [], ℕ, IfOk, IfSome, IsSomeAnd, All, AllPairs, Contains, ◌↔◌, length, map, slice_index, slice_index_or, Some, vec_capacity};
+ghost use Rattle.std.specs.Prelude.{◌≡◌, ◌≤◌, ◌<◌, ◌^◌, ◌∷◌, [], ℕ, IfOk, IfSome, IsSomeAnd, All, AllPairs, Contains, ◌↔◌, length, map, List, slice_index, slice_index_or, slice_set, Some, if◌then◌else◌};
 ghost use Rattle.std.specs.List.{HoldsAt};
 ghost use Rattle.lwb_base.specs.Profile.{Numbers};
 ghost use Rattle.link_trace.specs.Masks.{AreNodes};
@@ -8,12 +8,13 @@ ghost use Rattle.radio_model.specs.Holding.{Holds, nothing_yet, after_tuning, af
 ghost use Rattle.radio_model.specs.Stations.{MediumState, node_of, nodes_of, station_of, can_send, sending_of, retuned, started, finished, after, first_state, stations_from, IsTime, IsMedium, Ends};
 ghost use Rattle.radio_model.specs.Ages.{IsAged};
 ghost use Rattle.radio_model.specs.Meetings.{hearers_to, IsPlaced};
+ghost use Rattle.radio_model.specs.Marks.{AreAlike, AreMarks, ArePlaces};
 ghost use Rattle.radio_model.specs.declared.sending.Sending.{Sending};
 ghost use Rattle.radio_model.specs.declared.station.Station.{Station};
 
 use crate::hearers::Hearers;
 use crate::listeners::listeners;
-use crate::rivals::{MOST_RIVALS, Rival, find_rivals};
+use crate::mark::{Mark, origin_of, raise};
 use crate::station::Station;
 use link_trace::Links;
 use lwb_base::{Memory, NodeId, Packet, Profile, Rank};
@@ -27,22 +28,31 @@ use std::marker::Model;
 #[derive(Drop)]
 pub struct Medium {
     profile: Profile,
+    // The greatest displacement at which equal sendings are heard as one, by the profile.
+    delta: u64,
     time: u64,
     stations: Vec<Station>,
-    // What overlapped the sending that ended last. Nothing is read of it; only its room is kept, and filled anew.
-    rivals: Vec<Rival>,
+    // By ids, the places of the nodes.
+    places: Vec<u8>,
+    // By places, the sendings of the nodes in short.
+    marks: Vec<Mark>,
 }
 
 impl Model for Medium {
-    ghost use Rattle.std.specs.Prelude.{◌≤◌, vec_capacity, All};
-    ghost use Rattle.radio_model.specs.Stations.{MediumState, IsMedium};
+    ghost use Rattle.std.specs.Prelude.{◌≡◌, ◌≤◌, ◌^◌, All};
+    ghost use Rattle.radio_model.specs.Stations.{MediumState, IsMedium, nodes_of};
+    ghost use Rattle.radio_model.specs.Marks.{AreAlike, AreMarks, ArePlaces};
     ghost use Rattle.radio_model.specs.Ages.{IsAged};
 
     ghost Value = { MediumState };
 
     ghost view = { λ m. record { numbers = m.profile; now = m.time; stations = m.stations.items } };
 
-    ghost invariant = { λ m. IsMedium (record { numbers = m.profile; now = m.time; stations = m.stations.items }) × (896 ≤ vec_capacity m.rivals)
+    ghost invariant = { λ m. IsMedium (record { numbers = m.profile; now = m.time; stations = m.stations.items })
+        × ArePlaces (nodes_of (record { numbers = m.profile; now = m.time; stations = m.stations.items })) m.places.items
+        × AreMarks m.stations.items m.marks.items
+        × AreAlike m.time m.stations.items m.marks.items
+        × ((m.delta ≡ m.profile.delta) × (m.delta ≤ 2 ^ 32))
         × All (λ st. IsAged m.time st.ended.items) m.stations.items };
 }
 
@@ -54,14 +64,17 @@ impl Medium {
         ensures state { IfOk result (λ m. m ≡ first_state profile.now nodes.now) }
         ensures holds { IfOk result (λ m. (lines : Lines) → Holds m (nothing_yet profile.now lines)) }
     {
-        let _made = profile.contend();
+        let delta = profile.delta();
         let stations = new_stations(alloc, nodes)?;
-        let rivals = Vec::with_capacity(alloc, MOST_RIVALS)?;
+        let places = places_of(alloc, nodes)?;
+        let marks = vec![in alloc; Mark::none(); nodes.len()]?;
         Ok(Medium {
             profile: *profile,
+            delta,
             time: 0,
             stations,
-            rivals,
+            places,
+            marks,
         })
     }
 
@@ -72,7 +85,7 @@ impl Medium {
         ensures state { self.new ≡ after t node (retuned rank t) self.old }
         ensures holds { (a : Scene) → Holds self.old a → Holds self.new (after_tuning self.old node rank t a) }
     {
-        let place = place_of(&self.stations, node);
+        let place = place_of(&self.places, node);
         let station = &mut self.stations[place];
         station.tune(rank, t);
         self.time = t;
@@ -88,10 +101,12 @@ impl Medium {
         ensures holds { (a : Scene) → Holds self.old a
             → Holds self.new (after_starting self.old node t packet.now a) }
     {
-        let place = place_of(&self.stations, node);
+        let place = place_of(&self.places, node);
         let end = t + self.profile.airtime(packet.length());
+        let origin = origin_of(&self.stations, &self.marks, place, t, packet);
         let station = &mut self.stations[place];
         let starts = station.start(t, end, packet);
+        raise(&mut self.marks, place, starts, t, end, origin);
         self.time = t;
         starts
     }
@@ -112,7 +127,7 @@ impl Medium {
         ensures ascending { AllPairs (λ p q. p.0 < q.0) result }
     {
         let hearers = self.hearers(links, node, t);
-        let place = place_of(&self.stations, node);
+        let place = place_of(&self.places, node);
         let station = &mut self.stations[place];
         station.finish();
         self.time = t;
@@ -120,23 +135,23 @@ impl Medium {
     }
 
     // Who hears the node's sending, which ends at t, as it is worked out from what is kept.
-    fn hearers<M: Links>(&mut self, links: &M, node: NodeId, t: u64) -> Hearers
-        requires node { Contains (nodes_of self.old) node }
+    fn hearers<M: Links>(&self, links: &M, node: NodeId, t: u64) -> Hearers
+        requires node { Contains (nodes_of self.now) node }
         requires small { t ≤ 2 ^ 46 }
-        requires later { self.old.now ≤ t }
-        requires sends { Ends self.old node t }
-        requires seal { M.nodes links.now ≡ nodes_of self.old }
-        ensures list { IfSome (sending_of (station_of self.old node)) (λ x. result
-            ≡ hearers_to self.old.numbers (M.lines links.now) node x self.old.stations) }
-        ensures kept { IsMedium self.old }
-        ensures same { self.new ≡ self.old }
+        requires later { self.now.now ≤ t }
+        requires sends { Ends self.now node t }
+        requires seal { M.nodes links.now ≡ nodes_of self.now }
+        ensures list { IfSome (sending_of (station_of self.now node)) (λ x. result
+            ≡ hearers_to self.now.numbers (M.lines links.now) node x self.now.stations) }
+        ensures kept { IsMedium self.now }
     {
-        let place = place_of(&self.stations, node);
+        let place = place_of(&self.places, node);
         listeners_at(
-            &mut self.rivals,
             links,
             &self.profile,
+            self.delta,
             &self.stations,
+            &self.marks,
             place,
         )
     }
@@ -144,28 +159,30 @@ impl Medium {
 
 // Who hears the sending of the station at that place, now that it ends.
 fn listeners_at<M: Links>(
-    rivals: &mut Vec<Rival>,
     links: &M,
     profile: &Profile,
+    delta: u64,
     stations: &[Station],
+    marks: &[Mark],
     place: usize,
 ) -> Hearers
     requires place { place < length stations.now }
     requires sends { (d : Station) → IsSomeAnd (slice_index_or stations.now place d).sending (λ x. (x.start ≤ 2 ^ 46) × (x.end ≤ 2 ^ 46)
         × All (λ st. IsAged x.end st.ended.items) stations.now) }
     requires few { length stations.now ≤ 64 }
-    requires kept { All (λ st. st.ended.capacity ≡ 13) stations.now }
     requires seal { M.nodes links.now ≡ map node_of stations.now }
     requires places { All (λ st. IsPlaced (M.nodes links.now) st.place st.node) stations.now }
-    requires room { 896 ≤ vec_capacity rivals.old }
-    ensures list { (d : Station) → IfSome (slice_index_or stations.now place d).sending (λ x. result ≡ hearers_to profile.now (M.lines links.now) (slice_index_or stations.now place d).node x stations.now) }
-    ensures room { 896 ≤ vec_capacity rivals.new }
+    requires in_order { (k : ℕ) (d : Station) → k < length stations.now → (slice_index_or stations.now k d).place ≡ k }
+    requires delta { (delta ≡ profile.now.delta) × (delta ≤ 2 ^ 32) }
+    requires marks { AreMarks stations.now marks.now }
+    requires alike { (now : ℕ) × AreAlike now stations.now marks.now }
+    ensures { (d : Station) → IfSome (slice_index_or stations.now place d).sending (λ x. result ≡ hearers_to profile.now (M.lines links.now) (slice_index_or stations.now place d).node x stations.now) }
 {
     let from = &stations[place];
     match &from.sending {
         Some(x) => {
-            find_rivals(rivals, profile, stations, x);
-            listeners(links, rivals, profile, stations, from, x)
+            let origin = marks[place].origin;
+            listeners(links, profile, delta, stations, marks, from, x, origin)
         }
         None => unreachable!(),
     }
@@ -183,16 +200,22 @@ fn new_stations(alloc: Global, nodes: &[NodeId]) -> Result<Vec<Station>, Memory>
     Ok(stations)
 }
 
-// The place of the node.
-fn place_of(stations: &[Station], node: NodeId) -> usize
-    requires { Contains (map node_of stations.now) node }
-    ensures below { result < length stations.now }
-    ensures there { (d : Station) → (slice_index_or stations.now result d).node ≡ node }
+// By ids, the places of the nodes.
+fn places_of(alloc: Global, nodes: &[NodeId]) -> Result<Vec<u8>, Memory>
+    requires { AreNodes nodes.now }
+    ensures { IfOk result (λ p. ArePlaces nodes.now p.items) }
 {
-    for (i, station) in stations.iter().enumerate() {
-        if station.node == node {
-            return i;
-        }
+    let mut places = vec![in alloc; 0u8; 201]?;
+    for (i, node) in nodes.iter().enumerate() {
+        places[usize::from(node.number())] = i as u8;
     }
-    unreachable!()
+    Ok(places)
+}
+
+// The place of a node, by the list of places.
+fn place_of(places: &[u8], node: NodeId) -> usize
+    requires { length places.now ≡ 201 }
+    ensures { (nodes : List ℕ) → ArePlaces nodes places.now → Contains nodes node → (result < length nodes) × (slice_index nodes result ≡ node) }
+{
+    usize::from(places[usize::from(node.number())])
 }

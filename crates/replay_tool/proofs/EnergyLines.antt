@@ -14,7 +14,7 @@ use Rattle.energy_account.specs.Energies.{energy_of}
 use Rattle.replay_tool.specs.RunReport.{energy_line, node_energy}
 
 -- a node at a place of a list is one of its nodes
-known_at : (ns : List NodeLine) (i : ℕ) (n : NodeLine) → i < length ns → n ≡ get_or ns i n → knows ns n.node ≡ true
+pub known_at : (ns : List NodeLine) (i : ℕ) (n : NodeLine) → i < length ns → n ≡ get_or ns i n → knows ns n.node ≡ true
 known_at ns i n below at =
     list_any_at (λ (m : NodeLine). m.node == n.node) ns i n below (eq-eqb (get_or ns i n).node n.node (ap (λ (m : NodeLine). m.node) (sym at)))
 

@@ -4,5 +4,6 @@ pub mod Due
 pub mod StatedRuns
 pub mod ReportLines
 pub mod EnergyLines
+pub mod CostLines
 pub mod StreamsDecided
 pub mod OwnersDiffer

@@ -11,6 +11,7 @@ use Rattle.bus_rules.specs.declared.delivery.DropLine.{DropLine}
 use Rattle.node_core.specs.Nodes.{NodeState}
 use Rattle.air_log.specs.declared.entry.Entry.{Entry}
 use Rattle.air_log.specs.Deliveries.{deliveries_of}
+use Rattle.air_log.specs.NodeCharges.{charges_in}
 use Rattle.lwb_world.specs.Runs.{IsRun}
 use Rattle.lwb_world.specs.Worlds.{WorldState, new_world, core_of, HasRun}
 use Rattle.replay_tool.specs.RunReport.{report_lines, run_report, energy_lines}
@@ -27,6 +28,13 @@ pub stated_run : (s : ScenarioParts) (cs : List SegmentClock) (old new : WorldSt
 stated_run s cs old new is same has =
     let over : WorldState → Type 0 = λ w. IsRun w.scenario (clocks_by segment_clock_reads w.scenario.nodes cs) new.air new.deliveries new.drops (core_of new.cores) in
     same_run s (clocks_by segment_clock_reads s.nodes cs) (scenario_clock s) new.air new.deliveries new.drops (core_of new.cores) same (subst over is has.run)
+
+-- and what was counted in it
+pub stated_charges : (s : ScenarioParts) (cs : List SegmentClock) (old new : WorldState) → old ≡ new_world s → ((v : ℕ) → clocks_by segment_clock_reads s.nodes cs v ≡ scenario_clock s v)
+    → HasRun (clocks_by segment_clock_reads old.scenario.nodes cs) old new → new.charges ≡ charges_in s (scenario_clock s) new.air
+stated_charges s cs old new is same has =
+    let over : WorldState → Type 0 = λ w. new.charges ≡ charges_in w.scenario (clocks_by segment_clock_reads w.scenario.nodes cs) new.air in
+    subst (λ (c : ℕ → ℕ → ℕ). new.charges ≡ charges_in s c new.air) (fun_ext same) (subst over is has.charges)
 
 -- what the first lines of the report of a run say
 pub stated_report : (s : ScenarioParts) (air : List Entry) (made : List Delivery) (lost : List DropLine) (core : ℕ → Option NodeState) → IsRun s (scenario_clock s) air made lost core

@@ -7,13 +7,14 @@ use Rattle.scenario_text.specs.declared.fault.FaultKind.{FaultKind}
 use Rattle.scenario_maker.specs.Made.{IsSize}
 use Rattle.deadline_plan.specs.DeadlineText.{plan_of}
 use Rattle.replay_tool.specs.declared.command.Command.{Command}
-use Rattle.replay_tool.specs.declared.command.Command.TheVariants.{Flood, Run, Log, Demo, Deadlines}
+use Rattle.replay_tool.specs.declared.command.Command.TheVariants.{Flood, Run, Log, Bus, Demo, Deadlines}
 
 -- the words ask for this command. A seed has at most 13 digits
 abbrev pub Asks : List (List ℕ) → Command → Type 0
 Asks words Flood = words ≡ codes "flood" ∷ []
 Asks words Run = words ≡ codes "run" ∷ []
 Asks words Log = words ≡ codes "log" ∷ []
+Asks words Bus = words ≡ codes "bus" ∷ []
 Asks words (Demo seed nodes frames) =
     (words ≡ codes "demo" ∷ decimal seed ∷ decimal nodes ∷ decimal frames ∷ []) × (seed < 10 ^ 13) × IsSize nodes frames
 Asks words Deadlines = words ≡ codes "deadlines" ∷ []
@@ -23,6 +24,7 @@ abbrev pub reads : Command → Bool
 reads Flood = true
 reads Run = true
 reads Log = true
+reads Bus = true
 reads (Demo seed nodes frames) = false
 reads Deadlines = true
 
@@ -31,6 +33,7 @@ abbrev pub fault_of : Command → List ℕ → Option (ℕ × FaultKind)
 fault_of Flood b = result_err (flood_of b)
 fault_of Run b = result_err (scenario_of b)
 fault_of Log b = result_err (scenario_of b)
+fault_of Bus b = result_err (scenario_of b)
 fault_of (Demo seed nodes frames) b = None
 fault_of Deadlines b = result_err (plan_of b)
 
@@ -48,4 +51,4 @@ abbrev pub IsReading : List (List ℕ) → Type 0
 IsReading words = (c : Command) × Asks words c × (reads c ≡ true)
 
 abbrev pub usage : List ℕ
-usage = codes "usage: flood | run | log | demo SEED NODES FRAMES | deadlines\n"
+usage = codes "usage: flood | run | log | bus | demo SEED NODES FRAMES | deadlines\n"

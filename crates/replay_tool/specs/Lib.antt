@@ -1,5 +1,6 @@
 pub mod FloodReport
 pub mod RunReport
+pub mod BusReport
 pub mod Summary
 pub mod DeadlineReport
 pub mod Commands

@@ -12,13 +12,15 @@ use Rattle.bus_model.specs.FloodOfText.{outcome}
 use Rattle.air_log.specs.declared.entry.Entry.{Entry}
 use Rattle.air_log.specs.FloodLaw.{FloodLaw}
 use Rattle.air_log.specs.Lawful.{Lawful}
+use Rattle.air_log.specs.Safe.{Safe}
 use Rattle.air_log.specs.LogText.{log_text}
 use Rattle.replay_tool.specs.FloodReport.{flood_report}
 use Rattle.replay_tool.specs.RunReport.{run_report}
+use Rattle.replay_tool.specs.BusReport.{bus_report}
 use Rattle.replay_tool.specs.Summary.{summary}
 use Rattle.replay_tool.specs.DeadlineReport.{IsDeadlineReport}
 use Rattle.replay_tool.specs.declared.command.Command.{Command}
-use Rattle.replay_tool.specs.declared.command.Command.TheVariants.{Flood, Run, Log, Demo, Deadlines}
+use Rattle.replay_tool.specs.declared.command.Command.TheVariants.{Flood, Run, Log, Bus, Demo, Deadlines}
 
 -- the bytes are a text of a flood, of a scenario, or of streams with deadlines, of which this holds
 abbrev pub OfFlood : List ℕ → (FloodParts → Type 0) → Type 0
@@ -35,10 +37,11 @@ pub record IsFloodReport (f : FloodParts) (air : List Entry) (text : List ℕ) :
   pub is : text ≡ flood_report (outcome f)
   pub law : FloodLaw f (stated_clock f) air
 
--- what is told of a run of a scenario, and the log of this run. Both are over the clocks that the scenario states
+-- what is told of a run of a scenario, and the log of this run, which is safe. All is over the clocks that the scenario states
 pub record IsOfRun (told : ScenarioParts → (ℕ → ℕ → ℕ) → List Entry → List ℕ) (s : ScenarioParts) (air : List Entry) (text : List ℕ) : Type 0 where
   pub is : text ≡ told s (scenario_clock s) air
   pub law : Lawful s (scenario_clock s) air
+  pub safe : Safe s (scenario_clock s) air
 
 -- the report, with the text of the log behind it
 abbrev pub log_report : ScenarioParts → (ℕ → ℕ → ℕ) → List Entry → List ℕ
@@ -48,5 +51,6 @@ abbrev pub IsReport : Command → List ℕ → List Entry → List ℕ → Type 
 IsReport Flood b air text = OfFlood b (λ f. IsFloodReport f air text)
 IsReport Run b air text = OfScenario b (λ s. IsOfRun run_report s air text)
 IsReport Log b air text = OfScenario b (λ s. IsOfRun log_report s air text)
+IsReport Bus b air text = OfScenario b (λ s. (air ≡ []) × (text ≡ bus_report s))
 IsReport (Demo seed nodes frames) b air text = IsOfRun summary (made seed nodes frames) air text
 IsReport Deadlines b air text = OfPlan b (λ p. (air ≡ []) × IsDeadlineReport p text)

@@ -65,8 +65,8 @@ const LINE_OF_FOUR: &str = "sends 2\nnode 1 0\nnode 2 9000\nnode 3 100\nnode 4 2
 
 const FOUR_PUTS: &str = "put 0 2 0 aa\nput 0 2 0 aa\nput 0 2 0 aa\nput 0 2 0 aa\n";
 
-// A payload of 32 bytes.
-const BYTES_32: &str = "000102030405060708090a0b0c0d0e0f101112131415161718191a1b1c1d1e1f";
+/// A payload of 32 bytes.
+pub const BYTES_32: &str = "000102030405060708090a0b0c0d0e0f101112131415161718191a1b1c1d1e1f";
 
 // A scenario whose last line has a payload of 97 bytes, one more than the second profile allows.
 const LONG_PAYLOAD: &[&str] = &[
@@ -93,7 +93,7 @@ const LONG_PAYLOAD_OF_THE_FIRST: &[&str] = &[
 
 const RATE_OUT_OF_RANGE: &[&str] = &["frames 6\n", BASE, "rate 1 0 21\n"];
 
-pub const USAGE: &str = "usage: flood | run | log | demo SEED NODES FRAMES | deadlines\n";
+pub const USAGE: &str = "usage: flood | run | log | bus | demo SEED NODES FRAMES | deadlines\n";
 
 pub const CASES: &[Case] = &[
     Case {

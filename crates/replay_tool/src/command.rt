@@ -15,6 +15,8 @@ pub enum Command {
     Run,
     /// The same, with the text of its log.
     Log,
+    /// What the scenario gives on a single-hop bus, without clocks.
+    Bus,
     /// The summary of the run of the scenario that a seed makes, of 2 to 64 nodes and 1 to 4,096 frames; nodes times frames
     /// is at most 16,384.
     Demo { seed: u64, nodes: u8, frames: u32 },
@@ -29,7 +31,9 @@ impl Command {
     {
         match self {
             Command::Demo { .. } => false,
-            Command::Flood | Command::Run | Command::Log | Command::Deadlines => true,
+            Command::Flood | Command::Run | Command::Log | Command::Bus | Command::Deadlines => {
+                true
+            },
         }
     }
 }
@@ -44,6 +48,8 @@ pub fn command_of(words: &[String]) -> Option<Command>
         Some(Command::Run)
     } else if is_word(words, b"log") {
         Some(Command::Log)
+    } else if is_word(words, b"bus") {
+        Some(Command::Bus)
     } else if is_word(words, b"deadlines") {
         Some(Command::Deadlines)
     } else {

@@ -2,6 +2,8 @@
 #![tactic(auto)]
 
 mod answer;
+mod bus_answer;
+mod bus_costs;
 mod command;
 mod deadline_answer;
 mod deadline_report;
@@ -18,6 +20,8 @@ mod top_call;
 pub use scenario_clocks::scenario_clocks_keep_the_drift_law;
 pub use top_call::{Outcome, top};
 
+#[cfg(test)]
+mod bus_tests;
 #[cfg(test)]
 mod cases;
 #[cfg(test)]

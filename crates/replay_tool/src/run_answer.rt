@@ -3,6 +3,7 @@ ghost use Rattle.tick_clock.specs.ClockReadings.{segment_clock_reads};
 ghost use Rattle.scenario_text.specs.ScenarioGrammar.{IsScenario};
 ghost use Rattle.scenario_clocks.specs.ClockLists.{clocks_by};
 ghost use Rattle.scenario_clocks.specs.StatedClocks.{scenario_clock};
+ghost use Rattle.air_log.specs.NodeCharges.{charges_in};
 ghost use Rattle.lwb_world.specs.Runs.{IsRun};
 ghost use Rattle.lwb_world.specs.Worlds.{new_world, core_of};
 ghost use Rattle.replay_tool.specs.Answers.{Answers};
@@ -11,7 +12,7 @@ ghost use Rattle.replay_tool.specs.declared.command.Command.TheVariants as asked
 use crate::answer::{Answer, fault_answer};
 use crate::energy_lines::write_energies;
 use crate::run_report::run_report;
-use air_log::{Air, text};
+use air_log::write_text;
 use lwb_base::Memory;
 use lwb_world::World;
 use scenario_clocks::stated_clocks;
@@ -31,7 +32,8 @@ pub fn run_answer(alloc: Global, bytes: &[u8]) -> Result<Answer, Memory>
     };
     let world = world_after(alloc, &scenario)?;
     let mut report = run_report(alloc, world.deliveries(), world.drops())?;
-    write_energies(alloc, &mut report, &scenario, world.air())?;
+    let charges = world.charges();
+    write_energies(alloc, &mut report, &scenario, world.air(), charges)?;
     Ok(Answer::Report(report, world.into_air()))
 }
 
@@ -42,8 +44,7 @@ pub fn log_answer(alloc: Global, bytes: &[u8]) -> Result<Answer, Memory>
 {
     match run_answer(alloc, bytes)? {
         Answer::Report(mut report, air) => {
-            let log = text(alloc, &air)?;
-            report.push_str(log.as_str())?;
+            write_text(alloc, &mut report, &air)?;
             Ok(Answer::Report(report, air))
         }
         Answer::Fault(fault) => Ok(Answer::Fault(fault)),
@@ -53,7 +54,8 @@ pub fn log_answer(alloc: Global, bytes: &[u8]) -> Result<Answer, Memory>
 /// The world of a scenario after its run over the clocks that it states.
 pub fn world_after(alloc: Global, s: &Scenario) -> Result<World<'_, SegmentClock>, Memory>
     requires { IsScenario s.now }
-    ensures { IfOk result (λ w. IsRun s.now (scenario_clock s.now) w.0.air w.0.deliveries w.0.drops (core_of w.0.cores)) }
+    ensures run { IfOk result (λ w. IsRun s.now (scenario_clock s.now) w.0.air w.0.deliveries w.0.drops (core_of w.0.cores)) }
+    ensures charges { IfOk result (λ w. w.0.charges ≡ charges_in s.now (scenario_clock s.now) w.0.air) }
 {
     let mut world = stated_world(alloc, s)?;
     world.run(alloc)?;

@@ -8,6 +8,7 @@ ghost use Rattle.replay_tool.specs.Answers.{Answers, IsAsked, HasRead};
 ghost use Rattle.replay_tool.specs.declared.command.Command.{Command as CommandOf};
 
 use crate::answer::Answer;
+use crate::bus_answer::bus_answer;
 use crate::command::{Command, command_of};
 use crate::deadline_answer::deadline_answer;
 use crate::demo_answer::demo_answer;
@@ -28,7 +29,7 @@ pub struct Outcome {
     pub air: Air,
 }
 
-const USAGE: &[u8; 62] = b"usage: flood | run | log | demo SEED NODES FRAMES | deadlines\n";
+const USAGE: &[u8; 68] = b"usage: flood | run | log | bus | demo SEED NODES FRAMES | deadlines\n";
 
 const TOO_LONG: &[u8; 15] = b"fault too long\n";
 
@@ -103,6 +104,7 @@ fn answer(alloc: Global, command: Command, bytes: &[u8]) -> Result<Answer, Memor
         Command::Flood => flood_answer(alloc, bytes),
         Command::Run => run_answer(alloc, bytes),
         Command::Log => log_answer(alloc, bytes),
+        Command::Bus => bus_answer(alloc, bytes),
         Command::Demo {
             seed,
             nodes,

@@ -7,15 +7,15 @@ pub mod EachPair
 pub mod SoundScenarios
 pub mod OrderedParts
 pub mod OrderedExample
+pub mod FloodKeeps
+pub mod ScenarioExamples
+pub mod CanonicalExamples
 -- for this crate alone
 pub mod Known
 pub mod FloodExamples
-pub mod ScenarioExamples
-pub mod CanonicalExamples
 pub mod CanonicalParts
 pub mod NodeIds
 pub mod RatesKept
-pub mod FloodKeeps
 pub mod ScenarioKeeps
 pub mod LinksBack
 pub mod TextBack

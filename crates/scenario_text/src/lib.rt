@@ -15,6 +15,7 @@ mod network_draft;
 mod network_line;
 mod numbers;
 mod payloads;
+mod plain_writers;
 mod printing;
 mod rates;
 mod reading;
@@ -29,13 +30,9 @@ pub use fault::{FaultKind, ParseFault};
 pub use flood::parse_flood;
 pub use flood_text::FloodText;
 pub use lines::{NodeLine, RateLine};
+pub use plain_writers::{write_hex, write_number};
 pub use printing::print;
 pub use reading::parse;
 pub use scenario::Scenario;
 pub use script::{Act, ScriptLine};
 pub use script_writers::write_payload;
-
-#[cfg(test)]
-mod limit_tests;
-#[cfg(test)]
-mod tests;

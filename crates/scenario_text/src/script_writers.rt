@@ -1,8 +1,9 @@
-ghost use Rattle.std.specs.Prelude.{◌≡◌, ◌++◌, OnOk, string_bytes, codes, flat_map, [], ◌∷◌};
+ghost use Rattle.std.specs.Prelude.{◌≡◌, ◌++◌, OnOk, string_bytes, codes, [], ◌∷◌};
 ghost use Rattle.scenario_text.specs.Canonical.{line_text, script_words, act_words};
-ghost use Rattle.scenario_text.specs.Payloads.{hex_digits, payload_word};
+ghost use Rattle.scenario_text.specs.Payloads.{payload_word};
 ghost use Rattle.scenario_text.specs.declared.script.Act.TheVariants as act;
 
+use crate::plain_writers::write_hex;
 use crate::{Act, ScriptLine};
 use lwb_base::{NodeId, Payload};
 use std::alloc::AllocError;
@@ -80,20 +81,4 @@ pub fn write_payload(text: &mut String, bytes: &[u8]) -> Result<(), AllocError>
         return write!(text, "-");
     }
     write_hex(text, bytes)
-}
-
-fn write_hex(text: &mut String, bytes: &[u8]) -> Result<(), AllocError>
-    ensures { OnOk result (string_bytes text.new ≡ string_bytes text.old ++ flat_map hex_digits bytes.now) }
-{
-    for b in bytes {
-        write_byte(text, *b)?;
-    }
-    Ok(())
-}
-
-#[tactic(auto, using(std::proofs::lemmas::Fmt::hex_byte))]
-fn write_byte(text: &mut String, byte: u8) -> Result<(), AllocError>
-    ensures { OnOk result (string_bytes text.new ≡ string_bytes text.old ++ hex_digits byte) }
-{
-    write!(text, "{byte:02x}")
 }

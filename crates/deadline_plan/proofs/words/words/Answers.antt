@@ -5,8 +5,7 @@ use Rattle.std.specs.declared.alloc.AllocError.{AllocError}
 use Rattle.scenario_text.specs.Words.{is_blank}
 use Rattle.deadline_plan.proofs.words.words.Goals as goal
 
-pub returns-in-Ok : goal.returns-in-Ok
-returns-in-Ok c =
-    map_from_collect {E = AllocError} (Ok c.in-Ok.words) c.in-Ok.ensures.ran
-    (YieldsList-from_filter _ (λ (w : List ℕ). nat_lt 0 (length w)) (YieldsList-from_slice_split _ is_blank c.args.line.now (search rules) (search rules)
-    (search rules) (λ x b q k. search (rules, tests))) c.filter.ensures.closure (λ x b q k. search (rules, tests)))
+pub returns : goal.returns
+returns c =
+    map_from_collect {E = AllocError} (Ok c.in_ok-words.words) c.in_ok-words.ensures.ran
+    (YieldsList-from_filter _ (λ (w : List ℕ). nat_lt 0 (length w)) (YieldsList-from_slice_split _ is_blank c.args.line.now (search rules) (search rules) (search rules) (λ x b q k. search (rules, tests))) c.filter.ensures.closure (λ x b q k. search (rules, tests)))

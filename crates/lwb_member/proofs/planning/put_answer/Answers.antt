@@ -1,26 +1,21 @@
-use Rattle.std.proofs.Common.{sym, subst}
+use Rattle.std.proofs.Common.{sym, subst, ap, arith, length, ◌≤◌, ◌+◌, ℕ}
 use Rattle.lwb_member.specs.Planning.{AreAnswers}
-use Rattle.lwb_member.proofs.Answering.{replaced_at, inserted_at, with_are}
+use Rattle.lwb_member.proofs.Answering.{with_are}
+use Rattle.lwb_member.proofs.AnswersInOrder.{in_order, put_is, with_few}
 use Rattle.lwb_member.proofs.planning.put_answer.Goals as goal
 
-pub returns-then-stands_at-clause-after : goal.returns-then-stands_at-clause-after
-returns-then-stands_at-clause-after c =
-    let here = c.stands_at.ensures.stands c.if-stands_at.true in
-    replaced_at c.args.ask c.args.answers.now.items c.as_slice-list.result.now c.set.new.answers.items c.place_for-place.result c.code-code.result c.as_slice-list.ensures.value c.code-code.ensures c.place_for-place.ensures.value here.0 (here.1 c.args.ask) c.set.ensures
+pub put-requires : goal.put-requires
+put-requires c = (omega arith, in_order c.args.answers.now.items c.requires.are.ascend)
 
-pub returns-then-stands_at-clause-are : goal.returns-then-stands_at-clause-are
-returns-then-stands_at-clause-are c =
-    let here = c.stands_at.ensures.stands c.if-stands_at.true in
-    let after = replaced_at c.args.ask c.args.answers.now.items c.as_slice-list.result.now c.set.new.answers.items c.place_for-place.result c.code-code.result c.as_slice-list.ensures.value c.code-code.ensures c.place_for-place.ensures.value here.0 (here.1 c.args.ask) c.set.ensures in
-    subst AreAnswers (sym after) (with_are c.args.ask c.args.answers.now.items c.requires.ask c.requires.are)
+pub returns-clause-after : goal.returns-clause-after
+returns-clause-after c = put_is c.args.ask c.args.answers.now.items c.put.new.list.items c.requires.few c.put.ensures.after
 
-pub returns-else-stands_at-clause-after : goal.returns-else-stands_at-clause-after
-returns-else-stands_at-clause-after c =
-    let apart = c.stands_at.ensures.apart c.if-stands_at.false in
-    inserted_at c.args.ask c.args.answers.now.items c.as_slice-list.result.now c.insert.new.self.items c.place_for-place.result c.code-code.result c.as_slice-list.ensures.value c.code-code.ensures c.place_for-place.ensures.value (λ within. apart within c.args.ask) c.insert.ensures.items
+pub returns-clause-few : goal.returns-clause-few
+returns-clause-few c =
+    let after = put_is c.args.ask c.args.answers.now.items c.put.new.list.items c.requires.few c.put.ensures.after in
+    subst (λ (n : ℕ). n ≤ length c.args.answers.now.items + 1) (sym (ap length after)) (with_few c.args.ask c.args.answers.now.items)
 
-pub returns-else-stands_at-clause-are : goal.returns-else-stands_at-clause-are
-returns-else-stands_at-clause-are c =
-    let apart = c.stands_at.ensures.apart c.if-stands_at.false in
-    let after = inserted_at c.args.ask c.args.answers.now.items c.as_slice-list.result.now c.insert.new.self.items c.place_for-place.result c.code-code.result c.as_slice-list.ensures.value c.code-code.ensures c.place_for-place.ensures.value (λ within. apart within c.args.ask) c.insert.ensures.items in
+pub returns-clause-are : goal.returns-clause-are
+returns-clause-are c =
+    let after = put_is c.args.ask c.args.answers.now.items c.put.new.list.items c.requires.few c.put.ensures.after in
     subst AreAnswers (sym after) (with_are c.args.ask c.args.answers.now.items c.requires.ask c.requires.are)

@@ -35,6 +35,7 @@ loop-node-preserved c =
     let h : Option Message = option_map meaning c.heard_by-accepted.result in
     let size = c.loop-node.auto.nodes in
     let place = c.loop-node.invariant.place in
+    let ids = c.args.ids.now in
     let below : i < length olds = omega (arith, c.loop-node-test.true, size) in
     let there : i < length now = omega (arith, c.loop-node-test.true, size) in
     let in_ws : i < length ws = omega (arith, below, c.requires.windows) in
@@ -45,17 +46,17 @@ loop-node-preserved c =
     let same : length ws ≡ length xs = c.requires.windows ∙ sym c.requires.stations in
     record {
       place = ap (λ (k : ℕ). k + 1) place;
-      done = λ b ids g behind are may.
-          (let heard = c.heard_by-accepted.ensures.value b ids behind (origin_here b ids ws xs behind same g olds are may i in_xs w w_at x x_at n at) in
+      done = λ b g behind are may.
+          (let heard = c.heard_by-accepted.ensures.value b behind.windows (origin_here b ids ws xs behind same g olds are may i in_xs w w_at x x_at n at) in
           closed_more b ids ws xs behind same g olds are may i in_xs w w_at x x_at n at h heard f part now y there
           (c.close-delivery.ensures.state (may_here b ids ws xs behind same g olds are may i in_xs w w_at x x_at n at h heard))
-          (c.loop-node.invariant.done b ids g behind are may));
+          (c.loop-node.invariant.done b g behind are may));
       todo = rest_unchanged olds now i y c.loop-node.invariant.todo;
-      log = λ b ids g behind are may.
-          (let heard = c.heard_by-accepted.ensures.value b ids behind (origin_here b ids ws xs behind same g olds are may i in_xs w w_at x x_at n at) in
+      log = λ b g behind are may.
+          (let heard = c.heard_by-accepted.ensures.value b behind.windows (origin_here b ids ws xs behind same g olds are may i in_xs w w_at x x_at n at) in
           delivered_more b ids ws xs behind same g olds are may i in_xs w w_at x x_at n at h heard c.args.rank f c.args.slot part c.args.log.now.items c.loop-node.log.items c.push_some.new.log.items c.close-delivery.result
           (c.close-delivery.ensures.delivery (may_here b ids ws xs behind same g olds are may i in_xs w w_at x x_at n at h heard))
-          (c.loop-node.invariant.log b ids g behind are may) c.in_ok-push_some.ensures);
+          (c.loop-node.invariant.log b g behind are may) c.in_ok-push_some.ensures);
       early = subst (λ (l : List BusNode). All (λ (z : BusNode). IsEarlyState f z.state) l) (sym (take_more_set now i y there))
           (All-push (λ (z : BusNode). IsEarlyState f z.state) (take i now) y c.loop-node.invariant.early c.close-delivery.ensures.early);
     }
@@ -67,8 +68,9 @@ returns-clause-early c =
     c.loop-node.invariant.early
 
 pub returns-clause-log : goal.returns-clause-log
-returns-clause-log c b ids n behind are may =
+returns-clause-log c b n behind are may =
+    let ids = c.args.ids.now in
     let g = delivers_node b c.args.rank c.args.frame c.args.slot c.args.part.now n in
     let size = c.loop-node.auto.nodes in
-    c.loop-node.invariant.log b ids n behind are may
+    c.loop-node.invariant.log b n behind are may
     ∙ ap (λ (l : List ℕ). c.args.log.now.items ++ filter_map g l) (take_all c.loop-node.node-index ids (omega (arith, c.loop-node-test.false, size, ap length are, length-map ids n)))

@@ -1,15 +1,18 @@
-use Rattle.std.proofs.Common.{◌≡◌, ◌≤◌, ℕ, All, length, subst, sym, ◌∙◌, ap, arith}
+use Rattle.std.proofs.Common.{◌≡◌, ◌≤◌, ℕ, All, length, subst, refl, sym, ◌∙◌, ap, arith, rules, [], ◌∷◌, ◌++◌, length-append}
 use Rattle.std.proofs.lemmas.List.{length-map}
 use Rattle.scenario_text.specs.declared.lines.NodeLine.{NodeLine}
 use Rattle.bus_model.specs.Flooding.{Moment, moment}
 use Rattle.plain_bus.specs.FloodMasks.{AreAt}
 use Rattle.plain_bus.specs.declared.station.Station.{Station}
 use Rattle.plain_bus.proofs.SteppedByMasks.{known_at, moment_first, moment_more}
+use Rattle.plain_bus.proofs.SendersKept.{senders_more}
 use Rattle.plain_bus.proofs.stepping.flooded.Goals as goal
 
 pub loop-step-init : goal.loop-step-init
 loop-step-init c = record {
   at = λ s flood. subst (λ (m : Moment). AreAt m c.args.trace.now.nodes c.first-now.result) (sym (moment_first s)) (c.first-now.ensures.at s c.args.trace.now c.requires.sealed flood);
+  senders = λ s flood k below. (let none : c.new-senders.result.items ≡ [] = search rules in absurd (omega (arith, below, ap length none)));
+  steps = (let none : c.new-senders.result.items ≡ [] = search rules in ap length none);
   length = c.first-now.ensures.length ∙ sym (ap length c.requires.sealed ∙ length-map c.args.nodes.now (λ (n : NodeLine). n.node));
   times = c.first-now.ensures.times;
 }
@@ -19,6 +22,9 @@ loop-step-preserved c = record {
   at = λ s flood.
       subst (λ (m : Moment). AreAt m c.args.trace.now.nodes c.behind-now.result) (sym (moment_more s c.loop-step.step))
       (c.behind-now.ensures.at s (moment s c.loop-step.step) flood (known_at s flood.inside c.loop-step.step) (c.loop-step.invariant.at s flood));
+  senders = λ s flood. senders_more s c.args.trace.now.nodes c.loop-step.senders.items c.push.new.self.items c.loop-step.now.senders
+      c.loop-step.step (c.loop-step.invariant.senders s flood) c.loop-step.invariant.steps (c.loop-step.invariant.at s flood).senders (search rules);
+  steps = (let pushed : c.push.new.self.items ≡ c.loop-step.senders.items ++ c.loop-step.now.senders ∷ [] = search rules in ap length pushed ∙ omega (arith, length-append c.loop-step.senders.items (c.loop-step.now.senders ∷ []), c.loop-step.invariant.steps));
   length = c.behind-now.ensures.length;
   times = c.behind-now.ensures.times;
 }
@@ -28,6 +34,8 @@ returns c =
     let all : c.loop-step.step ≡ 12 = omega (arith, c.loop-step-test.false, c.loop-step.auto.step-end) in
     record {
       each = λ s flood. (subst (λ (k : ℕ). AreAt (moment s k) c.args.trace.now.nodes c.loop-step.now) all (c.loop-step.invariant.at s flood)).each;
+      senders = c.loop-step.invariant.senders;
+      steps = c.loop-step.invariant.steps ∙ all;
       length = c.loop-step.invariant.length ∙ ap length c.requires.sealed ∙ length-map c.args.nodes.now (λ (n : NodeLine). n.node);
       times = subst (λ (k : ℕ). All (λ (x : Station). x.times ≤ k) c.loop-step.now.each.items) all c.loop-step.invariant.times;
     }

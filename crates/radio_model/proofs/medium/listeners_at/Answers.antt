@@ -1,26 +1,23 @@
-use Rattle.std.proofs.Common.{All, List, ◌≤◌, ◌^◌, Option, sym, subst, ap, ◌∙◌, IsSomeAnd}
-use Rattle.radio_model.specs.Meetings.{IsPlaced}
+use Rattle.std.proofs.Common.{All, ◌≤◌, ◌^◌, Option, sym, subst, ap, ◌∙◌, IsSomeAnd, get_or, arith}
+use Rattle.radio_model.specs.Marks.{no_mark}
+use Rattle.radio_model.proofs.Members.{same_default}
+use Rattle.radio_model.proofs.Origins.{alike_to}
 use Rattle.radio_model.specs.Ages.{IsAged}
 use Rattle.radio_model.specs.declared.sending.Sending.{Sending}
 use Rattle.radio_model.specs.declared.station.Station.{Station}
-use Rattle.radio_model.specs.declared.rivals.Rival.{Rival}
-use Rattle.radio_model.proofs.PlacedRivals.{rivals_placed}
 use Rattle.radio_model.proofs.medium.listeners_at.Goals as goal
-
-pub listeners-requires-clause-placed : goal.listeners-requires-clause-placed
-listeners-requires-clause-placed g c =
-    let nodes = g.M.Links.nodes c.args.links.now in
-    subst (λ (rs : List Rival). All (λ (r : Rival). IsPlaced nodes r.place r.node) rs) (sym (c.deref.ensures.value ∙ c.find_rivals.ensures.items))
-    (rivals_placed nodes c.args.profile.now c.in-Some.x c.args.stations.now c.requires.places)
-
-pub find_rivals-requires-clause-aged : goal.find_rivals-requires-clause-aged
-find_rivals-requires-clause-aged g c =
-    let st = c.index-stations-place.result in
-    (subst (λ (o : Option Sending). IsSomeAnd o (λ x. (x.start ≤ 2 ^ 46) × (x.end ≤ 2 ^ 46) × All (λ (s : Station). IsAged x.end s.ended.items) c.args.stations.now))
-    (ap (λ (s : Station). s.sending) (sym c.index-stations-place.is) ∙ c.in-Some.is) (c.requires.sends st)).2
 
 pub listeners-requires-clause-aged : goal.listeners-requires-clause-aged
 listeners-requires-clause-aged g c =
     let st = c.index-stations-place.result in
     (subst (λ (o : Option Sending). IsSomeAnd o (λ x. (x.start ≤ 2 ^ 46) × (x.end ≤ 2 ^ 46) × All (λ (s : Station). IsAged x.end s.ended.items) c.args.stations.now))
     (ap (λ (s : Station). s.sending) (sym c.index-stations-place.is) ∙ c.in-Some.is) (c.requires.sends st)).2
+
+pub listeners-requires-clause-alike : goal.listeners-requires-clause-alike
+listeners-requires-clause-alike g c =
+    let mks = c.args.marks.now in
+    let i = c.args.place in
+    let mk = get_or mks i no_mark in
+    alike_to c.requires.alike.0 c.args.stations.now mks i c.index-stations-place.result mk c.in-Some.x c.requires.alike.1
+    (record { below = c.requires.place; station = sym c.index-stations-place.is; mark = same_default mks i mk no_mark (omega (arith, c.requires.place, c.requires.marks.one_each)) })
+    c.in-Some.is

@@ -1,4 +1,4 @@
-use Rattle.std.proofs.Common.{◌≤◌, ◌+◌, ◌-◌, ℕ, All, take, subst, arith}
+use Rattle.std.proofs.Common.{◌≤◌, ◌-◌, ℕ, All, take, subst, arith}
 use Rattle.radio_model.specs.declared.sending.Sending.{Sending}
 use Rattle.radio_model.proofs.EndedSendings.{over_up_to}
 use Rattle.radio_model.proofs.rivals.first_after.Goals as goal

@@ -1,4 +1,4 @@
-use Rattle.std.proofs.Common.{◌≤◌, length, ℕ}
+use Rattle.std.proofs.Common.{◌≤◌, length}
 use Rattle.radio_model.proofs.rivals.first_after.Given as goal
 
 abbrev pub invariant-loop-first : goal.invariant-loop-first

@@ -1,20 +1,16 @@
-use Rattle.std.proofs.Common.{◌≡◌, ◌<◌, List, None, length, sym, subst, arith}
-use Rattle.std.specs.declared.option.Option.{Option}
-use Rattle.std.proofs.lemmas.List.{get_or_read}
-use Rattle.event_calendar.specs.Orders.{Due, Order, IsNext}
-use Rattle.event_calendar.specs.Winners.{node}
-use Rattle.event_calendar.proofs.NextOrders.{root_is_next}
+use Rattle.event_calendar.proofs.StalePlaces.{root_is_next_now, winner_is_next_now}
 use Rattle.event_calendar.proofs.OneOrder.{next_within}
 use Rattle.event_calendar.proofs.calendar.Calendar.next.Goals as goal
 
-pub returns : goal.returns
-returns c =
-    let due = c.self.inside.due.items in
-    let tree = c.self.inside.tree.items in
-    let root = c.index.result.now in
-    let within : 1 < length tree = omega (arith, c.self.invariant.winners.size) in
-    let is : root ≡ node tree 1 = get_or_read tree 1 root within c.index.ensures None in
-    let least : IsNext c.args.self.now root =
-    subst (λ (map : List Due). IsNext map root) c.self.view_is
-    (subst (λ (o : Option Order). IsNext due o) (sym is) (root_is_next due tree c.self.invariant)) in
-    record { least = least; within = next_within c.args.self.now root least }
+pub returns-in-None : goal.returns-in-None
+returns-in-None c =
+    let inside = c.self.inside in
+    let least = root_is_next_now inside.stale inside.due.items c.args.self.now inside.tree.items c.index.result.now c.in-None.is c.self.view_is c.self.invariant c.index.ensures in
+    record { least = least; within = next_within c.args.self.now c.index.result.now least }
+
+pub returns-in-Some : goal.returns-in-Some
+returns-in-Some c =
+    let inside = c.self.inside in
+    let least = winner_is_next_now inside.stale inside.due.items c.args.self.now inside.tree.items c.deref.result.now c.in-Some.place c.from-index.result c.index-in-Some.result.now c.first.result
+    c.winner_with.result c.in-Some.is c.self.view_is c.self.invariant c.deref.ensures.value c.from-index.ensures c.index-in-Some.ensures c.first.ensures c.winner_with.ensures in
+    record { least = least; within = next_within c.args.self.now c.winner_with.result least }

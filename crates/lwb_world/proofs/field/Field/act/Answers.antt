@@ -37,7 +37,7 @@ invariant_of-self g c =
     let t = c.args.t in
     let p = c.args.place in
     let orders = g.Q.Orders.map c.args.orders.now in
-    let old : FieldState = record { medium = c.self.inside.medium; devices = c.self.inside.devices.items; air = c.self.inside.air; deliveries = c.self.inside.deliveries.items; drops = c.self.inside.drops.items } in
+    let old : FieldState = record { medium = c.self.inside.medium; devices = c.self.inside.devices.items; air = c.self.inside.air; deliveries = c.self.inside.deliveries.items; drops = c.self.inside.drops.items; sums = c.self.inside.sums.items } in
     let shown : IsShown t old orders p = subst (λ (w : FieldState). IsShown t w orders p) (sym c.self.view_is) c.requires.shown in
     field_as_was t p old orders shown c.from.result c.from.ensures c.index_mut.result.now c.index_mut.ensures.value c.self.invariant c.declare.new.self c.declare.ensures.node.setup c.self.inside.air c.self.inside.deliveries.items
 
@@ -57,7 +57,7 @@ invariant_of-self-in-Leave g c =
     let t = c.args.t in
     let p = c.args.place in
     let orders = g.Q.Orders.map c.args.orders.now in
-    let old : FieldState = record { medium = c.self-in-Leave.inside.medium; devices = c.self-in-Leave.inside.devices.items; air = c.self-in-Leave.inside.air; deliveries = c.self-in-Leave.inside.deliveries.items; drops = c.self-in-Leave.inside.drops.items } in
+    let old : FieldState = record { medium = c.self-in-Leave.inside.medium; devices = c.self-in-Leave.inside.devices.items; air = c.self-in-Leave.inside.air; deliveries = c.self-in-Leave.inside.deliveries.items; drops = c.self-in-Leave.inside.drops.items; sums = c.self-in-Leave.inside.sums.items } in
     let shown : IsShown t old orders p = subst (λ (w : FieldState). IsShown t w orders p) (sym c.self-in-Leave.view_is) c.requires.shown in
     field_as_was t p old orders shown c.from-in-Leave.result c.from-in-Leave.ensures c.index_mut-in-Leave.result.now c.index_mut-in-Leave.ensures.value c.self-in-Leave.invariant c.leave.new.self c.leave.ensures.node.setup c.self-in-Leave.inside.air c.self-in-Leave.inside.deliveries.items
 
@@ -88,7 +88,7 @@ returns-in-Declare g c =
     let t = c.args.t in
     let p = c.args.place in
     let orders = g.Q.Orders.map c.args.orders.now in
-    let old : FieldState = record { medium = c.self.inside.medium; devices = c.self.inside.devices.items; air = c.self.inside.air; deliveries = c.self.inside.deliveries.items; drops = c.self.inside.drops.items } in
+    let old : FieldState = record { medium = c.self.inside.medium; devices = c.self.inside.devices.items; air = c.self.inside.air; deliveries = c.self.inside.deliveries.items; drops = c.self.inside.drops.items; sums = c.self.inside.sums.items } in
     let shown : IsShown t old orders p = subst (λ (w : FieldState). IsShown t w orders p) (sym c.self.view_is) c.requires.shown in
     let time : IsTime old.medium t = subst (λ (w : FieldState). IsTime w.medium t) (sym c.self.view_is) c.requires.time in
     let clock = g.C.DriftClock.readings c.args.clock.now in
@@ -103,7 +103,7 @@ returns-in-Leave g c =
     let t = c.args.t in
     let p = c.args.place in
     let orders = g.Q.Orders.map c.args.orders.now in
-    let old : FieldState = record { medium = c.self-in-Leave.inside.medium; devices = c.self-in-Leave.inside.devices.items; air = c.self-in-Leave.inside.air; deliveries = c.self-in-Leave.inside.deliveries.items; drops = c.self-in-Leave.inside.drops.items } in
+    let old : FieldState = record { medium = c.self-in-Leave.inside.medium; devices = c.self-in-Leave.inside.devices.items; air = c.self-in-Leave.inside.air; deliveries = c.self-in-Leave.inside.deliveries.items; drops = c.self-in-Leave.inside.drops.items; sums = c.self-in-Leave.inside.sums.items } in
     let shown : IsShown t old orders p = subst (λ (w : FieldState). IsShown t w orders p) (sym c.self-in-Leave.view_is) c.requires.shown in
     let time : IsTime old.medium t = subst (λ (w : FieldState). IsTime w.medium t) (sym c.self-in-Leave.view_is) c.requires.time in
     let clock = g.C.DriftClock.readings c.args.clock.now in

@@ -1,4 +1,4 @@
-use Rattle.std.proofs.Common.{List, [], Option, None, sym, ◌∙◌, subst, arith}
+use Rattle.std.proofs.Common.{List, [], Option, None, refl, sym, ◌∙◌, subst, arith}
 use Rattle.tick_clock.proofs.Readings.{read_in_range}
 use Rattle.event_calendar.specs.Orders.{Due}
 use Rattle.radio_model.specs.OnAir.{Sending}
@@ -30,6 +30,9 @@ returns-then-not-take_alarm g c =
     subst (λ (w : FieldState). Acts t p (λ s d. alarmed clock s t d) [] [] old old_due w (g.Q.Orders.map c.take_alarm.new.orders)) (sym stays.0)
     (subst (λ (due : List Due). Acts t p (λ s d. alarmed clock s t d) [] [] old old_due c.loop.self due) (sym stays.1) acts)
 
+pub tell-requires-clause-sent : goal.tell-requires-clause-sent
+tell-requires-clause-sent g c = (None, refl)
+
 pub tell-requires-clause-shown : goal.tell-requires-clause-shown
 tell-requires-clause-shown g c = shown_still _ _ _ _ _ _ _ (c.take_alarm.ensures.taken c.if-not-take_alarm.false) (shown_still _ _ _ _ _ _ _ c.loop.invariant.acts c.requires.shown)
 
@@ -43,7 +46,7 @@ loop-preserved g c =
     c.take_alarm.new.self c.tell.new.self (g.Q.Orders.map c.take_alarm.new.orders) (g.Q.Orders.map c.tell.new.orders)
     (λ s d shows. sym (c.take_alarm.ensures.due s d shows) ∙ c.if-not-take_alarm.false)
     (c.take_alarm.ensures.taken c.if-not-take_alarm.false)
-    (c.in_ok-tell.ensures none)
+    (c.in_ok-tell.ensures none refl)
 
 pub unreachable-requires : goal.unreachable-requires
 unreachable-requires g c =

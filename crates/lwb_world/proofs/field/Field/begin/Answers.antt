@@ -14,7 +14,7 @@ use Rattle.lwb_world.proofs.field.Field.begin.Goals as goal
 
 pub invariant_of-self : goal.invariant_of-self
 invariant_of-self g c =
-    let w : FieldState = record { medium = c.self.inside.medium; devices = c.self.inside.devices.items; air = c.self.inside.air; deliveries = c.self.inside.deliveries.items; drops = c.self.inside.drops.items } in
+    let w : FieldState = record { medium = c.self.inside.medium; devices = c.self.inside.devices.items; air = c.self.inside.air; deliveries = c.self.inside.deliveries.items; drops = c.self.inside.drops.items; sums = c.self.inside.sums.items } in
     let due : List Due = g.Q.Orders.map c.args.orders.now in
     let i = c.from.result in
     let st = c.index_mut-device.result.now in
@@ -27,7 +27,7 @@ invariant_of-self g c =
 
 pub returns-in_default : goal.returns-in_default
 returns-in_default g c =
-    let w : FieldState = record { medium = c.self.inside.medium; devices = c.self.inside.devices.items; air = c.self.inside.air; deliveries = c.self.inside.deliveries.items; drops = c.self.inside.drops.items } in
+    let w : FieldState = record { medium = c.self.inside.medium; devices = c.self.inside.devices.items; air = c.self.inside.air; deliveries = c.self.inside.deliveries.items; drops = c.self.inside.drops.items; sums = c.self.inside.sums.items } in
     let due : List Due = g.Q.Orders.map c.args.orders.now in
     let i = c.from.result in
     let st = c.index_mut-device.result.now in
@@ -41,7 +41,7 @@ returns-in_default g c =
 
 pub start-requires-clause-node : goal.start-requires-clause-node
 start-requires-clause-node g c =
-    let w : FieldState = record { medium = c.self.inside.medium; devices = c.self.inside.devices.items; air = c.self.inside.air; deliveries = c.self.inside.deliveries.items; drops = c.self.inside.drops.items } in
+    let w : FieldState = record { medium = c.self.inside.medium; devices = c.self.inside.devices.items; air = c.self.inside.air; deliveries = c.self.inside.deliveries.items; drops = c.self.inside.drops.items; sums = c.self.inside.sums.items } in
     let due : List Due = g.Q.Orders.map c.args.orders.now in
     let i = c.from.result in
     let st = c.index_mut-device.result.now in
@@ -54,7 +54,7 @@ start-requires-clause-node g c =
 
 pub invariant_of-self-2 : goal.invariant_of-self-2
 invariant_of-self-2 g c =
-    let w : FieldState = record { medium = c.self.inside.medium; devices = c.self.inside.devices.items; air = c.self.inside.air; deliveries = c.self.inside.deliveries.items; drops = c.self.inside.drops.items } in
+    let w : FieldState = record { medium = c.self.inside.medium; devices = c.self.inside.devices.items; air = c.self.inside.air; deliveries = c.self.inside.deliveries.items; drops = c.self.inside.drops.items; sums = c.self.inside.sums.items } in
     let due : List Due = g.Q.Orders.map c.args.orders.now in
     let i = c.from.result in
     let st = c.index_mut-device.result.now in
@@ -63,12 +63,12 @@ invariant_of-self-2 g c =
     let time : IsTime w.medium c.args.t = subst (λ (v : FieldState). IsTime v.medium c.args.t) (sym c.self.view_is) c.requires.time in
     let answers : (made : Made) → begun st.setup c.args.t (whole st made) ≡ whole c.begin.new.self (with_sent (Some c.in-Some.x) made) =
     λ made. c.begin.ensures.whole made ∙ ap (λ (r : Option Sending). whole c.begin.new.self (with_sent r made)) c.in-Some.is in
-    subst (λ (m : MediumState). IsField (record { medium = m; devices = set w.devices i c.begin.new.self; air = c.push.new.self; deliveries = w.deliveries; drops = w.drops })) (sym c.start.ensures.state)
+    subst (λ (m : MediumState). IsField (record { medium = m; devices = set w.devices i c.begin.new.self; air = c.push.new.self; deliveries = w.deliveries; drops = w.drops; sums = w.sums })) (sym c.start.ensures.state)
     (begun_is_field c.args.t i w c.self.invariant due st c.begin.new.self (read_there c.args.t w due i st shown c.index_mut-device.ensures.value) c.begin.ensures.node c.begin.ensures.time stands shown time c.in-Some.x answers c.push.new.self)
 
 pub returns : goal.returns
 returns g c =
-    let w : FieldState = record { medium = c.self.inside.medium; devices = c.self.inside.devices.items; air = c.self.inside.air; deliveries = c.self.inside.deliveries.items; drops = c.self.inside.drops.items } in
+    let w : FieldState = record { medium = c.self.inside.medium; devices = c.self.inside.devices.items; air = c.self.inside.air; deliveries = c.self.inside.deliveries.items; drops = c.self.inside.drops.items; sums = c.self.inside.sums.items } in
     let due : List Due = g.Q.Orders.map c.args.orders.now in
     let i = c.from.result in
     let st = c.index_mut-device.result.now in

@@ -16,7 +16,7 @@ both_logged w old first new p d a b is one two =
 
 pub invariant_of-self : goal.invariant_of-self
 invariant_of-self c =
-    let w : FieldState = record { medium = c.self.inside.medium; devices = c.self.inside.devices.items; air = c.self.inside.air; deliveries = c.self.inside.deliveries.items; drops = c.self.inside.drops.items } in
+    let w : FieldState = record { medium = c.self.inside.medium; devices = c.self.inside.devices.items; air = c.self.inside.air; deliveries = c.self.inside.deliveries.items; drops = c.self.inside.drops.items; sums = c.self.inside.sums.items } in
     let old = c.index_mut-device.result.now in
     let below : c.args.place < length w.devices = omega (arith, c.requires, ap (λ (f : FieldState). length f.devices) c.self.view_is) in
     let at : slice_get w.devices c.args.place ≡ Some old = slice_get_read w.devices (length w.devices) c.args.place old refl below c.index_mut-device.ensures.value in
@@ -24,7 +24,7 @@ invariant_of-self c =
 
 pub returns : goal.returns
 returns c =
-    let w : FieldState = record { medium = c.self.inside.medium; devices = c.self.inside.devices.items; air = c.self.inside.air; deliveries = c.self.inside.deliveries.items; drops = c.self.inside.drops.items } in
+    let w : FieldState = record { medium = c.self.inside.medium; devices = c.self.inside.devices.items; air = c.self.inside.air; deliveries = c.self.inside.deliveries.items; drops = c.self.inside.drops.items; sums = c.self.inside.sums.items } in
     let old = c.index_mut-device.result.now in
     let new = c.hand_out-last.new.self in
     let below : c.args.place < length w.devices = omega (arith, c.requires, ap (λ (f : FieldState). length f.devices) c.self.view_is) in

@@ -1,4 +1,4 @@
-use Rattle.std.proofs.Common.{◌≡◌, ℕ, ◌<◌, List, [], map, set, length, Option, Some, None, is_some, if◌then◌else◌, sym, ◌∙◌, ap, subst, arith}
+use Rattle.std.proofs.Common.{◌≡◌, ℕ, ◌<◌, List, [], map, set, length, Option, Some, None, is_some, if◌then◌else◌, refl, sym, ◌∙◌, ap, subst, arith}
 use Rattle.std.proofs.lemmas.Result.{on_ok_weaker}
 use Rattle.link_trace.specs.Passes.{Lines}
 use Rattle.radio_model.specs.declared.sending.Sending.{Sending}
@@ -19,7 +19,7 @@ use Rattle.lwb_world.proofs.field.Field.end.Goals as goal
 
 pub end-hearers-requires-clause-sends : goal.end-hearers-requires-clause-sends
 end-hearers-requires-clause-sends g c =
-    let w : FieldState = record { medium = c.self.inside.medium; devices = c.self.inside.devices.items; air = c.self.inside.air; deliveries = c.self.inside.deliveries.items; drops = c.self.inside.drops.items } in
+    let w : FieldState = record { medium = c.self.inside.medium; devices = c.self.inside.devices.items; air = c.self.inside.air; deliveries = c.self.inside.deliveries.items; drops = c.self.inside.drops.items; sums = c.self.inside.sums.items } in
     let t = c.args.t in
     let p = c.args.place in
     let due : List Due = g.Q.Orders.map c.args.orders.now in
@@ -31,7 +31,7 @@ end-hearers-requires-clause-sends g c =
 
 pub clear-requires : goal.clear-requires
 clear-requires g c =
-    let w : FieldState = record { medium = c.self.inside.medium; devices = c.self.inside.devices.items; air = c.self.inside.air; deliveries = c.self.inside.deliveries.items; drops = c.self.inside.drops.items } in
+    let w : FieldState = record { medium = c.self.inside.medium; devices = c.self.inside.devices.items; air = c.self.inside.air; deliveries = c.self.inside.deliveries.items; drops = c.self.inside.drops.items; sums = c.self.inside.sums.items } in
     let t = c.args.t in
     let p = c.args.place in
     let due : List Due = g.Q.Orders.map c.args.orders.now in
@@ -43,7 +43,7 @@ clear-requires g c =
 
 pub invariant_of-self : goal.invariant_of-self
 invariant_of-self g c =
-    let w : FieldState = record { medium = c.self.inside.medium; devices = c.self.inside.devices.items; air = c.self.inside.air; deliveries = c.self.inside.deliveries.items; drops = c.self.inside.drops.items } in
+    let w : FieldState = record { medium = c.self.inside.medium; devices = c.self.inside.devices.items; air = c.self.inside.air; deliveries = c.self.inside.deliveries.items; drops = c.self.inside.drops.items; sums = c.self.inside.sums.items } in
     let t = c.args.t in
     let p = c.args.place in
     let due : List Due = g.Q.Orders.map c.args.orders.now in
@@ -53,7 +53,7 @@ invariant_of-self g c =
 
 pub returns-in_default : goal.returns-in_default
 returns-in_default g c =
-    let w : FieldState = record { medium = c.self.inside.medium; devices = c.self.inside.devices.items; air = c.self.inside.air; deliveries = c.self.inside.deliveries.items; drops = c.self.inside.drops.items } in
+    let w : FieldState = record { medium = c.self.inside.medium; devices = c.self.inside.devices.items; air = c.self.inside.air; deliveries = c.self.inside.deliveries.items; drops = c.self.inside.drops.items; sums = c.self.inside.sums.items } in
     let t = c.args.t in
     let p = c.args.place in
     let due : List Due = g.Q.Orders.map c.args.orders.now in
@@ -63,7 +63,7 @@ returns-in_default g c =
 
 pub invariant_of-self-2 : goal.invariant_of-self-2
 invariant_of-self-2 g c =
-    let w : FieldState = record { medium = c.self.inside.medium; devices = c.self.inside.devices.items; air = c.self.inside.air; deliveries = c.self.inside.deliveries.items; drops = c.self.inside.drops.items } in
+    let w : FieldState = record { medium = c.self.inside.medium; devices = c.self.inside.devices.items; air = c.self.inside.air; deliveries = c.self.inside.deliveries.items; drops = c.self.inside.drops.items; sums = c.self.inside.sums.items } in
     let t = c.args.t in
     let p = c.args.place in
     let due : List Due = g.Q.Orders.map c.args.orders.now in
@@ -75,13 +75,13 @@ invariant_of-self-2 g c =
     let e = is_ending t c.from-2.result p w c.args.self.now due st c.self.view_is c.from-2.ensures c.self.invariant c.index_mut.ensures.value c.requires.within c.requires.shown c.requires.time c.requires.ends in
     let node : u ≡ st.setup.id = named ∙ ap (λ (d : DeviceState). d.setup.id) (one_there w.devices p first st before.1.here e.1.here) in
     let silent : c.end_sending.new.self ≡ record st { sending = None } = c.end_sending.ensures.after ∙ ap (λ (r : Option Sending). record st { sending = if is_some r then None else st.sending }) c.in-Some.is in
-    let mid : FieldState = record { medium = c.end-hearers.new.self; devices = set w.devices c.from-2.result c.end_sending.new.self; air = w.air; deliveries = w.deliveries; drops = w.drops } in
+    let mid : FieldState = record { medium = c.end-hearers.new.self; devices = set w.devices c.from-2.result c.end_sending.new.self; air = w.air; deliveries = w.deliveries; drops = w.drops; sums = w.sums } in
     let is_over : mid ≡ over t p st w = as_over t c.from-2.result p u w c.end-hearers.new.self st c.end_sending.new.self c.from-2.ensures node c.end-hearers.ensures.state silent in
     subst IsField (sym is_over) (over_is_field t p w due st e.0 e.1)
 
 pub hear_all-requires-clause-nodes : goal.hear_all-requires-clause-nodes
 hear_all-requires-clause-nodes g c =
-    let w : FieldState = record { medium = c.self.inside.medium; devices = c.self.inside.devices.items; air = c.self.inside.air; deliveries = c.self.inside.deliveries.items; drops = c.self.inside.drops.items } in
+    let w : FieldState = record { medium = c.self.inside.medium; devices = c.self.inside.devices.items; air = c.self.inside.air; deliveries = c.self.inside.deliveries.items; drops = c.self.inside.drops.items; sums = c.self.inside.sums.items } in
     let t = c.args.t in
     let p = c.args.place in
     let due : List Due = g.Q.Orders.map c.args.orders.now in
@@ -93,7 +93,7 @@ hear_all-requires-clause-nodes g c =
     let e = is_ending t c.from-2.result p w c.args.self.now due st c.self.view_is c.from-2.ensures c.self.invariant c.index_mut.ensures.value c.requires.within c.requires.shown c.requires.time c.requires.ends in
     let node : u ≡ st.setup.id = named ∙ ap (λ (d : DeviceState). d.setup.id) (one_there w.devices p first st before.1.here e.1.here) in
     let silent : c.end_sending.new.self ≡ record st { sending = None } = c.end_sending.ensures.after ∙ ap (λ (r : Option Sending). record st { sending = if is_some r then None else st.sending }) c.in-Some.is in
-    let mid : FieldState = record { medium = c.end-hearers.new.self; devices = set w.devices c.from-2.result c.end_sending.new.self; air = w.air; deliveries = w.deliveries; drops = w.drops } in
+    let mid : FieldState = record { medium = c.end-hearers.new.self; devices = set w.devices c.from-2.result c.end_sending.new.self; air = w.air; deliveries = w.deliveries; drops = w.drops; sums = w.sums } in
     let is_over : mid ≡ over t p st w = as_over t c.from-2.result p u w c.end-hearers.new.self st c.end_sending.new.self c.from-2.ensures node c.end-hearers.ensures.state silent in
     let mid_due : List Due = g.Q.Orders.map c.clear.new.self in
     let lines : Lines = g.M.Links.lines c.args.links.now in
@@ -108,7 +108,7 @@ hear_all-requires-clause-nodes g c =
 
 pub hear_all-requires-clause-shown : goal.hear_all-requires-clause-shown
 hear_all-requires-clause-shown g c =
-    let w : FieldState = record { medium = c.self.inside.medium; devices = c.self.inside.devices.items; air = c.self.inside.air; deliveries = c.self.inside.deliveries.items; drops = c.self.inside.drops.items } in
+    let w : FieldState = record { medium = c.self.inside.medium; devices = c.self.inside.devices.items; air = c.self.inside.air; deliveries = c.self.inside.deliveries.items; drops = c.self.inside.drops.items; sums = c.self.inside.sums.items } in
     let t = c.args.t in
     let p = c.args.place in
     let due : List Due = g.Q.Orders.map c.args.orders.now in
@@ -120,7 +120,7 @@ hear_all-requires-clause-shown g c =
     let e = is_ending t c.from-2.result p w c.args.self.now due st c.self.view_is c.from-2.ensures c.self.invariant c.index_mut.ensures.value c.requires.within c.requires.shown c.requires.time c.requires.ends in
     let node : u ≡ st.setup.id = named ∙ ap (λ (d : DeviceState). d.setup.id) (one_there w.devices p first st before.1.here e.1.here) in
     let silent : c.end_sending.new.self ≡ record st { sending = None } = c.end_sending.ensures.after ∙ ap (λ (r : Option Sending). record st { sending = if is_some r then None else st.sending }) c.in-Some.is in
-    let mid : FieldState = record { medium = c.end-hearers.new.self; devices = set w.devices c.from-2.result c.end_sending.new.self; air = w.air; deliveries = w.deliveries; drops = w.drops } in
+    let mid : FieldState = record { medium = c.end-hearers.new.self; devices = set w.devices c.from-2.result c.end_sending.new.self; air = w.air; deliveries = w.deliveries; drops = w.drops; sums = w.sums } in
     let is_over : mid ≡ over t p st w = as_over t c.from-2.result p u w c.end-hearers.new.self st c.end_sending.new.self c.from-2.ensures node c.end-hearers.ensures.state silent in
     let mid_due : List Due = g.Q.Orders.map c.clear.new.self in
     let lines : Lines = g.M.Links.lines c.args.links.now in
@@ -137,7 +137,7 @@ hear_all-requires-clause-shown g c =
 
 pub hear_all-requires-clause-time : goal.hear_all-requires-clause-time
 hear_all-requires-clause-time g c =
-    let w : FieldState = record { medium = c.self.inside.medium; devices = c.self.inside.devices.items; air = c.self.inside.air; deliveries = c.self.inside.deliveries.items; drops = c.self.inside.drops.items } in
+    let w : FieldState = record { medium = c.self.inside.medium; devices = c.self.inside.devices.items; air = c.self.inside.air; deliveries = c.self.inside.deliveries.items; drops = c.self.inside.drops.items; sums = c.self.inside.sums.items } in
     let t = c.args.t in
     let p = c.args.place in
     let due : List Due = g.Q.Orders.map c.args.orders.now in
@@ -149,7 +149,7 @@ hear_all-requires-clause-time g c =
     let e = is_ending t c.from-2.result p w c.args.self.now due st c.self.view_is c.from-2.ensures c.self.invariant c.index_mut.ensures.value c.requires.within c.requires.shown c.requires.time c.requires.ends in
     let node : u ≡ st.setup.id = named ∙ ap (λ (d : DeviceState). d.setup.id) (one_there w.devices p first st before.1.here e.1.here) in
     let silent : c.end_sending.new.self ≡ record st { sending = None } = c.end_sending.ensures.after ∙ ap (λ (r : Option Sending). record st { sending = if is_some r then None else st.sending }) c.in-Some.is in
-    let mid : FieldState = record { medium = c.end-hearers.new.self; devices = set w.devices c.from-2.result c.end_sending.new.self; air = w.air; deliveries = w.deliveries; drops = w.drops } in
+    let mid : FieldState = record { medium = c.end-hearers.new.self; devices = set w.devices c.from-2.result c.end_sending.new.self; air = w.air; deliveries = w.deliveries; drops = w.drops; sums = w.sums } in
     let is_over : mid ≡ over t p st w = as_over t c.from-2.result p u w c.end-hearers.new.self st c.end_sending.new.self c.from-2.ensures node c.end-hearers.ensures.state silent in
     let mid_due : List Due = g.Q.Orders.map c.clear.new.self in
     let lines : Lines = g.M.Links.lines c.args.links.now in
@@ -164,9 +164,12 @@ hear_all-requires-clause-time g c =
     subst (λ (k : ℕ). IsTime mid.medium k) (sym at_t)
     (time_goes_on lines t p u w due st e.0 e.1 c.end-hearers.result are mid mid_due is_over c.clear.ensures c.end-hearers.ensures.holds)
 
+pub tell-requires-clause-sent : goal.tell-requires-clause-sent
+tell-requires-clause-sent g c = (Some c.in-Some.x, refl)
+
 pub tell-requires-clause-shown : goal.tell-requires-clause-shown
 tell-requires-clause-shown g c =
-    let w : FieldState = record { medium = c.self.inside.medium; devices = c.self.inside.devices.items; air = c.self.inside.air; deliveries = c.self.inside.deliveries.items; drops = c.self.inside.drops.items } in
+    let w : FieldState = record { medium = c.self.inside.medium; devices = c.self.inside.devices.items; air = c.self.inside.air; deliveries = c.self.inside.deliveries.items; drops = c.self.inside.drops.items; sums = c.self.inside.sums.items } in
     let t = c.args.t in
     let p = c.args.place in
     let due : List Due = g.Q.Orders.map c.args.orders.now in
@@ -178,7 +181,7 @@ tell-requires-clause-shown g c =
     let e = is_ending t c.from-2.result p w c.args.self.now due st c.self.view_is c.from-2.ensures c.self.invariant c.index_mut.ensures.value c.requires.within c.requires.shown c.requires.time c.requires.ends in
     let node : u ≡ st.setup.id = named ∙ ap (λ (d : DeviceState). d.setup.id) (one_there w.devices p first st before.1.here e.1.here) in
     let silent : c.end_sending.new.self ≡ record st { sending = None } = c.end_sending.ensures.after ∙ ap (λ (r : Option Sending). record st { sending = if is_some r then None else st.sending }) c.in-Some.is in
-    let mid : FieldState = record { medium = c.end-hearers.new.self; devices = set w.devices c.from-2.result c.end_sending.new.self; air = w.air; deliveries = w.deliveries; drops = w.drops } in
+    let mid : FieldState = record { medium = c.end-hearers.new.self; devices = set w.devices c.from-2.result c.end_sending.new.self; air = w.air; deliveries = w.deliveries; drops = w.drops; sums = w.sums } in
     let is_over : mid ≡ over t p st w = as_over t c.from-2.result p u w c.end-hearers.new.self st c.end_sending.new.self c.from-2.ensures node c.end-hearers.ensures.state silent in
     let mid_due : List Due = g.Q.Orders.map c.clear.new.self in
     let lines : Lines = g.M.Links.lines c.args.links.now in
@@ -203,7 +206,7 @@ tell-requires-clause-shown g c =
 
 pub returns : goal.returns
 returns g c =
-    let w : FieldState = record { medium = c.self.inside.medium; devices = c.self.inside.devices.items; air = c.self.inside.air; deliveries = c.self.inside.deliveries.items; drops = c.self.inside.drops.items } in
+    let w : FieldState = record { medium = c.self.inside.medium; devices = c.self.inside.devices.items; air = c.self.inside.air; deliveries = c.self.inside.deliveries.items; drops = c.self.inside.drops.items; sums = c.self.inside.sums.items } in
     let t = c.args.t in
     let p = c.args.place in
     let due : List Due = g.Q.Orders.map c.args.orders.now in
@@ -215,7 +218,7 @@ returns g c =
     let e = is_ending t c.from-2.result p w c.args.self.now due st c.self.view_is c.from-2.ensures c.self.invariant c.index_mut.ensures.value c.requires.within c.requires.shown c.requires.time c.requires.ends in
     let node : u ≡ st.setup.id = named ∙ ap (λ (d : DeviceState). d.setup.id) (one_there w.devices p first st before.1.here e.1.here) in
     let silent : c.end_sending.new.self ≡ record st { sending = None } = c.end_sending.ensures.after ∙ ap (λ (r : Option Sending). record st { sending = if is_some r then None else st.sending }) c.in-Some.is in
-    let mid : FieldState = record { medium = c.end-hearers.new.self; devices = set w.devices c.from-2.result c.end_sending.new.self; air = w.air; deliveries = w.deliveries; drops = w.drops } in
+    let mid : FieldState = record { medium = c.end-hearers.new.self; devices = set w.devices c.from-2.result c.end_sending.new.self; air = w.air; deliveries = w.deliveries; drops = w.drops; sums = w.sums } in
     let is_over : mid ≡ over t p st w = as_over t c.from-2.result p u w c.end-hearers.new.self st c.end_sending.new.self c.from-2.ensures node c.end-hearers.ensures.state silent in
     let mid_due : List Due = g.Q.Orders.map c.clear.new.self in
     let lines : Lines = g.M.Links.lines c.args.links.now in
@@ -245,4 +248,4 @@ returns g c =
     let ends : EndsSending lines clocks t p e.0 heard.0 w due new new_due =
     sending_ends lines t p u w due st e.0 e.1 c.end-hearers.result are mid mid_due is_over c.clear.ensures c.end-hearers.ensures.holds
     clocks heard.0 heard.1 hd hd_due all new new_due told in
-    (heard.0, subst (λ (v : FieldState). EndsSending lines clocks t p y heard.0 v due new new_due) c.self.view_is (subst (λ (z : Sending). EndsSending lines clocks t p z heard.0 w due new new_due) (sym is_y) ends))) (c.tell.ensures (Some e.0))
+    (heard.0, subst (λ (v : FieldState). EndsSending lines clocks t p y heard.0 v due new new_due) c.self.view_is (subst (λ (z : Sending). EndsSending lines clocks t p z heard.0 w due new new_due) (sym is_y) ends))) (c.tell.ensures (Some e.0) (ap (λ (y : Sending). let o : Option (List ℕ) = Some y.packet in o) is_x))

@@ -1,6 +1,7 @@
 use Rattle.std.proofs.Common.{OnOk, sym, subst}
 use Rattle.event_calendar.specs.declared.class.Class.{Class}
 use Rattle.air_log.specs.ClockLists.{clocks_by}
+use Rattle.lwb_world.specs.Counting.{TrailsStay}
 use Rattle.lwb_world.specs.Moments.{At}
 use Rattle.lwb_world.specs.Running.{IsRunning}
 use Rattle.lwb_world.specs.Frames.{IsPast}
@@ -30,7 +31,7 @@ returns-in-SendingEnd g c = λ told.
     let due = g.Q.Orders.map c.end_due.new.orders in
     subst
     (λ (k : Class). IsRunning c.args.s.now clocks told c.args.t (At k) c.args.self.now (g.Q.Orders.map c.args.orders.now)
-    → OnOk c.end_due.result (IsRunning c.args.s.now clocks told c.args.t (At k) c.end_due.new.self due × IsPast c.args.t k c.args.place due))
+    → OnOk c.end_due.result (IsRunning c.args.s.now clocks told c.args.t (At k) c.end_due.new.self due × IsPast c.args.t k c.args.place due × TrailsStay c.args.s.now clocks c.args.t c.args.self.now.air c.end_due.new.self.air))
     (sym c.in-SendingEnd.is) (c.end_due.ensures told)
 
 pub returns-in-Alarm : goal.returns-in-Alarm
@@ -39,7 +40,7 @@ returns-in-Alarm g c = λ told.
     let due = g.Q.Orders.map c.alarm_due.new.orders in
     subst
     (λ (k : Class). IsRunning c.args.s.now clocks told c.args.t (At k) c.args.self.now (g.Q.Orders.map c.args.orders.now)
-    → OnOk c.alarm_due.result (IsRunning c.args.s.now clocks told c.args.t (At k) c.alarm_due.new.self due × IsPast c.args.t k c.args.place due))
+    → OnOk c.alarm_due.result (IsRunning c.args.s.now clocks told c.args.t (At k) c.alarm_due.new.self due × IsPast c.args.t k c.args.place due × TrailsStay c.args.s.now clocks c.args.t c.args.self.now.air c.alarm_due.new.self.air))
     (sym c.in-Alarm.is) (c.alarm_due.ensures told)
 
 pub returns-in-SendingStart : goal.returns-in-SendingStart
@@ -48,5 +49,5 @@ returns-in-SendingStart g c = λ told.
     let due = g.Q.Orders.map c.start_due.new.orders in
     subst
     (λ (k : Class). IsRunning c.args.s.now clocks told c.args.t (At k) c.args.self.now (g.Q.Orders.map c.args.orders.now)
-    → OnOk c.start_due.result (IsRunning c.args.s.now clocks told c.args.t (At k) c.start_due.new.self due × IsPast c.args.t k c.args.place due))
+    → OnOk c.start_due.result (IsRunning c.args.s.now clocks told c.args.t (At k) c.start_due.new.self due × IsPast c.args.t k c.args.place due × TrailsStay c.args.s.now clocks c.args.t c.args.self.now.air c.start_due.new.self.air))
     (sym c.in-SendingStart.is) (c.start_due.ensures told)

@@ -1,4 +1,4 @@
-use Rattle.std.proofs.Common.{◌≡◌, ℕ, List, [], ◌∷◌, ◌++◌, Some, None, sym, ◌∙◌, ap, subst}
+use Rattle.std.proofs.Common.{◌≡◌, ℕ, List, [], ◌∷◌, ◌++◌, Some, None, refl, sym, ◌∙◌, ap, subst}
 use Rattle.std.specs.Prelude.{slice_get}
 use Rattle.std.proofs.lemmas.Result.{on_ok_weaker}
 use Rattle.lwb_base.specs.declared.event.Event.TheVariants.{Heard}
@@ -15,20 +15,23 @@ use Rattle.lwb_world.proofs.ShownPlaces.{read_there}
 use Rattle.lwb_world.proofs.HearersTold.{logged, is_shown_when_logged, heard_there}
 use Rattle.lwb_world.proofs.field.Field.hear.Goals as goal
 
+pub tell-requires-clause-sent : goal.tell-requires-clause-sent
+tell-requires-clause-sent g c = (None, refl)
+
 pub tell-requires-clause-shown : goal.tell-requires-clause-shown
 tell-requires-clause-shown g c =
-    let w : FieldState = record { medium = c.self.inside.medium; devices = c.self.inside.devices.items; air = c.self.inside.air; deliveries = c.self.inside.deliveries.items; drops = c.self.inside.drops.items } in
+    let w : FieldState = record { medium = c.self.inside.medium; devices = c.self.inside.devices.items; air = c.self.inside.air; deliveries = c.self.inside.deliveries.items; drops = c.self.inside.drops.items; sums = c.self.inside.sums.items } in
     let due : List Due = g.Q.Orders.map c.args.orders.now in
     let x = c.args.x.now in
     let u = c.node.result in
     let pushed : c.push.new.self ≡ w.air ++ heard_entry u x ∷ [] =
     c.in_ok-push.ensures.ok ∙ ap (λ (b : List ℕ). w.air ++ HeardLine (record { rank = x.rank; node = u; from = x.node; start = x.start; end = x.end; packet = b }) ∷ []) c.copy.ensures in
     let shown : IsShown x.end w due c.args.place = subst (λ (v : FieldState). IsShown x.end v due c.args.place) (sym c.self.view_is) c.requires.shown in
-    subst (λ (l : List Entry). IsShown x.end (record { medium = w.medium; devices = w.devices; air = l; deliveries = w.deliveries; drops = w.drops }) due c.args.place) (sym pushed) (is_shown_when_logged x.end c.args.place u x w due shown)
+    subst (λ (l : List Entry). IsShown x.end (record { medium = w.medium; devices = w.devices; air = l; deliveries = w.deliveries; drops = w.drops; sums = w.sums }) due c.args.place) (sym pushed) (is_shown_when_logged x.end c.args.place u x w due shown)
 
 pub returns : goal.returns
 returns g c =
-    let w : FieldState = record { medium = c.self.inside.medium; devices = c.self.inside.devices.items; air = c.self.inside.air; deliveries = c.self.inside.deliveries.items; drops = c.self.inside.drops.items } in
+    let w : FieldState = record { medium = c.self.inside.medium; devices = c.self.inside.devices.items; air = c.self.inside.air; deliveries = c.self.inside.deliveries.items; drops = c.self.inside.drops.items; sums = c.self.inside.sums.items } in
     let due : List Due = g.Q.Orders.map c.args.orders.now in
     let new_due : List Due = g.Q.Orders.map c.tell.new.orders in
     let clock : ℕ → ℕ = g.C.DriftClock.readings c.args.clock.now in
@@ -43,7 +46,7 @@ returns g c =
     let id : u ≡ st.setup.id = c.node.ensures in
     on_ok_weaker c.tell.result (λ acts.
     let told : Acts x.end c.args.place (λ s d. event clock s x.end (Heard x.packet) None d) [] [] (logged u x w) due c.tell.new.self new_due =
-    subst (λ (l : List Entry). Acts x.end c.args.place (λ s d. event clock s x.end (Heard x.packet) None d) [] [] (record { medium = w.medium; devices = w.devices; air = l; deliveries = w.deliveries; drops = w.drops }) due c.tell.new.self new_due) pushed
-    (subst (λ (b : List ℕ). Acts x.end c.args.place (λ s d. event clock s x.end (Heard b) None d) [] [] (record { medium = w.medium; devices = w.devices; air = c.push.new.self; deliveries = w.deliveries; drops = w.drops }) due c.tell.new.self new_due) c.copy-2.ensures acts) in
+    subst (λ (l : List Entry). Acts x.end c.args.place (λ s d. event clock s x.end (Heard x.packet) None d) [] [] (record { medium = w.medium; devices = w.devices; air = l; deliveries = w.deliveries; drops = w.drops; sums = w.sums }) due c.tell.new.self new_due) pushed
+    (subst (λ (b : List ℕ). Acts x.end c.args.place (λ s d. event clock s x.end (Heard b) None d) [] [] (record { medium = w.medium; devices = w.devices; air = c.push.new.self; deliveries = w.deliveries; drops = w.drops; sums = w.sums }) due c.tell.new.self new_due) c.copy-2.ensures acts) in
     subst (λ (v : FieldState). AllHear (λ q. clock) x.end x (c.args.place ∷ []) v due c.tell.new.self new_due) c.self.view_is
-    (heard_there clock c.args.place u x w due st c.tell.new.self new_due there id told)) (c.tell.ensures None)
+    (heard_there clock c.args.place u x w due st c.tell.new.self new_due there id told)) (c.tell.ensures None refl)

@@ -4,7 +4,7 @@ use Rattle.lwb_world.proofs.LinesInCode.{AreTold}
 use Rattle.lwb_world.proofs.field.Field.lines.Given as goal
 
 abbrev pub invariant-loop-line : goal.invariant-loop-line
-invariant-loop-line g l = AreTold l.s (clocks_by g.C.DriftClock.readings l.s.nodes l.clocks) l.frame l.told l.self (g.Q.Orders.map l.orders)
+invariant-loop-line g l = AreTold l.fn.self.air l.s (clocks_by g.C.DriftClock.readings l.s.nodes l.clocks) l.frame l.told l.self (g.Q.Orders.map l.orders)
 
 abbrev pub decreases-loop-line : goal.decreases-loop-line
 decreases-loop-line g l = length l.s.script - l.told

@@ -32,4 +32,5 @@ returns c =
       air = c.new-2.ensures;
       deliveries = c.new-3.ensures.items;
       drops = c.new-4.ensures.items;
+      sums = c.in_ok-sums.ensures;
     }

@@ -15,7 +15,7 @@ invariant_of-self g c =
     let t = c.args.t in
     let p = c.args.place in
     let orders = g.Q.Orders.map c.args.orders.now in
-    let old : FieldState = record { medium = c.self.inside.medium; devices = c.self.inside.devices.items; air = c.self.inside.air; deliveries = c.self.inside.deliveries.items; drops = c.self.inside.drops.items } in
+    let old : FieldState = record { medium = c.self.inside.medium; devices = c.self.inside.devices.items; air = c.self.inside.air; deliveries = c.self.inside.deliveries.items; drops = c.self.inside.drops.items; sums = c.self.inside.sums.items } in
     let shown : IsShown t old orders p = subst (λ (w : FieldState). IsShown t w orders p) (sym c.self.view_is) c.requires.shown in
     field_retuned t p old orders shown c.from.result c.from.ensures c.index_mut-device.result.now c.index_mut-device.ensures.value c.self.invariant c.listen-closed.new.self c.listen-closed.ensures.node.setup c.self.inside.air c.node-node.result (Some c.in-Listen.rank) c.tune.new.self c.tune.ensures.state
 
@@ -24,7 +24,7 @@ tune-requires-in-Off-clause-node g c =
     let t = c.args.t in
     let p = c.args.place in
     let orders = g.Q.Orders.map c.args.orders.now in
-    let old : FieldState = record { medium = c.self.inside.medium; devices = c.self.inside.devices.items; air = c.self.inside.air; deliveries = c.self.inside.deliveries.items; drops = c.self.inside.drops.items } in
+    let old : FieldState = record { medium = c.self.inside.medium; devices = c.self.inside.devices.items; air = c.self.inside.air; deliveries = c.self.inside.deliveries.items; drops = c.self.inside.drops.items; sums = c.self.inside.sums.items } in
     let shown : IsShown t old orders p = subst (λ (w : FieldState). IsShown t w orders p) (sym c.self.view_is) c.requires.shown in
     let state = c.index_mut-device.result.now in
     let id : c.node-node.result ≡ state.setup.id = c.node-node.ensures in
@@ -35,7 +35,7 @@ invariant_of-self-in-Off g c =
     let t = c.args.t in
     let p = c.args.place in
     let orders = g.Q.Orders.map c.args.orders.now in
-    let old : FieldState = record { medium = c.self.inside.medium; devices = c.self.inside.devices.items; air = c.self.inside.air; deliveries = c.self.inside.deliveries.items; drops = c.self.inside.drops.items } in
+    let old : FieldState = record { medium = c.self.inside.medium; devices = c.self.inside.devices.items; air = c.self.inside.air; deliveries = c.self.inside.deliveries.items; drops = c.self.inside.drops.items; sums = c.self.inside.sums.items } in
     let shown : IsShown t old orders p = subst (λ (w : FieldState). IsShown t w orders p) (sym c.self.view_is) c.requires.shown in
     field_retuned t p old orders shown c.from.result c.from.ensures c.index_mut-device.result.now c.index_mut-device.ensures.value c.self.invariant c.silence-closed.new.self c.silence-closed.ensures.node.setup c.self.inside.air c.node-node.result None c.tune-in-Off.new.self c.tune-in-Off.ensures.state
 
@@ -44,7 +44,7 @@ set-requires g c =
     let t = c.args.t in
     let p = c.args.place in
     let orders = g.Q.Orders.map c.args.orders.now in
-    let old : FieldState = record { medium = c.self.inside.medium; devices = c.self.inside.devices.items; air = c.self.inside.air; deliveries = c.self.inside.deliveries.items; drops = c.self.inside.drops.items } in
+    let old : FieldState = record { medium = c.self.inside.medium; devices = c.self.inside.devices.items; air = c.self.inside.air; deliveries = c.self.inside.deliveries.items; drops = c.self.inside.drops.items; sums = c.self.inside.sums.items } in
     let shown : IsShown t old orders p = subst (λ (w : FieldState). IsShown t w orders p) (sym c.self.view_is) c.requires.shown in
     in_queue t p old orders shown c.from.result c.from.ensures c.index_mut-device.result.now c.index_mut-device.ensures.value
 
@@ -53,7 +53,7 @@ invariant_of-self-in-SendAt g c =
     let t = c.args.t in
     let p = c.args.place in
     let orders = g.Q.Orders.map c.args.orders.now in
-    let old : FieldState = record { medium = c.self.inside.medium; devices = c.self.inside.devices.items; air = c.self.inside.air; deliveries = c.self.inside.deliveries.items; drops = c.self.inside.drops.items } in
+    let old : FieldState = record { medium = c.self.inside.medium; devices = c.self.inside.devices.items; air = c.self.inside.air; deliveries = c.self.inside.deliveries.items; drops = c.self.inside.drops.items; sums = c.self.inside.sums.items } in
     let shown : IsShown t old orders p = subst (λ (w : FieldState). IsShown t w orders p) (sym c.self.view_is) c.requires.shown in
     field_as_was t p old orders shown c.from.result c.from.ensures c.index_mut-device.result.now c.index_mut-device.ensures.value c.self.invariant c.order_sending-tick.new.self (ap (λ (d : DeviceState). d.setup) c.order_sending-tick.ensures.after) c.self.inside.air c.self.inside.deliveries.items
 
@@ -62,7 +62,7 @@ set-requires-in-Alarm g c =
     let t = c.args.t in
     let p = c.args.place in
     let orders = g.Q.Orders.map c.args.orders.now in
-    let old : FieldState = record { medium = c.self.inside.medium; devices = c.self.inside.devices.items; air = c.self.inside.air; deliveries = c.self.inside.deliveries.items; drops = c.self.inside.drops.items } in
+    let old : FieldState = record { medium = c.self.inside.medium; devices = c.self.inside.devices.items; air = c.self.inside.air; deliveries = c.self.inside.deliveries.items; drops = c.self.inside.drops.items; sums = c.self.inside.sums.items } in
     let shown : IsShown t old orders p = subst (λ (w : FieldState). IsShown t w orders p) (sym c.self.view_is) c.requires.shown in
     in_queue t p old orders shown c.from.result c.from.ensures c.index_mut-device.result.now c.index_mut-device.ensures.value
 
@@ -71,7 +71,7 @@ invariant_of-self-in-Alarm g c =
     let t = c.args.t in
     let p = c.args.place in
     let orders = g.Q.Orders.map c.args.orders.now in
-    let old : FieldState = record { medium = c.self.inside.medium; devices = c.self.inside.devices.items; air = c.self.inside.air; deliveries = c.self.inside.deliveries.items; drops = c.self.inside.drops.items } in
+    let old : FieldState = record { medium = c.self.inside.medium; devices = c.self.inside.devices.items; air = c.self.inside.air; deliveries = c.self.inside.deliveries.items; drops = c.self.inside.drops.items; sums = c.self.inside.sums.items } in
     let shown : IsShown t old orders p = subst (λ (w : FieldState). IsShown t w orders p) (sym c.self.view_is) c.requires.shown in
     field_as_was t p old orders shown c.from.result c.from.ensures c.index_mut-device.result.now c.index_mut-device.ensures.value c.self.invariant c.set_alarm-tick.new.self (ap (λ (d : DeviceState). d.setup) c.set_alarm-tick.ensures.after) c.self.inside.air c.self.inside.deliveries.items
 
@@ -80,7 +80,7 @@ returns-in-Listen g c =
     let t = c.args.t in
     let p = c.args.place in
     let orders = g.Q.Orders.map c.args.orders.now in
-    let old : FieldState = record { medium = c.self.inside.medium; devices = c.self.inside.devices.items; air = c.self.inside.air; deliveries = c.self.inside.deliveries.items; drops = c.self.inside.drops.items } in
+    let old : FieldState = record { medium = c.self.inside.medium; devices = c.self.inside.devices.items; air = c.self.inside.air; deliveries = c.self.inside.deliveries.items; drops = c.self.inside.drops.items; sums = c.self.inside.sums.items } in
     let shown : IsShown t old orders p = subst (λ (w : FieldState). IsShown t w orders p) (sym c.self.view_is) c.requires.shown in
     let time : IsTime old.medium t = subst (λ (w : FieldState). IsTime w.medium t) (sym c.self.view_is) c.requires.time in
     let clock = g.C.DriftClock.readings c.args.clock.now in
@@ -103,7 +103,7 @@ returns-in-Off g c =
     let t = c.args.t in
     let p = c.args.place in
     let orders = g.Q.Orders.map c.args.orders.now in
-    let old : FieldState = record { medium = c.self.inside.medium; devices = c.self.inside.devices.items; air = c.self.inside.air; deliveries = c.self.inside.deliveries.items; drops = c.self.inside.drops.items } in
+    let old : FieldState = record { medium = c.self.inside.medium; devices = c.self.inside.devices.items; air = c.self.inside.air; deliveries = c.self.inside.deliveries.items; drops = c.self.inside.drops.items; sums = c.self.inside.sums.items } in
     let shown : IsShown t old orders p = subst (λ (w : FieldState). IsShown t w orders p) (sym c.self.view_is) c.requires.shown in
     let time : IsTime old.medium t = subst (λ (w : FieldState). IsTime w.medium t) (sym c.self.view_is) c.requires.time in
     let clock = g.C.DriftClock.readings c.args.clock.now in
@@ -127,7 +127,7 @@ returns-in-SendAt g c =
     let t = c.args.t in
     let p = c.args.place in
     let orders = g.Q.Orders.map c.args.orders.now in
-    let old : FieldState = record { medium = c.self.inside.medium; devices = c.self.inside.devices.items; air = c.self.inside.air; deliveries = c.self.inside.deliveries.items; drops = c.self.inside.drops.items } in
+    let old : FieldState = record { medium = c.self.inside.medium; devices = c.self.inside.devices.items; air = c.self.inside.air; deliveries = c.self.inside.deliveries.items; drops = c.self.inside.drops.items; sums = c.self.inside.sums.items } in
     let shown : IsShown t old orders p = subst (λ (w : FieldState). IsShown t w orders p) (sym c.self.view_is) c.requires.shown in
     let time : IsTime old.medium t = subst (λ (w : FieldState). IsTime w.medium t) (sym c.self.view_is) c.requires.time in
     acts_seen c.self.view_is (
@@ -139,7 +139,7 @@ returns-in-Alarm g c =
     let t = c.args.t in
     let p = c.args.place in
     let orders = g.Q.Orders.map c.args.orders.now in
-    let old : FieldState = record { medium = c.self.inside.medium; devices = c.self.inside.devices.items; air = c.self.inside.air; deliveries = c.self.inside.deliveries.items; drops = c.self.inside.drops.items } in
+    let old : FieldState = record { medium = c.self.inside.medium; devices = c.self.inside.devices.items; air = c.self.inside.air; deliveries = c.self.inside.deliveries.items; drops = c.self.inside.drops.items; sums = c.self.inside.sums.items } in
     let shown : IsShown t old orders p = subst (λ (w : FieldState). IsShown t w orders p) (sym c.self.view_is) c.requires.shown in
     let time : IsTime old.medium t = subst (λ (w : FieldState). IsTime w.medium t) (sym c.self.view_is) c.requires.time in
     acts_seen c.self.view_is (

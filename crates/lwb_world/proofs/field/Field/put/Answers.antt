@@ -14,7 +14,7 @@ use Rattle.lwb_world.proofs.field.Field.put.Goals as goal
 
 pub invariant_of-self : goal.invariant_of-self
 invariant_of-self c =
-    let w : FieldState = record { medium = c.self.inside.medium; devices = c.self.inside.devices.items; air = c.self.inside.air; deliveries = c.self.inside.deliveries.items; drops = c.self.inside.drops.items } in
+    let w : FieldState = record { medium = c.self.inside.medium; devices = c.self.inside.devices.items; air = c.self.inside.air; deliveries = c.self.inside.deliveries.items; drops = c.self.inside.drops.items; sums = c.self.inside.sums.items } in
     let state = c.index_mut-device.result.now in
     let at : slice_get w.devices c.from.result ≡ Some state =
     slice_get_read w.devices (length w.devices) c.from.result state refl (omega (arith, c.requires.within, c.from.ensures, ap (λ (f : FieldState). length f.devices) c.self.view_is)) c.index_mut-device.ensures.value in
@@ -22,7 +22,7 @@ invariant_of-self c =
 
 pub invariant_of-self-in_err-push : goal.invariant_of-self-in_err-push
 invariant_of-self-in_err-push c =
-    let w : FieldState = record { medium = c.self.inside.medium; devices = c.self.inside.devices.items; air = c.self.inside.air; deliveries = c.self.inside.deliveries.items; drops = c.self.inside.drops.items } in
+    let w : FieldState = record { medium = c.self.inside.medium; devices = c.self.inside.devices.items; air = c.self.inside.air; deliveries = c.self.inside.deliveries.items; drops = c.self.inside.drops.items; sums = c.self.inside.sums.items } in
     let state = c.index_mut-device.result.now in
     let at : slice_get w.devices c.from.result ≡ Some state =
     slice_get_read w.devices (length w.devices) c.from.result state refl (omega (arith, c.requires.within, c.from.ensures, ap (λ (f : FieldState). length f.devices) c.self.view_is)) c.index_mut-device.ensures.value in
@@ -30,7 +30,7 @@ invariant_of-self-in_err-push c =
 
 pub invariant_of-self-2 : goal.invariant_of-self-2
 invariant_of-self-2 c =
-    let w : FieldState = record { medium = c.self.inside.medium; devices = c.self.inside.devices.items; air = c.self.inside.air; deliveries = c.self.inside.deliveries.items; drops = c.self.inside.drops.items } in
+    let w : FieldState = record { medium = c.self.inside.medium; devices = c.self.inside.devices.items; air = c.self.inside.air; deliveries = c.self.inside.deliveries.items; drops = c.self.inside.drops.items; sums = c.self.inside.sums.items } in
     let state = c.index_mut-device.result.now in
     let at : slice_get w.devices c.from.result ≡ Some state =
     slice_get_read w.devices (length w.devices) c.from.result state refl (omega (arith, c.requires.within, c.from.ensures, ap (λ (f : FieldState). length f.devices) c.self.view_is)) c.index_mut-device.ensures.value in
@@ -39,7 +39,7 @@ invariant_of-self-2 c =
 pub returns-then-not-put : goal.returns-then-not-put
 returns-then-not-put c = λ clock t due is_time is_shown own.
     let p = c.args.place in
-    let old : FieldState = record { medium = c.self.inside.medium; devices = c.self.inside.devices.items; air = c.self.inside.air; deliveries = c.self.inside.deliveries.items; drops = c.self.inside.drops.items } in
+    let old : FieldState = record { medium = c.self.inside.medium; devices = c.self.inside.devices.items; air = c.self.inside.air; deliveries = c.self.inside.deliveries.items; drops = c.self.inside.drops.items; sums = c.self.inside.sums.items } in
     let shown : IsShown t old due p = subst (λ (w : FieldState). IsShown t w due p) (sym c.self.view_is) is_shown in
     let time : IsTime old.medium t = subst (λ (w : FieldState). IsTime w.medium t) (sym c.self.view_is) is_time in
     let state = c.index_mut-device.result.now in
@@ -54,7 +54,7 @@ returns-then-not-put c = λ clock t due is_time is_shown own.
 pub returns : goal.returns
 returns c = λ clock t due is_time is_shown own.
     let p = c.args.place in
-    let old : FieldState = record { medium = c.self.inside.medium; devices = c.self.inside.devices.items; air = c.self.inside.air; deliveries = c.self.inside.deliveries.items; drops = c.self.inside.drops.items } in
+    let old : FieldState = record { medium = c.self.inside.medium; devices = c.self.inside.devices.items; air = c.self.inside.air; deliveries = c.self.inside.deliveries.items; drops = c.self.inside.drops.items; sums = c.self.inside.sums.items } in
     let shown : IsShown t old due p = subst (λ (w : FieldState). IsShown t w due p) (sym c.self.view_is) is_shown in
     let time : IsTime old.medium t = subst (λ (w : FieldState). IsTime w.medium t) (sym c.self.view_is) is_time in
     let state = c.index_mut-device.result.now in

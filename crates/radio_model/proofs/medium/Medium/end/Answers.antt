@@ -1,10 +1,15 @@
-use Rattle.std.proofs.Common.{◌∙◌, ◌≤◌, ap, subst, sym}
-use Rattle.radio_model.specs.Stations.{MediumState, IsMedium, finished, after, Ends}
-use Rattle.radio_model.proofs.Places.{after_is, after_medium, placed}
+use Rattle.std.proofs.Common.{◌≡◌, ℕ, ◌∙◌, ◌≤◌, List, Contains, get_or, ap, subst, sym}
+use Rattle.radio_model.specs.Stations.{MediumState, IsMedium, node_of, nodes_of, on_air, finished, after, Ends}
+use Rattle.radio_model.specs.Marks.{IsMark, IsNewest, ArePlaces}
+use Rattle.radio_model.specs.declared.station.Station.{Station}
+use Rattle.radio_model.proofs.Places.{after_is, after_medium, nodes_same}
+use Rattle.radio_model.proofs.PlacedStations.{found_place}
 use Rattle.radio_model.specs.Holding.{Holds}
 use Rattle.radio_model.proofs.AfterEnding.{holds_after_ending}
 use Rattle.radio_model.proofs.Named.{names_who_hears, names_one_sender, names_in_order}
 use Rattle.radio_model.proofs.Ending.{aged_after_ending}
+use Rattle.radio_model.proofs.Marked.{marks_stay, mark_finished}
+use Rattle.radio_model.proofs.Origins.{alike_kept, newest_finished, newest_unfinished}
 use Rattle.radio_model.proofs.Changes.{finished_keeps}
 use Rattle.radio_model.proofs.medium.Medium.end.Goals as goal
 
@@ -12,21 +17,34 @@ pub invariant_of-self : goal.invariant_of-self
 invariant_of-self g c =
     let m : MediumState = record { numbers = c.self.inside.profile; now = c.self.inside.time; stations = c.self.inside.stations.items } in
     let old = c.index_mut-station.result.now in
-    let at = placed m.stations c.deref.result.now c.place_of-place.result c.args.node old c.deref.ensures.value c.place_of-place.ensures.below c.place_of-place.ensures.there c.index_mut-station.ensures.value in
-    let later : m.now ≤ c.args.t = subst (λ (s : MediumState). s.now ≤ c.args.t) (sym (c.self.view_is ∙ c.hearers-hearers.ensures.same)) c.requires.time.later in
-    let ends : Ends m c.args.node c.args.t = subst (λ (s : MediumState). Ends s c.args.node c.args.t) (sym (c.self.view_is ∙ c.hearers-hearers.ensures.same)) c.requires.sends in (
-      after_medium m c.self.invariant.0 finished finished_keeps c.args.node c.args.t c.place_of-place.result old c.finish.new.self at.0 c.index_mut-station.ensures.value at.1 c.finish.ensures,
-      c.self.invariant.1,
-      aged_after_ending m c.self.invariant.0 c.args.node c.place_of-place.result c.args.t old c.finish.new.self at.0 c.index_mut-station.ensures.value at.1 later ends c.self.invariant.2 c.finish.ensures,
+    let there = subst (λ (s : MediumState). Contains (nodes_of s) c.args.node) (sym c.self.view_is) c.requires.node in
+    let at = found_place m c.self.inside.places.items c.deref.result.now c.args.node c.place_of-place.result c.deref.ensures.value c.self.invariant.1 there c.place_of-place.ensures in
+    let of : old.node ≡ c.args.node = ap node_of c.index_mut-station.ensures.value ∙ at.1 old in
+    let later : m.now ≤ c.args.t = subst (λ (s : MediumState). s.now ≤ c.args.t) (sym c.self.view_is) c.requires.time.later in
+    let ends : Ends m c.args.node c.args.t = subst (λ (s : MediumState). Ends s c.args.node c.args.t) (sym c.self.view_is) c.requires.sends in
+    let room : old.ended.capacity ≡ 13 = ap (λ (st : Station). st.ended.capacity) c.index_mut-station.ensures.value ∙ c.self.invariant.0.rooms c.place_of-place.result old at.0 in (
+      after_medium m c.self.invariant.0 finished finished_keeps c.args.node c.args.t c.place_of-place.result old c.finish.new.self at.0 c.index_mut-station.ensures.value of c.finish.ensures,
+      subst (λ (l : List ℕ). ArePlaces l c.self.inside.places.items) (sym (nodes_same m c.self.invariant.0 finished finished_keeps c.args.node c.args.t c.place_of-place.result old c.finish.new.self at.0 c.index_mut-station.ensures.value of c.finish.ensures)) c.self.invariant.1,
+      marks_stay m.stations c.self.inside.marks.items c.place_of-place.result c.finish.new.self c.self.invariant.2 (λ e.
+          subst (λ (st : Station). IsMark (on_air st) (get_or c.self.inside.marks.items c.place_of-place.result e)) (sym c.finish.ensures)
+          (mark_finished old (get_or c.self.inside.marks.items c.place_of-place.result e)
+          (subst (λ (st : Station). IsMark (on_air st) (get_or c.self.inside.marks.items c.place_of-place.result e)) (sym c.index_mut-station.ensures.value) (c.self.invariant.2.each c.place_of-place.result old e at.0)))),
+      alike_kept m.now c.args.t m.stations c.self.inside.marks.items c.place_of-place.result old c.finish.new.self at.0 c.index_mut-station.ensures.value (ap node_of c.finish.ensures ∙ finished_keeps.node old)
+          (λ y newest. newest_finished old room y (subst (λ (st : Station). IsNewest (on_air st) y) c.finish.ensures newest))
+          (λ y newest. subst (λ (st : Station). IsNewest (on_air st) y) (sym c.finish.ensures) (newest_unfinished old room y newest)) later c.self.invariant.3,
+      c.self.invariant.4,
+      aged_after_ending m c.self.invariant.0 c.args.node c.place_of-place.result c.args.t old c.finish.new.self at.0 c.index_mut-station.ensures.value of later ends c.self.invariant.5 c.finish.ensures,
     )
 
 pub returns-clause-state : goal.returns-clause-state
 returns-clause-state g c =
     let m : MediumState = record { numbers = c.self.inside.profile; now = c.self.inside.time; stations = c.self.inside.stations.items } in
     let old = c.index_mut-station.result.now in
-    let at = placed m.stations c.deref.result.now c.place_of-place.result c.args.node old c.deref.ensures.value c.place_of-place.ensures.below c.place_of-place.ensures.there c.index_mut-station.ensures.value in
-    after_is m c.self.invariant.0 finished finished_keeps c.args.node c.args.t c.place_of-place.result old c.finish.new.self at.0 c.index_mut-station.ensures.value at.1 c.finish.ensures
-    ∙ ap (after c.args.t c.args.node finished) (c.self.view_is ∙ c.hearers-hearers.ensures.same)
+    let there = subst (λ (s : MediumState). Contains (nodes_of s) c.args.node) (sym c.self.view_is) c.requires.node in
+    let at = found_place m c.self.inside.places.items c.deref.result.now c.args.node c.place_of-place.result c.deref.ensures.value c.self.invariant.1 there c.place_of-place.ensures in
+    let of : old.node ≡ c.args.node = ap node_of c.index_mut-station.ensures.value ∙ at.1 old in
+    after_is m c.self.invariant.0 finished finished_keeps c.args.node c.args.t c.place_of-place.result old c.finish.new.self at.0 c.index_mut-station.ensures.value of c.finish.ensures
+    ∙ ap (after c.args.t c.args.node finished) c.self.view_is
 
 pub returns-clause-hearers : goal.returns-clause-hearers
 returns-clause-hearers g c =

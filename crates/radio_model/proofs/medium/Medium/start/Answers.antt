@@ -1,39 +1,77 @@
-use Rattle.std.proofs.Common.{◌≡◌, ◌+◌, ℕ, ap, ◌∙◌, ◌≤◌, sym, subst, arith}
+use Rattle.std.proofs.Common.{◌≡◌, ◌+◌, ℕ, List, length, set, Contains, ap, ◌∙◌, ◌≤◌, sym, subst, arith}
 use Rattle.lwb_base.specs.Profile.{airtime}
-use Rattle.radio_model.specs.Stations.{MediumState, IsMedium, started, after, can_send, station_of}
-use Rattle.radio_model.proofs.Places.{after_is, after_medium, placed, found}
+use Rattle.radio_model.specs.Stations.{MediumState, IsMedium, node_of, nodes_of, started, after, can_send, station_of}
+use Rattle.radio_model.specs.Ages.{IsAged}
+use Rattle.radio_model.specs.Marks.{AreMarks, AreAlike, ArePlaces, IsOrigin, no_mark}
+use Rattle.radio_model.specs.declared.mark.Mark.{Mark}
+use Rattle.radio_model.proofs.Places.{after_is, after_medium, nodes_same, found}
+use Rattle.radio_model.proofs.PlacedStations.{found_place}
 use Rattle.radio_model.specs.Holding.{Holds, after_starting}
 use Rattle.radio_model.proofs.AfterStarting.{holds_after_starting}
 use Rattle.radio_model.proofs.EndedSendings.{aged_same}
+use Rattle.radio_model.proofs.Origins.{after_start}
 use Rattle.radio_model.specs.declared.station.Station.{Station}
 use Rattle.radio_model.proofs.Changes.{started_keeps}
 use Rattle.radio_model.proofs.medium.Medium.start.Goals as goal
+
+pub raise-requires : goal.raise-requires
+raise-requires c =
+    let m : MediumState = record { numbers = c.self.inside.profile; now = c.self.inside.time; stations = c.self.inside.stations.items } in
+    let there = subst (λ (s : MediumState). Contains (nodes_of s) c.args.node) (sym c.self.view_is) c.requires.node in
+    let at = found_place m c.self.inside.places.items c.deref.result.now c.args.node c.place_of-place.result c.deref.ensures.value c.self.invariant.1 there c.place_of-place.ensures in
+    omega (arith, at.0, c.self.invariant.2.one_each)
 
 pub invariant_of-self : goal.invariant_of-self
 invariant_of-self c =
     let m : MediumState = record { numbers = c.self.inside.profile; now = c.self.inside.time; stations = c.self.inside.stations.items } in
     let old = c.index_mut-station.result.now in
-    let at = placed m.stations c.deref.result.now c.place_of-place.result c.args.node old c.deref.ensures.value c.place_of-place.ensures.below c.place_of-place.ensures.there c.index_mut-station.ensures.value in
-    let is_started : c.start-starts.new.self ≡ started m.numbers c.args.t c.args.packet.now old = c.start-starts.ensures.state m.numbers (ap (λ (n : ℕ). c.args.t + n) (c.airtime.ensures.value ∙ ap (airtime m.numbers) c.length.ensures.value)) in
+    let there = subst (λ (s : MediumState). Contains (nodes_of s) c.args.node) (sym c.self.view_is) c.requires.node in
+    let at = found_place m c.self.inside.places.items c.deref.result.now c.args.node c.place_of-place.result c.deref.ensures.value c.self.invariant.1 there c.place_of-place.ensures in
+    let of : old.node ≡ c.args.node = ap node_of c.index_mut-station.ensures.value ∙ at.1 old in
+    let end_is : c.args.t + c.airtime.result ≡ c.args.t + airtime m.numbers (length c.args.packet.now) = ap (λ (n : ℕ). c.args.t + n) (c.airtime.ensures.value ∙ ap (airtime m.numbers) c.length.ensures.value) in
+    let is_started : c.start-starts.new.self ≡ started m.numbers c.args.t c.args.packet.now old = c.start-starts.ensures.state m.numbers end_is in
     let later : m.now ≤ c.args.t = subst (λ (s : MediumState). s.now ≤ c.args.t) (sym c.self.view_is) c.requires.time.later in
-    (after_medium m c.self.invariant.0 (started m.numbers c.args.t c.args.packet.now) (started_keeps m.numbers c.args.t c.args.packet.now) c.args.node c.args.t c.place_of-place.result old c.start-starts.new.self at.0 c.index_mut-station.ensures.value at.1 is_started, c.self.invariant.1, aged_same m.now c.args.t c.place_of-place.result m.stations old c.start-starts.new.self later c.self.invariant.2 at.0 c.index_mut-station.ensures.value (ap (λ (s : Station). s.ended) is_started))
+    let p = m.numbers in
+    let t = c.args.t in
+    let packet = c.args.packet.now in
+    let i = c.place_of-place.result in
+    let marks = c.self.inside.marks.items in
+    let new = c.start-starts.new.self in
+    let aged = subst (λ (st : Station). IsAged m.now st.ended.items) (sym c.index_mut-station.ensures.value) (c.self.invariant.5 i old at.0) in
+    let from : IsOrigin m.stations marks i t packet c.origin_of-origin.result =
+    subst (λ (l : List Mark). IsOrigin m.stations l i t packet c.origin_of-origin.result) c.deref-3.ensures.value
+    (subst (λ (l : List Station). IsOrigin l c.deref-3.result.now i t packet c.origin_of-origin.result) c.deref-2.ensures.value c.origin_of-origin.ensures) in
+    let after = after_start p m.now t (t + c.airtime.result) packet m.stations marks i old new c.origin_of-origin.result at.0 c.index_mut-station.ensures.value is_started end_is aged later
+    c.self.invariant.2 c.self.invariant.3 from c.start-starts.result c.start-starts.ensures.value in (
+      after_medium m c.self.invariant.0 (started m.numbers c.args.t c.args.packet.now) (started_keeps m.numbers c.args.t c.args.packet.now) c.args.node c.args.t c.place_of-place.result old c.start-starts.new.self at.0 c.index_mut-station.ensures.value of is_started,
+      subst (λ (l : List ℕ). ArePlaces l c.self.inside.places.items) (sym (nodes_same m c.self.invariant.0 (started m.numbers c.args.t c.args.packet.now) (started_keeps m.numbers c.args.t c.args.packet.now) c.args.node c.args.t c.place_of-place.result old c.start-starts.new.self at.0 c.index_mut-station.ensures.value of is_started)) c.self.invariant.1,
+      subst (AreMarks (set m.stations i new)) (sym (c.raise.ensures no_mark)) after.0,
+      subst (AreAlike t (set m.stations i new)) (sym (c.raise.ensures no_mark)) after.1,
+      c.self.invariant.4,
+      aged_same m.now c.args.t c.place_of-place.result m.stations old c.start-starts.new.self later c.self.invariant.5 at.0 c.index_mut-station.ensures.value (ap (λ (s : Station). s.ended) is_started),
+    )
 
 pub returns-clause-value : goal.returns-clause-value
 returns-clause-value c =
     let m : MediumState = record { numbers = c.self.inside.profile; now = c.self.inside.time; stations = c.self.inside.stations.items } in
     let old = c.index_mut-station.result.now in
-    let at = placed m.stations c.deref.result.now c.place_of-place.result c.args.node old c.deref.ensures.value c.place_of-place.ensures.below c.place_of-place.ensures.there c.index_mut-station.ensures.value in
+    let there = subst (λ (s : MediumState). Contains (nodes_of s) c.args.node) (sym c.self.view_is) c.requires.node in
+    let at = found_place m c.self.inside.places.items c.deref.result.now c.args.node c.place_of-place.result c.deref.ensures.value c.self.invariant.1 there c.place_of-place.ensures in
+    let of : old.node ≡ c.args.node = ap node_of c.index_mut-station.ensures.value ∙ at.1 old in
     c.start-starts.ensures.value
-    ∙ ap can_send (sym (found m.stations c.args.node c.place_of-place.result old c.self.invariant.0.nodes.ascending at.0 c.index_mut-station.ensures.value at.1))
+    ∙ ap can_send (sym (found m.stations c.args.node c.place_of-place.result old c.self.invariant.0.nodes.ascending at.0 c.index_mut-station.ensures.value of))
     ∙ ap (λ (s : MediumState). can_send (station_of s c.args.node)) c.self.view_is
 
 pub returns-clause-state : goal.returns-clause-state
 returns-clause-state c =
     let m : MediumState = record { numbers = c.self.inside.profile; now = c.self.inside.time; stations = c.self.inside.stations.items } in
     let old = c.index_mut-station.result.now in
-    let at = placed m.stations c.deref.result.now c.place_of-place.result c.args.node old c.deref.ensures.value c.place_of-place.ensures.below c.place_of-place.ensures.there c.index_mut-station.ensures.value in
-    let is_started : c.start-starts.new.self ≡ started m.numbers c.args.t c.args.packet.now old = c.start-starts.ensures.state m.numbers (ap (λ (n : ℕ). c.args.t + n) (c.airtime.ensures.value ∙ ap (airtime m.numbers) c.length.ensures.value)) in
-    after_is m c.self.invariant.0 (started m.numbers c.args.t c.args.packet.now) (started_keeps m.numbers c.args.t c.args.packet.now) c.args.node c.args.t c.place_of-place.result old c.start-starts.new.self at.0 c.index_mut-station.ensures.value at.1 is_started
+    let there = subst (λ (s : MediumState). Contains (nodes_of s) c.args.node) (sym c.self.view_is) c.requires.node in
+    let at = found_place m c.self.inside.places.items c.deref.result.now c.args.node c.place_of-place.result c.deref.ensures.value c.self.invariant.1 there c.place_of-place.ensures in
+    let of : old.node ≡ c.args.node = ap node_of c.index_mut-station.ensures.value ∙ at.1 old in
+    let end_is : c.args.t + c.airtime.result ≡ c.args.t + airtime m.numbers (length c.args.packet.now) = ap (λ (n : ℕ). c.args.t + n) (c.airtime.ensures.value ∙ ap (airtime m.numbers) c.length.ensures.value) in
+    let is_started : c.start-starts.new.self ≡ started m.numbers c.args.t c.args.packet.now old = c.start-starts.ensures.state m.numbers end_is in
+    after_is m c.self.invariant.0 (started m.numbers c.args.t c.args.packet.now) (started_keeps m.numbers c.args.t c.args.packet.now) c.args.node c.args.t c.place_of-place.result old c.start-starts.new.self at.0 c.index_mut-station.ensures.value of is_started
     ∙ ap (λ (s : MediumState). after c.args.t c.args.node (started s.numbers c.args.t c.args.packet.now) s) c.self.view_is
 
 pub returns-clause-holds : goal.returns-clause-holds

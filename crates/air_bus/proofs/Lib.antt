@@ -1,0 +1,40 @@
+-- kept for the crates above
+pub mod PlacesWithout
+pub mod RowsOfWindows
+pub mod WindowWalk
+pub mod WindowParts
+pub mod TimedWindows
+pub mod WindowFacts
+pub mod ScannedHearings
+pub mod HeardThroughout
+-- for this crate alone
+mod OpenedByRows
+mod OwnSchedules
+mod WindowFloods
+mod WindowHistory
+mod SlotTimes
+mod OneWindow
+mod AcceptedRanks
+mod ChainedWindows
+mod ChainWalk
+mod TunedByDevices
+mod WindowsSince
+mod WindowRadios
+mod DistinctHearings
+mod DistinctHappenings
+mod GrownWindows
+mod SendingWalk
+mod ListEnds
+mod KeptCalls
+mod AnsweredCalls
+mod CallsInWindows
+mod FirstWindows
+mod ScannerWalk
+mod SlotHearings
+mod ClosedByFrame
+mod SlotParts
+mod SlotFloods
+mod WindowEvents
+mod EventOccasions
+mod CountedEnds
+mod WorkedWindows

@@ -1,0 +1,3 @@
+pub mod RoundCosts
+pub mod FrameNodes
+pub mod BusRuns

@@ -1,0 +1,11 @@
+//! The bus frame by frame: the script, the rounds of all ranks, and the end of each frame.
+#![tactic(auto)]
+
+mod all_nodes;
+mod bus;
+mod frames;
+mod rounds;
+mod script;
+
+pub use bus::Bus;
+pub use plain_bus::Cost;

@@ -1,0 +1,19 @@
+-- kept for the crates above
+pub mod RunsOfLogs
+pub mod WindowsInTurn
+pub mod SlotsAtNodes
+pub mod PlannedRounds
+pub mod RoundsInTurn
+pub mod MembersByTune
+pub mod WindowsOfRounds
+pub mod SameDeliveries
+-- for this crate alone
+pub mod StartingNodes
+pub mod BusLeaders
+pub mod LedRounds
+pub mod FramesInTurn
+pub mod CoresOfWindows
+pub mod DeliveryOrder
+pub mod DeliveredInSlots
+pub mod DeliveriesInTurn
+pub mod SameScans

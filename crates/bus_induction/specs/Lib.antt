@@ -1,0 +1,2 @@
+pub mod AllSlots
+pub mod ScannedFrames

@@ -1,0 +1,2 @@
+pub mod FramePlaces
+pub mod WorkedCourses

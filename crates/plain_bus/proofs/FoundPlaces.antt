@@ -1,0 +1,31 @@
+-- What a search for a node among ascending ones finds.
+use Rattle.std.proofs.Common.{◌≡◌, ◌<◌, ◌≤◌, ◌==◌, ◌||◌, ℕ, List, [], ◌∷◌, zero, suc, Bool, true, false, inl, inr, Result, Ok, Err, length, get_or, refl, sym, ◌∙◌, ap, subst, arith}
+use Rattle.std.specs.List.{AllPairs}
+use Rattle.std.specs.List.Sorted.{IsBinarySearchResult}
+use Rattle.std.specs.Ordering.{nat_cmp}
+use Rattle.std.proofs.lemmas.Bool.{cases_lt, cases_Bool}
+use Rattle.std.proofs.lemmas.List.Sorted.{searched}
+use Rattle.bus_model.specs.Flooding.{has}
+use Rattle.plain_bus.proofs.HeardByMasks.{place_of}
+
+rising : (ids : List ℕ) → AllPairs (λ a b. a < b) ids → (i j : ℕ) → i ≤ j → j < length ids → get_or ids i 0 ≤ get_or ids j 0
+rising ids ascending i j le inside = elim (cases_lt i j) [
+  | inl before ↦ omega (arith, ascending i j 0 before inside)
+  | inr later ↦ (let same : i ≡ j = omega (arith, le, later) in rw same (omega arith))
+]
+
+module _ (ids : List ℕ) (ascending : AllPairs (λ a b. a < b) ids) (v i : ℕ) where
+  pub found_there : IsBinarySearchResult (λ y. nat_cmp y v) ids (Ok i) → (i < length ids) × (get_or ids i 0 ≡ v)
+  found_there found = searched ids v (Ok i) found (rising ids ascending)
+
+  pub found_nowhere : IsBinarySearchResult (λ y. nat_cmp y v) ids (Err i) → has ids v ≡ false
+  found_nowhere parted = elim (cases_Bool (has ids v)) [
+    | inl there ↦ absurd (
+        let at = searched ids v (Err i) parted (rising ids ascending) in
+        let place = place_of ids v there in
+        elim (cases_lt place.0 i) [
+          | inl before ↦ omega (arith, at.1 place.0 before, place.2)
+          | inr after ↦ omega (arith, at.2 place.0 after place.1, place.2)
+        ])
+    | inr not ↦ not
+  ]

@@ -1,0 +1,197 @@
+use Rattle.std.proofs.Common.{◌≡◌, ◌<◌, ◌≤◌, ◌+◌, ◌++◌, ◌==◌, ℕ, List, All, length, map, take, drop, filter_map, refl, if◌then◌else◌, subst, sym, ◌∙◌, ap, arith}
+use Rattle.std.specs.List.{AllPairs}
+use Rattle.std.proofs.lemmas.List.{length-map}
+use Rattle.std.proofs.lemmas.Result.{on_ok_weaker}
+use Rattle.lwb_base.specs.Messages.{Plan}
+use Rattle.lwb_base.specs.Profile.{Numbers}
+use Rattle.scenario_text.specs.ScenarioFacts.{IsSoundScenario}
+use Rattle.scenario_text.specs.declared.lines.NodeLine.{NodeLine}
+use Rattle.scenario_text.proofs.SoundScenarios.{sound}
+use Rattle.bus_rules.specs.declared.delivery.Delivery.{Delivery}
+use Rattle.bus_rules.specs.declared.part.Part.{Part}
+use Rattle.bus_rules.specs.Slots.{part_of}
+use Rattle.bus_rules.specs.States.{State}
+use Rattle.bus_model.specs.Bus.{Cost}
+use Rattle.bus_model.specs.FloodOfText.{ids}
+use Rattle.bus_model.specs.Flooding.{STEPS, moment}
+use Rattle.bus_model.specs.Rounds.{slot_at, slot_deliveries}
+use Rattle.plain_bus.specs.BusNodes.{BusNode, IsEarlyState, node_opened, nodes_before, ranks_in}
+use Rattle.plain_bus.specs.Closings.{IsBehind, AllMay, closed_node, delivers_node}
+use Rattle.plain_bus.specs.FloodMasks.{AreSendersOf, IsFlood, sends_in, station_at}
+use Rattle.plain_bus.specs.Networks.{Network, IsReady, with_slot_at}
+use Rattle.plain_bus.specs.SlotCosts.{IsBelow, slot_charged}
+use Rattle.plain_bus.specs.SlotFloods.{seen}
+use Rattle.plain_bus.specs.declared.station.Station.{Station}
+use Rattle.plain_bus.specs.declared.window.Window.{Window}
+use Rattle.plain_bus.proofs.SlotsCharged.{slot_costs}
+use Rattle.plain_bus.proofs.SlotsMet.{put_back, ids_ascend, ids_each, behind_slot}
+use Rattle.plain_bus.proofs.SlotsRun.{behind, node_at, window_seen, seen_all, opened_all, all_may, nodes_closed, nodes_delivered}
+use Rattle.plain_bus.proofs.network.Network.run_slot.Goals as goal
+
+pub open_slot-requires-clause-few : goal.open_slot-requires-clause-few
+open_slot-requires-clause-few c =
+    let scenario = sound c.args.s.now c.profile-profile.ensures.said in
+    let few = scenario.few_nodes in
+    omega (arith, few, c.requires.ready.nodes_each, ap (λ (n : Network). length n.nodes) c.self.view_is, ap length c.deref_mut.ensures.value)
+
+pub flooded-end-requires-clause-few : goal.flooded-end-requires-clause-few
+flooded-end-requires-clause-few c =
+    let few = (sound c.args.s.now c.profile-profile.ensures.said).few_nodes in
+    omega (arith, few, ap length c.nodes.ensures)
+
+pub charge_all-requires-clause-ascending : goal.charge_all-requires-clause-ascending
+charge_all-requires-clause-ascending c =
+    ids_ascend c.args.s.now (sound c.args.s.now c.profile-profile.ensures.said) c.deref-3.result.now
+    (c.deref-3.ensures.value ∙ ap (λ (n : Network). n.ids) c.self.view_is ∙ c.requires.ready.ids_are)
+
+pub close_all-requires-clause-ascending : goal.close_all-requires-clause-ascending
+close_all-requires-clause-ascending c =
+    ids_ascend c.args.s.now (sound c.args.s.now c.profile-profile.ensures.said) c.deref-5.result.now
+    (c.deref-5.ensures.value ∙ ap (λ (n : Network). n.ids) c.self.view_is ∙ c.requires.ready.ids_are)
+
+-- the nodes before the slot, where it opened, and behind it
+olds : (c : goal.After-self-3-1) → c.deref_mut.result.now ≡ c.args.self.now.nodes
+olds c = c.deref_mut.ensures.value ∙ ap (λ (n : Network). n.nodes) c.self.view_is
+
+size : (c : goal.After-self-3-1) → length c.self.inside.nodes.items ≡ c.self.inside.nodes.len
+size c = ap length (sym c.deref_mut.ensures.value) ∙ c.deref_mut.ensures.len
+
+opened_size : (c : goal.After-self-3-1) → length c.open_slot.new.nodes ≡ length c.self.inside.nodes.items
+opened_size c =
+    ap length c.in_ok-flood.ensures.nodes ∙ length-map c.deref_mut.result.now (node_opened c.args.rank c.args.frame c.args.part.now) ∙ ap length c.deref_mut.ensures.value
+
+stored : (c : goal.After-self-3-1) → c.deref_mut-3.result.now ≡ c.open_slot.new.nodes
+stored c = c.deref_mut-3.ensures.value ∙ put_back c.self.inside.nodes.len c.open_slot.new.nodes c.self.inside.nodes.items (size c) (opened_size c)
+
+stored_first : (c : goal.After-self-3-1) → c.deref.result.now ≡ c.open_slot.new.nodes
+stored_first c = c.deref.ensures.value ∙ put_back c.self.inside.nodes.len c.open_slot.new.nodes c.self.inside.nodes.items (size c) (opened_size c)
+
+ended : (c : goal.After-self-3-1) → (let n = c.self.inside.nodes.len in
+    take n (c.close_all.new.nodes ++ drop (length c.close_all.new.nodes) (take n (c.open_slot.new.nodes ++ drop (length c.open_slot.new.nodes) c.self.inside.nodes.items)))) ≡ c.close_all.new.nodes
+ended c =
+    let n = c.self.inside.nodes.len in
+    ap (λ (l : List BusNode). take n (c.close_all.new.nodes ++ drop (length c.close_all.new.nodes) l)) (put_back n c.open_slot.new.nodes c.self.inside.nodes.items (size c) (opened_size c))
+    ∙ put_back n c.close_all.new.nodes c.open_slot.new.nodes (opened_size c ∙ size c) (omega (arith, c.close_all.auto.nodes, ap length (stored c)))
+
+-- and the costs
+costs_size : (c : goal.After-self-3-1) → length c.self.inside.costs.items ≡ c.self.inside.costs.len
+costs_size c = ap length (sym c.deref_mut-2.ensures.value) ∙ c.deref_mut-2.ensures.len
+
+charged : (c : goal.After-self-3-1) → take c.self.inside.costs.len (c.charge_all.new.costs ++ drop (length c.charge_all.new.costs) c.self.inside.costs.items) ≡ c.charge_all.new.costs
+charged c = put_back c.self.inside.costs.len c.charge_all.new.costs c.self.inside.costs.items (costs_size c) (omega (arith, c.charge_all.auto.costs, ap length c.deref_mut-2.ensures.value))
+
+old_costs : (c : goal.After-self-3-1) → c.deref_mut-2.result.now ≡ c.args.self.now.costs
+old_costs c = c.deref_mut-2.ensures.value ∙ ap (λ (n : Network). n.costs) c.self.view_is
+
+ids_are : (c : goal.After-self-3-1) → c.deref-5.result.now ≡ ids c.args.s.now.nodes
+ids_are c = c.deref-5.ensures.value ∙ ap (λ (n : Network). n.ids) c.self.view_is ∙ c.requires.ready.ids_are
+
+first_ids_are : (c : goal.After-self-3-1) → c.deref-3.result.now ≡ ids c.args.s.now.nodes
+first_ids_are c = c.deref-3.ensures.value ∙ ap (λ (n : Network). n.ids) c.self.view_is ∙ c.requires.ready.ids_are
+
+module _ (c : goal.After-self-3-1) (p : Plan) (start others : ℕ → State)
+    (are : c.args.self.now.nodes ≡ nodes_before c.args.s.now c.args.rank c.args.frame p start others c.args.slot) (is : c.args.part.now ≡ part_of p c.args.slot) where
+  before : c.deref_mut.result.now ≡ nodes_before c.args.s.now c.args.rank c.args.frame p start others c.args.slot
+  before = olds c ∙ are
+
+  flood_is : IsFlood (slot_at c.args.s.now c.args.rank c.args.frame p start c.args.slot).flood c.trace.result.now c.in_ok-flood.flood
+  flood_is = c.in_ok-flood.ensures.flood c.args.s.now c.trace.result.now p start others before is c.trace.ensures.value c.trace.ensures.sealed c.sends-limit.ensures
+
+  windows_are : map seen c.open_slot.new.windows.items ≡ map (window_seen c.args.s.now c.args.rank c.args.frame p start others c.args.slot) (ids c.args.s.now.nodes)
+  windows_are = c.in_ok-flood.ensures.windows ∙ seen_all c.args.s.now c.args.rank c.args.frame p start others c.args.slot c.deref_mut.result.now c.args.part.now before is
+
+  opened : c.open_slot.new.nodes ≡ map (node_at c.args.s.now c.args.rank c.args.frame p start others c.args.slot) (ids c.args.s.now.nodes)
+  opened = c.in_ok-flood.ensures.nodes ∙ opened_all c.args.s.now c.args.rank c.args.frame p start others c.args.slot c.deref_mut.result.now c.args.part.now before is
+
+  stations_are : c.flooded-end.result.stations.each.items
+      ≡ map (station_at (moment (slot_at c.args.s.now c.args.rank c.args.frame p start c.args.slot).flood STEPS)) (ids c.args.s.now.nodes)
+  stations_are =
+      c.flooded-end.ensures.each (slot_at c.args.s.now c.args.rank c.args.frame p start c.args.slot).flood flood_is
+      ∙ ap (map (station_at (moment (slot_at c.args.s.now c.args.rank c.args.frame p start c.args.slot).flood STEPS))) c.trace.ensures.sealed
+
+  met : (ws : List Window) (xs : List Station) (is : List ℕ) → ws ≡ c.open_slot.new.windows.items → xs ≡ c.flooded-end.result.stations.each.items → is ≡ ids c.args.s.now.nodes
+      → IsBehind (behind c.args.s.now c.args.rank c.args.frame p start others c.args.slot) is ws xs
+  met ws xs is windows stations same =
+      subst (λ (l : List ℕ). IsBehind (behind c.args.s.now c.args.rank c.args.frame p start others c.args.slot) l ws xs) (sym same)
+      (behind_slot c.args.s.now c.args.rank c.args.frame p start others c.args.slot ws xs flood_is.inside (ap (map seen) windows ∙ windows_are) (stations ∙ stations_are))
+
+  -- the closing, with the part and the ids as the round has them
+  closes : c.close_all.new.nodes ≡ map (closed_node (behind c.args.s.now c.args.rank c.args.frame p start others c.args.slot) c.args.frame c.args.part.now (node_at c.args.s.now c.args.rank c.args.frame p start others c.args.slot)) c.deref-5.result.now
+      → c.close_all.new.nodes ≡ nodes_before c.args.s.now c.args.rank c.args.frame p start others (c.args.slot + 1)
+  closes made =
+      let b = behind c.args.s.now c.args.rank c.args.frame p start others c.args.slot in
+      let n = node_at c.args.s.now c.args.rank c.args.frame p start others c.args.slot in
+      made ∙ ap (map (closed_node b c.args.frame c.args.part.now n)) (ids_are c)
+      ∙ ap (λ (q : Part). map (closed_node b c.args.frame q n) (ids c.args.s.now.nodes)) is
+      ∙ nodes_closed c.args.s.now c.args.rank c.args.frame p start others c.args.slot
+
+  delivers : c.close_all.new.log.items ≡ c.self.inside.deliveries.items ++ filter_map (delivers_node (behind c.args.s.now c.args.rank c.args.frame p start others c.args.slot) c.args.rank c.args.frame c.args.slot c.args.part.now (node_at c.args.s.now c.args.rank c.args.frame p start others c.args.slot)) c.deref-5.result.now
+      → c.close_all.new.log.items ≡ c.args.self.now.deliveries ++ slot_deliveries c.args.s.now c.args.rank c.args.frame p start c.args.slot
+  delivers made =
+      let b = behind c.args.s.now c.args.rank c.args.frame p start others c.args.slot in
+      let n = node_at c.args.s.now c.args.rank c.args.frame p start others c.args.slot in
+      let said : Part → List ℕ → List Delivery = λ q l. filter_map (delivers_node b c.args.rank c.args.frame c.args.slot q n) l in
+      made ∙ ap (λ (l : List ℕ). c.self.inside.deliveries.items ++ said c.args.part.now l) (ids_are c)
+      ∙ ap (λ (q : Part). c.self.inside.deliveries.items ++ said q (ids c.args.s.now.nodes)) is
+      ∙ ap (λ (l : List Delivery). c.self.inside.deliveries.items ++ l) (nodes_delivered c.args.s.now c.args.rank c.args.frame p start others c.args.slot)
+      ∙ ap (λ (m : Network). m.deliveries ++ slot_deliveries c.args.s.now c.args.rank c.args.frame p start c.args.slot) c.self.view_is
+
+  nodes_now : c.deref_mut-3.result.now ≡ map (node_at c.args.s.now c.args.rank c.args.frame p start others c.args.slot) c.deref-5.result.now
+  nodes_now = stored c ∙ opened ∙ ap (map (node_at c.args.s.now c.args.rank c.args.frame p start others c.args.slot)) (sym (ids_are c))
+
+  none_refuses : AllMay (behind c.args.s.now c.args.rank c.args.frame p start others c.args.slot) c.deref-5.result.now (node_at c.args.s.now c.args.rank c.args.frame p start others c.args.slot)
+  none_refuses = subst (λ (l : List ℕ). AllMay (behind c.args.s.now c.args.rank c.args.frame p start others c.args.slot) l (node_at c.args.s.now c.args.rank c.args.frame p start others c.args.slot))
+      (sym (ids_are c)) (all_may c.args.s.now c.args.rank c.args.frame p start others c.args.slot)
+
+pub returns-clause-nodes : goal.returns-clause-nodes
+returns-clause-nodes c = on_ok_weaker c.close_all.result (λ made p start others are is.
+    ended c ∙ closes c p start others are is
+    (made (behind c.args.s.now c.args.rank c.args.frame p start others c.args.slot) (node_at c.args.s.now c.args.rank c.args.frame p start others c.args.slot)
+    (met c p start others are is c.deref-4.result.now c.as_slice.result.now c.deref-5.result.now c.deref-4.ensures.value c.as_slice.ensures.value (ids_are c))
+    (nodes_now c p start others are is) (none_refuses c p start others are is)))
+    c.close_all.ensures.nodes
+
+pub returns-clause-deliveries : goal.returns-clause-deliveries
+returns-clause-deliveries c = on_ok_weaker c.close_all.result (λ made p start others are is.
+    delivers c p start others are is
+    (made (behind c.args.s.now c.args.rank c.args.frame p start others c.args.slot) (node_at c.args.s.now c.args.rank c.args.frame p start others c.args.slot)
+    (met c p start others are is c.deref-4.result.now c.as_slice.result.now c.deref-5.result.now c.deref-4.ensures.value c.as_slice.ensures.value (ids_are c))
+    (nodes_now c p start others are is) (none_refuses c p start others are is)))
+    c.close_all.ensures.log
+
+pub returns-clause-costs : goal.returns-clause-costs
+returns-clause-costs c = on_ok_weaker c.close_all.result (λ early p start others cost are is costs.
+    (let s = c.args.s.now in
+    let rank = c.args.rank in
+    let f = c.args.frame in
+    let j = c.args.slot in
+    let flood = (slot_at s rank f p start j).flood in
+    let b = behind s rank f p start others j in
+    let n = node_at s rank f p start others j in
+    let some = (sound s c.profile-profile.ensures.said).some_sends in
+    let sending : AreSendersOf (sends_in flood) c.deref-3.result.now c.flooded-end.result.senders.items =
+    subst (λ (l : List ℕ). AreSendersOf (sends_in flood) l c.flooded-end.result.senders.items) (c.trace.ensures.sealed ∙ sym (first_ids_are c))
+    (c.flooded-end.ensures.senders flood (flood_is c p start others are is)) in
+    let of_list : List ℕ → List Cost = λ l. map (slot_charged s.profile rank s.sends b (sends_in flood) n cost) l in
+    charged c
+    ∙ c.charge_all.ensures.costs b n cost (sends_in flood)
+    (met c p start others are is c.deref-2.result.now c.flooded-end.result.stations.each.items c.deref-3.result.now c.deref-2.ensures.value refl (first_ids_are c))
+    sending
+    (stored_first c ∙ opened c p start others are is ∙ ap (map n) (sym (first_ids_are c)))
+    (old_costs c ∙ costs ∙ ap (map cost) (sym (first_ids_are c)))
+    (omega (arith, some, c.sends-limit.ensures))
+    ∙ ap (λ (m : ℕ). map (slot_charged c.profile-profile.result rank m b (sends_in flood) n cost) c.deref-3.result.now) c.sends-limit.ensures
+    ∙ ap (λ (q : Numbers). map (slot_charged q rank s.sends b (sends_in flood) n cost) c.deref-3.result.now) c.profile-profile.ensures.value
+    ∙ ap of_list (first_ids_are c) ∙ slot_costs s rank f p start others j cost))
+    c.close_all.ensures.early
+
+pub returns-clause-ready : goal.returns-clause-ready
+returns-clause-ready c = on_ok_weaker c.close_all.result (λ early m ready.
+    record {
+      ids_are = ap (λ (n : Network). n.ids) c.self.view_is ∙ c.requires.ready.ids_are;
+      nodes_each = ap length (ended c) ∙ omega (arith, c.close_all.auto.nodes, ap length (stored c), opened_size c, ap (λ (n : Network). length n.nodes) c.self.view_is, c.requires.ready.nodes_each);
+      costs_each = ap length (charged c) ∙ omega (arith, c.charge_all.auto.costs, ap length (old_costs c), c.requires.ready.costs_each);
+      early = subst (λ (l : List BusNode). All (λ (x : BusNode). IsEarlyState c.args.frame x.state) l) (sym (ended c)) early;
+      room = subst (λ (l : List Cost). All (IsBelow (m + 1)) l) (sym (charged c)) (c.charge_all.ensures.room m (subst (λ (l : List Cost). All (IsBelow m) l) (sym (old_costs c)) ready.room));
+    })
+    c.close_all.ensures.early

@@ -1,0 +1,90 @@
+//! What a slot costs a node.
+
+ghost use Rattle.std.specs.Prelude.{◌≡◌, ◌≤◌, ◌<◌, ◌+◌, ℕ, List, Some, None, length};
+ghost use Rattle.std.specs.List.{last_or};
+ghost use Rattle.plain_bus.specs.SlotCosts.{steps_at, with_slot, window_charge, IsBelow};
+
+use crate::station::has_bit;
+use lwb_base::Profile;
+use std::marker::Model;
+
+/// What the radio of a node costs on the bus. Times are ticks of 1/64 µs.
+#[derive(Clone, Copy, Debug, PartialEq, Eq)]
+pub struct Cost {
+    /// How long it sends.
+    pub sent: u64,
+    /// What the windows count that it has in rounds: each until the end of its last sending, if the node sent as often as
+    /// it may, and else until the window closes.
+    pub windows: u64,
+    /// The number of frames in which it scans for a host, behind what the script tells it.
+    pub scanned: u32,
+}
+
+impl Model for Cost {
+    ghost use Rattle.bus_model.specs.Bus.{Cost as CostOf};
+
+    ghost Value = { CostOf };
+
+    ghost view = { λ c. record { sent = c.sent; windows = c.windows; scanned = c.scanned } };
+
+    ghost inverse = { λ c. record { sent = c.sent; windows = c.windows; scanned = c.scanned } };
+}
+
+/// In how many steps of a flood a node sent, and the last of them.
+#[derive(Clone, Copy)]
+pub struct Steps {
+    pub count: u8,
+    pub last: Option<u8>,
+}
+
+impl Cost {
+    /// With that of a slot, in which the node sent so many bytes in each of these steps, and had a window or none. A node
+    /// sends at most `limit` times, 1 to 4.
+    pub fn add_slot(&mut self, profile: &Profile, limit: u8, is_open: bool, bytes: u8, steps: Steps)
+        requires room { IsBelow 1048576 self.old }
+        requires count { steps.count ≤ 12 }
+        requires last { (k : ℕ) → steps.last ≡ Some k → k ≤ 11 }
+        ensures value { (ks : List ℕ) → steps.count ≡ length ks → steps.last ≡ last_or None ks → 1 ≤ limit → self.new ≡ with_slot profile.now limit is_open bytes ks self.old }
+        ensures room { (m : ℕ) → IsBelow m self.old → IsBelow (m + 1) self.new }
+    {
+        self.sent += u64::from(steps.count) * profile.airtime(bytes);
+        self.windows += window_time(profile, limit, is_open, bytes, steps);
+    }
+}
+
+// What the window of a node in a slot counts, if it has one.
+fn window_time(profile: &Profile, limit: u8, is_open: bool, bytes: u8, steps: Steps) -> u64
+    requires last { (k : ℕ) → steps.last ≡ Some k → k ≤ 11 }
+    ensures value { (ks : List ℕ) → steps.count ≡ length ks → steps.last ≡ last_or None ks → 1 ≤ limit → result ≡ window_charge profile.now limit is_open bytes ks }
+    ensures few { result ≤ 8388608 }
+{
+    if !is_open {
+        return 0;
+    }
+    match steps.last {
+        Some(last) if steps.count == limit => {
+            profile.listen() + (u64::from(last) + 1) * profile.step(bytes) - profile.turn()
+        }
+        _ => profile.close(),
+    }
+}
+
+/// The steps in which the node at this place sent, by the masks of who sent in each.
+pub fn steps_of(senders: &[u64], place: u8) -> Steps
+    requires steps { length senders.now ≤ 12 }
+    requires place { place < 64 }
+    ensures count { result.count ≡ length (steps_at senders.now place (length senders.now)) }
+    ensures last { result.last ≡ last_or None (steps_at senders.now place (length senders.now)) }
+    ensures few { result.count ≤ 12 }
+    ensures early { (k : ℕ) → result.last ≡ Some k → k ≤ 11 }
+{
+    let mut count = 0;
+    let mut last = None;
+    for (step, mask) in senders.iter().enumerate() {
+        if has_bit(*mask, place) {
+            count += 1;
+            last = Some(step as u8);
+        }
+    }
+    Steps { count, last }
+}

@@ -1,0 +1,163 @@
+//! All nodes of a bus, and a slot of a round at them.
+
+ghost use Rattle.std.specs.Prelude.{◌≡◌, ◌≤◌, ◌<◌, ◌+◌, ◌++◌, ◌==◌, ℕ, OnOk, IfOk, IfSome, map, length, [], if◌then◌else◌};
+ghost use Rattle.lwb_base.specs.Messages.{Plan};
+ghost use Rattle.bus_rules.specs.Cores.{own_rank};
+ghost use Rattle.bus_rules.specs.States.{State};
+ghost use Rattle.bus_rules.specs.Slots.{part_of};
+ghost use Rattle.bus_model.specs.Bus.{Cost as CostOf};
+ghost use Rattle.bus_model.specs.FloodOfText.{ids};
+ghost use Rattle.bus_model.specs.Rounds.{slot_deliveries};
+ghost use Rattle.plain_bus.specs.BusNodes.{nodes_before, ranks_in};
+ghost use Rattle.plain_bus.specs.Networks.{IsReady, no_cost, off_at, with_slot_at};
+
+use crate::charging::charge_all;
+use crate::closing::close_all;
+use crate::cost::Cost;
+use crate::node::BusNode;
+use crate::slot_flood::open_slot;
+use crate::stepping::flooded;
+use crate::window::Window;
+use bus_rules::{Delivery, Part};
+use lwb_base::{Memory, NodeId, Rank};
+use scenario_text::Scenario;
+use std::alloc::Global;
+use std::marker::Model;
+
+/// All nodes of a bus, by ascending ids, with what each cost and what was delivered so far.
+#[derive(Drop)]
+pub struct Network {
+    pub ids: Vec<NodeId>,
+    pub nodes: Vec<BusNode>,
+    pub costs: Vec<Cost>,
+    pub deliveries: Vec<Delivery>,
+    // Those of the last slot.
+    pub(crate) windows: Vec<Window>,
+}
+
+impl Model for Network {
+    ghost use Rattle.plain_bus.specs.Networks.{Network as NetworkOf};
+
+    ghost Value = { NetworkOf };
+
+    ghost view = { λ n. record { ids = n.ids.items; nodes = n.nodes.items; costs = n.costs.items; deliveries = n.deliveries.items } };
+}
+
+impl Network {
+    /// All nodes of the scenario, off and without a boot: they cost and delivered nothing so far. Err is want of memory.
+    pub fn new(alloc: Global, s: &Scenario) -> Result<Network, Memory>
+        ensures { IfOk result (λ n. n ≡ record {
+          ids = ids s.now.nodes;
+          nodes = map (off_at s.now) (ids s.now.nodes);
+          costs = map (λ v. no_cost) (ids s.now.nodes);
+          deliveries = [];
+        }) }
+    {
+        let lines = s.nodes();
+        let mut ids = Vec::new(alloc);
+        let mut nodes = Vec::new(alloc);
+        let mut costs = Vec::new(alloc);
+        for line in lines {
+            let node = new_node(alloc, s, line.node)?;
+            ids.push(line.node)?;
+            nodes.push(node)?;
+            costs.push(Cost {
+                sent: 0,
+                windows: 0,
+                scanned: 0,
+            })?;
+        }
+        Ok(Network {
+            ids,
+            nodes,
+            costs,
+            deliveries: Vec::new(alloc),
+            windows: Vec::new(alloc),
+        })
+    }
+
+    /// A slot of this part and number in the round of this rank and frame, which is at most 16,777,215: it opens, its flood
+    /// runs, and it closes. Err is want of memory.
+    pub fn run_slot(
+        &mut self,
+        s: &Scenario,
+        rank: Rank,
+        frame: u32,
+        slot: u8,
+        part: &Part,
+    ) -> Result<(), Memory>
+        requires frame { frame ≤ 16777215 }
+        requires ready { IsReady s.now frame 1048576 self.old }
+        ensures ready { OnOk result ((m : ℕ) → IsReady s.now frame m self.old → IsReady s.now frame (m + 1) self.new) }
+        ensures nodes { OnOk result ((p : Plan) (start others : ℕ → State) → self.old.nodes ≡ nodes_before s.now rank frame p start others slot → part.now ≡ part_of p slot
+            → self.new.nodes ≡ nodes_before s.now rank frame p start others (slot + 1)) }
+        ensures deliveries { OnOk result ((p : Plan) (start others : ℕ → State) → self.old.nodes ≡ nodes_before s.now rank frame p start others slot → part.now ≡ part_of p slot
+            → self.new.deliveries ≡ self.old.deliveries ++ slot_deliveries s.now rank frame p start slot) }
+        ensures costs { OnOk result ((p : Plan) (start others : ℕ → State) (cost : ℕ → CostOf) → self.old.nodes ≡ nodes_before s.now rank frame p start others slot → part.now ≡ part_of p slot
+            → self.old.costs ≡ map cost (ids s.now.nodes)
+            → self.new.costs ≡ map (λ v. if ranks_in start v == rank then with_slot_at s.now rank frame p start slot v (cost v) else cost v) (ids s.now.nodes)) }
+    {
+        let profile = s.profile();
+        let limit = s.sends();
+        let flood = open_slot(
+            &mut self.nodes,
+            &mut self.windows,
+            rank,
+            frame,
+            slot,
+            part,
+            limit,
+        )?;
+        let end = flooded(s.trace(), &flood, s.nodes());
+        charge_all(
+            &mut self.costs,
+            &self.nodes,
+            &self.windows,
+            &end,
+            &self.ids,
+            rank,
+            &profile,
+            limit,
+        );
+        close_all(
+            &mut self.nodes,
+            &self.windows,
+            end.stations.each.as_slice(),
+            &self.ids,
+            rank,
+            frame,
+            slot,
+            part,
+            &mut self.deliveries,
+        )
+    }
+}
+
+// The node of this id, off and without a boot.
+fn new_node(alloc: Global, s: &Scenario, id: NodeId) -> Result<BusNode, Memory>
+    ensures { IfOk result (λ n. n ≡ off_at s.now id) }
+{
+    let profile = s.profile();
+    let hosts = s.hosts();
+    let own = rank_of(hosts, id);
+    BusNode::new(alloc, &profile, id, own, hosts.len() as u8, s.sends())
+}
+
+// The rank of a node among at most 4 hosts.
+fn rank_of(hosts: &[NodeId], id: NodeId) -> Option<Rank>
+    requires { length hosts.now ≤ 4 }
+    ensures value { result ≡ own_rank id hosts.now }
+    ensures within { IfSome result (λ r. r < length hosts.now) }
+{
+    match place_among(hosts, id) {
+        Some(place) => Rank::new(place as u8),
+        None => None,
+    }
+}
+
+fn place_among(hosts: &[NodeId], id: NodeId) -> Option<usize>
+    ensures value { result ≡ own_rank id hosts.now }
+    ensures within { IfSome result (λ place. place < length hosts.now) }
+{
+    hosts.iter().position(|host| *host == id)
+}

@@ -1,0 +1,153 @@
+-- What rivals bring by masks: of none, of one, and of two lists of them.
+use Rattle.std.proofs.Common.{◌≡◌, ◌≢◌, ℕ, ◌<◌, ◌≤◌, List, [], ◌∷◌, ◌++◌, length, get_or, Bool, true, false, not, ◌&&◌, ◌||◌, ◌==◌, if◌then◌else◌, Option, Some, None, option_to_list, filter_map, bit_and, bit_or, min, nat_lt, take, eq-eqb, Contains, refl, sym, ◌∙◌, ap, subst, arith}
+use Rattle.std.proofs.Math.Nat.{min-le_left}
+use Rattle.std.proofs.lemmas.Bool.{and_parts, eqb-true, false≢true, false_from_ne_true}
+use Rattle.std.proofs.lemmas.List.{get_or-take, length-take}
+use Rattle.std.proofs.lemmas.List.Folds.{list_any-append}
+use Rattle.std.proofs.lemmas.Nat.Bits.{bit_at_and}
+use Rattle.std.specs.Int.{bit_at}
+use Rattle.std.specs.List.{list_any, cons_option, flat_map}
+use Rattle.lwb_base.specs.Profile.{Numbers}
+use Rattle.link_trace.specs.Masks.{IsMask}
+use Rattle.link_trace.specs.Passes.{Lines}
+use Rattle.link_trace.proofs.MaskBits.{empty_mask, joined, same_tests}
+use Rattle.radio_model.specs.Stations.{on_air, overlaps}
+use Rattle.radio_model.specs.Meetings.{rival_to, rivals_in, rivals_to, passes_at, reaches, comes_from, spoils, differs, repeats, IsPlaced, IsBrought, nothing, both_brought, brought_by, IsCrowd, no_crowd, both_crowds}
+use Rattle.radio_model.specs.declared.sending.Sending.{Sending}
+use Rattle.radio_model.specs.declared.station.Station.{Station}
+use Rattle.radio_model.specs.declared.brought.Brought.{Brought}
+use Rattle.radio_model.specs.declared.crowd.Crowd.{Crowd}
+use Rattle.radio_model.specs.declared.rivals.Rival.{Rival}
+use Rattle.radio_model.proofs.Members.{any_of, some_of, in_flat, from_flat, from_filter}
+
+alone : (a : Bool) → a ≡ (a || false)
+alone true = refl
+alone false = refl
+
+with_true : (a : Bool) → a ≡ ((a && true) || false)
+with_true true = refl
+with_true false = refl
+
+with_false : (a : Bool) → false ≡ ((a && false) || false)
+with_false true = refl
+with_false false = refl
+
+three : (a b c : Bool) → ((a && (b && c)) || false) ≡ (((a && b) && c) || false)
+three true b c = refl
+three false b c = refl
+
+of_sender : (b : Bool) (s r : Rival) → (if b then Some s else None) ≡ Some r → r.node ≡ s.node
+of_sender true s r is = let same : s ≡ r = cc in ap (λ (w : Rival). w.node) (sym same)
+of_sender false s r is = cc
+
+module _ (lines : Lines) (nodes : List ℕ) where
+  pub nothing_comes : IsBrought lines nodes [] nothing
+  nothing_comes = record { mixed = empty_mask nodes; spoiled = empty_mask nodes; same = empty_mask nodes }
+
+  pub nobody_comes : IsCrowd lines nodes [] no_crowd
+  nobody_comes = record { mixed = empty_mask nodes; spoiled = empty_mask nodes }
+
+  -- rivals of which none has another packet or comes out of time
+  pub harmless_come : (rs : List Rival) → ((v : ℕ) → list_any (differs lines v) rs ≡ false) → ((v : ℕ) → list_any (spoils lines v) rs ≡ false) → IsCrowd lines nodes rs no_crowd
+  harmless_come rs same in_time = record {
+    mixed = same_tests nodes (λ v. false) (λ v. list_any (differs lines v) rs) 0 (λ v. sym (same v)) (empty_mask nodes);
+    spoiled = same_tests nodes (λ v. false) (λ v. list_any (spoils lines v) rs) 0 (λ v. sym (in_time v)) (empty_mask nodes);
+  }
+
+  either_list : (test : ℕ → Rival → Bool) (rs ss : List Rival) (a b : ℕ) → IsMask (λ v. list_any (test v) rs) nodes a → IsMask (λ v. list_any (test v) ss) nodes b
+      → IsMask (λ v. list_any (test v) (rs ++ ss)) nodes (bit_or a b)
+  either_list test rs ss a b a_is b_is =
+      same_tests nodes (λ v. list_any (test v) rs || list_any (test v) ss) (λ v. list_any (test v) (rs ++ ss)) (bit_or a b)
+      (λ v. sym (list_any-append (test v) rs ss)) (joined nodes (λ v. list_any (test v) rs) (λ v. list_any (test v) ss) a b a_is b_is)
+
+  pub both_come : (rs ss : List Rival) (a b : Brought) → IsBrought lines nodes rs a → IsBrought lines nodes ss b → IsBrought lines nodes (rs ++ ss) (both_brought a b)
+  both_come rs ss a b a_is b_is = record {
+    mixed = either_list (differs lines) rs ss a.mixed b.mixed a_is.mixed b_is.mixed;
+    spoiled = either_list (spoils lines) rs ss a.spoiled b.spoiled a_is.spoiled b_is.spoiled;
+    same = either_list (repeats lines) rs ss a.same b.same a_is.same b_is.same;
+  }
+
+  pub both_crowd : (rs ss : List Rival) (a b : Crowd) → IsCrowd lines nodes rs a → IsCrowd lines nodes ss b → IsCrowd lines nodes (rs ++ ss) (both_crowds a b)
+  both_crowd rs ss a b a_is b_is = record {
+    mixed = either_list (differs lines) rs ss a.mixed b.mixed a_is.mixed b_is.mixed;
+    spoiled = either_list (spoils lines) rs ss a.spoiled b.spoiled a_is.spoiled b_is.spoiled;
+  }
+
+  where_so : (test : ℕ → Bool) (b : Bool) (reach : ℕ) → IsMask test nodes reach → IsMask (λ v. (test v && b) || false) nodes (if b then reach else 0)
+  where_so test true reach is = same_tests nodes test (λ v. (test v && true) || false) reach (λ v. with_true (test v)) is
+  where_so test false reach is = same_tests nodes (λ v. false) (λ v. (test v && false) || false) 0 (λ v. with_false (test v)) (empty_mask nodes)
+
+  pub one_comes : (r : Rival) (reach : ℕ) → IsMask (λ v. reaches lines v r) nodes reach → IsBrought lines nodes (r ∷ []) (brought_by r reach)
+  one_comes r reach is = record {
+    mixed = where_so (λ v. reaches lines v r) (not r.same) reach is;
+    spoiled = same_tests nodes (λ v. (reaches lines v r && (r.same && not r.in_time)) || false) (λ v. ((reaches lines v r && r.same) && not r.in_time) || false)
+        (if r.same && not r.in_time then reach else 0)
+        (λ v. three (reaches lines v r) r.same (not r.in_time)) (where_so (λ v. reaches lines v r) (r.same && not r.in_time) reach is);
+    same = where_so (λ v. reaches lines v r) r.same reach is;
+  }
+
+  -- a rival of this station, by the reach of its node
+  pub rival_comes : (p : Numbers) (x y : Sending) (st : Station) (r : Rival) (reach : ℕ) → IsPlaced nodes st.place st.node → Some r ≡ rival_to p x st y
+      → IsMask (λ v. passes_at lines r.key (get_or nodes st.place 0) v) nodes reach → IsBrought lines nodes (option_to_list (rival_to p x st y)) (brought_by r reach)
+  rival_comes p x y st r reach placed is reach_is =
+      let node : r.node ≡ st.node = of_sender ((y.rank == x.rank) && overlaps x y) _ r (sym is) in
+      subst (λ (o : Option Rival). IsBrought lines nodes (option_to_list o) (brought_by r reach)) is
+      (one_comes r reach (subst (λ (n : ℕ). IsMask (λ v. passes_at lines r.key n v) nodes reach) (placed.there ∙ sym node) reach_is))
+
+-- a bit that both masks have, where one is all that they share
+bit_of_both : (a b i : ℕ) → bit_and a b ≡ b → bit_at b i ≡ 1 → 1 ≤ bit_at a i
+bit_of_both a b i both is =
+    let least : min (bit_at a i) (bit_at b i) ≡ bit_at b i = sym (bit_at_and a b i) ∙ ap (λ (n : ℕ). bit_at n i) both in
+    omega (arith, least, is, min-le_left (bit_at a i) (bit_at b i))
+
+some_bit : (b c : Bool) → 1 ≤ (if b && c then 1 else 0) → c ≡ true
+some_bit true true is = refl
+some_bit true false is = absurd (omega (arith, is))
+some_bit false c is = absurd (omega (arith, is))
+
+in_take : {X : Type 0} (n : ℕ) (xs : List X) (x : X) → Contains (take n xs) x → Contains xs x
+in_take n xs x (k, below, at) =
+    let long = length-take n xs in
+    (k, omega (arith, long), sym (get_or-take n xs k x (omega (arith, long))) ∙ at)
+
+any_in_all : (test : Rival → Bool) (f : Station → List Rival) (n : ℕ) (sts : List Station) → list_any test (flat_map f (take n sts)) ≡ true → list_any test (flat_map f sts) ≡ true
+any_in_all test f n sts is =
+    let r = some_of test (flat_map f (take n sts)) is in
+    let st = from_flat f (take n sts) r.0 r.1 in
+    any_of test (flat_map f sts) r.0 (in_flat f sts st.0 r.0 (in_take n sts st.0 st.1) st.2) r.2
+
+-- the first stations spoil all that x reaches
+pub all_spoiled : (lines : Lines) (nodes : List ℕ) (p : Numbers) (x : Sending) (sts : List Station) (n reached : ℕ) (c : Crowd) → IsCrowd lines nodes (rivals_to p x (take n sts)) c
+    → bit_and c.spoiled reached ≡ reached → (i : ℕ) → i < length nodes → bit_at reached i ≡ 1 → list_any (spoils lines (get_or nodes i 0)) (rivals_to p x sts) ≡ true
+all_spoiled lines nodes p x sts n reached c is both i below bit =
+    any_in_all (spoils lines (get_or nodes i 0)) (rivals_in p x) n sts
+    (some_bit (nat_lt i (length nodes)) (list_any (spoils lines (get_or nodes i 0)) (rivals_to p x (take n sts)))
+    (subst (λ (b : ℕ). 1 ≤ b) (is.spoiled i) (bit_of_both c.spoiled reached i both bit)))
+
+same_any : {X Y : Type 0} (f : X → Option Y) (t u : Y → Bool) (xs : List X) → ((x : X) (y : Y) → f x ≡ Some y → t y ≡ u y) → list_any t (filter_map f xs) ≡ list_any u (filter_map f xs)
+same_any f t u [] same = refl
+same_any {X} {Y} f t u (x ∷ xs) same = step (f x) refl (same_any f t u xs same)
+  where
+    step : (o : Option Y) → f x ≡ o → list_any t (filter_map f xs) ≡ list_any u (filter_map f xs) → list_any t (cons_option o (filter_map f xs)) ≡ list_any u (cons_option o (filter_map f xs))
+    step None is rest = rest
+    step (Some y) is rest = ap (λ (b : Bool). b || list_any t (filter_map f xs)) (same x y is) ∙ ap (λ (b : Bool). u y || b) rest
+
+with_so : (a b : Bool) → b ≡ true → a ≡ (a && b)
+with_so true true is = refl
+with_so false true is = refl
+with_so a false is = absurd (false≢true is)
+
+-- what comes from a node comes of the sendings of its station
+module _ (lines : Lines) (p : Numbers) (x : Sending) (st : Station) (v named : ℕ) where
+  pub named_sends : st.node ≡ named → list_any (repeats lines v) (rivals_in p x st) ≡ list_any (comes_from lines v named) (rivals_in p x st)
+  named_sends is =
+      same_any (rival_to p x st) (repeats lines v) (comes_from lines v named) (on_air st) (λ y r so.
+      with_so (repeats lines v r) (r.node == named) (eq-eqb r.node named (of_sender ((y.rank == x.rank) && overlaps x y) _ r so ∙ is)))
+
+  pub other_sends : st.node ≢ named → list_any (comes_from lines v named) (rivals_in p x st) ≡ false
+  other_sends other =
+      false_from_ne_true (list_any (comes_from lines v named) (rivals_in p x st)) (λ some.
+      let r = some_of (comes_from lines v named) (rivals_in p x st) some in
+      let y = from_filter (rival_to p x st) (on_air st) r.0 r.1 in
+      let parts = and_parts (repeats lines v r.0) (r.0.node == named) r.2 in
+      other (sym (of_sender ((y.0.rank == x.rank) && overlaps x y.0) _ r.0 y.2) ∙ eqb-true r.0.node named parts.1))

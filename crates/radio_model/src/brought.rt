@@ -1,0 +1,100 @@
+ghost use Rattle.std.specs.Prelude.{◌≡◌, ◌≤◌, ◌^◌, if◌then◌else◌, option_to_list};
+ghost use Rattle.radio_model.specs.Ages.{ByEnd};
+ghost use Rattle.radio_model.specs.Meetings.{rival_to as rival_by, rivals_in, IsPlaced, IsBrought, nothing, both_brought, brought_by};
+
+use crate::rivals::{Rival, ended_at, first_after, reach_of, rival_to};
+use crate::sending::Sending;
+use crate::station::Station;
+use link_trace::Links;
+use lwb_base::Profile;
+
+/// What rivals bring to nodes: to which they bring other packets, to which the same packet out of time, and to which
+/// the same packet at all, each node by the bit of its place.
+#[derive(Clone, Copy)]
+pub struct Brought {
+    pub mixed: u64,
+    pub spoiled: u64,
+    pub same: u64,
+}
+
+impl Brought {
+    fn none() -> Brought
+        ensures { result ≡ nothing }
+    {
+        Brought {
+            mixed: 0,
+            spoiled: 0,
+            same: 0,
+        }
+    }
+
+    // What a rival with this reach brings.
+    fn by(rival: &Rival, reach: u64) -> Brought
+        ensures { result ≡ brought_by rival.now reach }
+    {
+        Brought {
+            mixed: where_so(!rival.same, reach),
+            spoiled: where_so(rival.same && !rival.in_time, reach),
+            same: where_so(rival.same, reach),
+        }
+    }
+
+    fn with(self, other: Brought) -> Brought
+        ensures { result ≡ both_brought self other }
+    {
+        Brought {
+            mixed: self.mixed | other.mixed,
+            spoiled: self.spoiled | other.spoiled,
+            same: self.same | other.same,
+        }
+    }
+}
+
+fn where_so(so: bool, mask: u64) -> u64
+    ensures { result ≡ if so then mask else 0 }
+{
+    if so { mask } else { 0 }
+}
+
+// What y of this station brings while x comes.
+fn brought_with<M: Links>(
+    links: &M,
+    profile: &Profile,
+    station: &Station,
+    x: &Sending,
+    y: &Sending,
+) -> Brought
+    requires start { x.now.start ≤ 2 ^ 46 }
+    requires end { x.now.end ≤ 2 ^ 46 }
+    requires at { IsPlaced (M.nodes links.now) station.now.place station.now.node }
+    ensures { IsBrought (M.lines links.now) (M.nodes links.now) (option_to_list (rival_by profile.now x.now station.now y.now)) result }
+{
+    match rival_to(profile, station, x, y) {
+        Some(rival) => Brought::by(&rival, reach_of(links, rival.key, station.place)),
+        None => Brought::none(),
+    }
+}
+
+/// What this station brings while x comes.
+pub fn brought_from<M: Links>(
+    links: &M,
+    profile: &Profile,
+    station: &Station,
+    x: &Sending,
+) -> Brought
+    requires start { x.now.start ≤ 2 ^ 46 }
+    requires end { x.now.end ≤ 2 ^ 46 }
+    requires by_end { ByEnd station.now.ended.items }
+    requires at { IsPlaced (M.nodes links.now) station.now.place station.now.node }
+    ensures { IsBrought (M.lines links.now) (M.nodes links.now) (rivals_in profile.now x.now station.now) result }
+{
+    let mut brought = Brought::none();
+    for i in first_after(station, x.start)..station.ended.len() {
+        let y = ended_at(station, i);
+        brought = brought.with(brought_with(links, profile, station, x, y));
+    }
+    match &station.sending {
+        Some(y) => brought.with(brought_with(links, profile, station, x, y)),
+        None => brought,
+    }
+}

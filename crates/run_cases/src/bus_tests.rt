@@ -1,0 +1,86 @@
+//! What is delivered and dropped over any clocks is what the bus delivers and drops.
+
+use crate::runs::{Speeds, bus_lines, differing, run_lines, scenario, scenario_between};
+use crate::texts::{BACKUP_HOST, ONE_PACKET, WORKED};
+use lwb_base::Memory;
+use scenario_maker::made;
+use scenario_text::Scenario;
+use std::alloc::{AllocError, Global};
+use std::fmt::Write;
+use std::test::Fail;
+
+#[test]
+fn worked_scenarios(rt: HostRuntime) -> Result<(), Fail> {
+    let alloc = rt.alloc();
+    for worked in WORKED {
+        let name = worked.name;
+        let s = scenario(alloc, worked.text)?;
+        assert_eq!(rt; bus_lines(alloc, &s)?.as_str(), worked.lines, "of {name}");
+        for speeds in Speeds::ALL {
+            let lines = run_lines(alloc, &s, speeds)?;
+            assert_eq!(rt; lines.as_str(), worked.lines, "of {name}, {speeds:?}");
+        }
+    }
+    Ok(())
+}
+
+// The sender of the one packet is cut, in each slot of its round and each step.
+#[test]
+fn cuts_of_a_sender(rt: HostRuntime) -> Result<(), Fail> {
+    let alloc = rt.alloc();
+    for slot in 0..7u8 {
+        for step in 0..12u8 {
+            let lines = format!(in alloc; "cut 9 {slot} {step} 2\n")?;
+            let s = scenario_between(alloc, "frames 12\n", ONE_PACKET, lines.as_str())?;
+            assert_eq!(rt; differing(alloc, &s)?, None, "with {lines}");
+        }
+    }
+    Ok(())
+}
+
+#[test]
+fn restarts_of_the_host(rt: HostRuntime) -> Result<(), Fail> {
+    let alloc = rt.alloc();
+    for frame in 1..13u8 {
+        let lines = format!(in alloc; "off {frame} 1\non {frame} 1\n")?;
+        let s = scenario_between(alloc, "frames 20\n", ONE_PACKET, lines.as_str())?;
+        assert_eq!(rt; differing(alloc, &s)?, None, "with {lines}");
+    }
+    Ok(())
+}
+
+// One direction of a pair is lost in the first step of all slots of the backup host's first frame.
+fn losses(alloc: Global, from: u8, to: u8) -> Result<String, AllocError> {
+    let mut text = String::new(alloc);
+    for slot in 0..43u8 {
+        write!(text, "lose 27 {slot} 0 {from} {to}\n")?;
+    }
+    Ok(text)
+}
+
+#[test]
+fn lost_directions(rt: HostRuntime) -> Result<(), Fail> {
+    let alloc = rt.alloc();
+    for (from, to) in [(1, 2), (2, 1), (1, 3), (3, 1), (2, 3), (3, 2)] {
+        let lines = losses(alloc, from, to)?;
+        let s = scenario_between(alloc, "", BACKUP_HOST, lines.as_str())?;
+        assert_eq!(rt; differing(alloc, &s)?, None, "from {from} to {to}");
+    }
+    Ok(())
+}
+
+// From 40 frames on the first host goes off in the middle.
+fn small(alloc: Global, seed: u64) -> Result<Scenario, Memory> {
+    let nodes = 2 + (seed % 4) as u8;
+    made(alloc, seed, nodes, 42)
+}
+
+#[test]
+fn made_scenarios(rt: HostRuntime) -> Result<(), Fail> {
+    let alloc = rt.alloc();
+    for seed in 0..12u64 {
+        let s = small(alloc, seed)?;
+        assert_eq!(rt; differing(alloc, &s)?, None, "of seed {seed}");
+    }
+    Ok(())
+}

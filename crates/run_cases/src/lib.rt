@@ -1,0 +1,15 @@
+//! Tests of whole runs, in true time and on the bus. They stand above all that runs, so they stand by themselves.
+#![tactic(auto)]
+
+#[cfg(test)]
+mod bus_tests;
+#[cfg(test)]
+mod moves;
+#[cfg(test)]
+mod runs;
+#[cfg(test)]
+mod safe;
+#[cfg(test)]
+mod safe_tests;
+#[cfg(test)]
+mod texts;

@@ -1,0 +1,165 @@
+//! Which sendings are safe, tried plainly on each pair of them.
+
+use air_log::{HeardEntry, SentEntry};
+use lwb_base::Profile;
+use lwb_packets::{decode_payload, decode_request, same_body};
+use scenario_text::{Act, Scenario};
+use schedule_codec::{Schedule, read};
+
+/// What a log has to keep.
+#[derive(Clone, Copy, Debug, PartialEq, Eq)]
+pub enum Clause {
+    /// A sending ends before the next frame starts.
+    WithinOneFrame,
+    /// Two that meet on a channel are of one frame, slot and counter.
+    NoOverlap,
+    /// Two of one channel, frame and slot have equal bytes but for the counter, unless both are requests; with one
+    /// counter they start together.
+    SameButForCounter,
+    /// One sending begins the flood of a slot, unless it is a request.
+    OneInitiator,
+    /// A schedule is begun by the host of its channel.
+    HostSchedules,
+    /// Who begins another flood is the host of its channel, or has heard a schedule that allows it and stayed on.
+    Silence,
+}
+
+impl Clause {
+    pub const ALL: [Clause; 6] = [
+        Clause::WithinOneFrame,
+        Clause::NoOverlap,
+        Clause::SameButForCounter,
+        Clause::OneInitiator,
+        Clause::HostSchedules,
+        Clause::Silence,
+    ];
+
+    /// Whether each sending, and each pair of them, keeps it.
+    pub fn holds(self, s: &Scenario, sent: &[SentEntry], heard: &[HeardEntry]) -> bool {
+        let p = s.profile();
+        for (i, x) in sent.iter().enumerate() {
+            let earlier = &sent[..i];
+            if !self.holds_of_one(s, heard, x)
+                || !earlier.iter().all(|y| self.holds_of_two(&p, x, y))
+            {
+                return false;
+            }
+        }
+        true
+    }
+
+    fn holds_of_one(self, s: &Scenario, heard: &[HeardEntry], x: &SentEntry) -> bool {
+        match self {
+            Clause::WithinOneFrame => ends_in_its_frame(&s.profile(), x),
+            Clause::HostSchedules => host_schedules(s, x),
+            Clause::Silence => may_begin(s, x, heard),
+            Clause::NoOverlap | Clause::SameButForCounter | Clause::OneInitiator => true,
+        }
+    }
+
+    fn holds_of_two(self, p: &Profile, x: &SentEntry, y: &SentEntry) -> bool {
+        match self {
+            Clause::NoOverlap => lie_apart(p, x, y),
+            Clause::SameButForCounter => are_alike(p, x, y),
+            Clause::OneInitiator => begin_apart(p, x, y),
+            Clause::WithinOneFrame | Clause::HostSchedules | Clause::Silence => true,
+        }
+    }
+}
+
+/// The frame in which a tick lies.
+pub fn frame_at(p: &Profile, tick: u64) -> u64 {
+    tick / p.frame()
+}
+
+fn ends_in_its_frame(p: &Profile, x: &SentEntry) -> bool {
+    frame_at(p, x.end) == frame_at(p, x.start)
+}
+
+fn are_of_one_slot(p: &Profile, x: &SentEntry, y: &SentEntry) -> bool {
+    // Most pairs lie far apart, which spares them two divisions.
+    x.rank == y.rank
+        && x.start.abs_diff(y.start) < p.frame()
+        && x.packet.slot() == y.packet.slot()
+        && frame_at(p, x.start) == frame_at(p, y.start)
+}
+
+fn lie_apart(p: &Profile, x: &SentEntry, y: &SentEntry) -> bool {
+    x.rank != y.rank
+        || x.end <= y.start
+        || y.end <= x.start
+        || (are_of_one_slot(p, x, y) && x.packet.counter() == y.packet.counter())
+}
+
+fn is_request(x: &SentEntry) -> bool {
+    decode_request(&x.packet).is_some()
+}
+
+fn are_alike(p: &Profile, x: &SentEntry, y: &SentEntry) -> bool {
+    if !are_of_one_slot(p, x, y) || (is_request(x) && is_request(y)) {
+        return true;
+    }
+    let together = x.start.abs_diff(y.start) <= p.delta();
+    same_body(&x.packet, &y.packet) && (together || x.packet.counter() != y.packet.counter())
+}
+
+fn begins(x: &SentEntry) -> bool {
+    x.packet.counter() == 0 && !is_request(x)
+}
+
+fn begin_apart(p: &Profile, x: &SentEntry, y: &SentEntry) -> bool {
+    !are_of_one_slot(p, x, y) || !begins(x) || !begins(y)
+}
+
+fn is_hosts(s: &Scenario, x: &SentEntry) -> bool {
+    s.hosts().get(x.rank.number() as usize) == Some(&x.node)
+}
+
+fn host_schedules(s: &Scenario, x: &SentEntry) -> bool {
+    x.packet.counter() != 0 || read(&x.packet).is_none() || is_hosts(s, x)
+}
+
+fn may_begin(s: &Scenario, x: &SentEntry, heard: &[HeardEntry]) -> bool {
+    x.packet.counter() != 0
+        || read(&x.packet).is_some()
+        || is_hosts(s, x)
+        || heard.iter().any(|h| gives_word(s, h, x))
+}
+
+// Whether the sender heard here that it may.
+fn gives_word(s: &Scenario, h: &HeardEntry, x: &SentEntry) -> bool {
+    let p = s.profile();
+    if h.node != x.node || h.rank != x.rank {
+        return false;
+    }
+    let Some(schedule) = read(&h.packet) else {
+        return false;
+    };
+    let (told, now) = (frame_at(&p, h.start), frame_at(&p, x.start));
+    schedule.host == x.rank
+        && told <= now
+        && now - told == u64::from(schedule.gap)
+        && stays_on(s, x, told, now)
+        && allows(&schedule, x)
+}
+
+fn stays_on(s: &Scenario, x: &SentEntry, told: u64, now: u64) -> bool {
+    !s.script().iter().any(|line| {
+        let frame = u64::from(line.frame);
+        line.node == x.node && told < frame && frame <= now && matches!(&line.act, Act::Off)
+    })
+}
+
+fn allows(schedule: &Schedule, x: &SentEntry) -> bool {
+    let Some(data) = decode_payload(&x.packet) else {
+        return !is_request(x) || schedule.gap == 0;
+    };
+    let slot = x.packet.slot() as usize;
+    if slot == 0 {
+        return false;
+    }
+    match schedule.owners.at(slot - 1) {
+        Some(owner) => owner.node() == data.node && owner.stream() == data.stream,
+        None => false,
+    }
+}

@@ -1,0 +1,5 @@
+-- kept for the crates above
+pub mod HeardSlots
+-- for this crate alone
+mod HeardOrigins
+mod SayableWindows

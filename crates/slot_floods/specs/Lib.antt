@@ -1,0 +1,2 @@
+pub mod SaidInWindows
+pub mod FloodedSlots

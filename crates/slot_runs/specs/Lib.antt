@@ -1,0 +1,3 @@
+pub mod SlotRun
+pub mod RunLaws
+pub mod ScannerLaws
