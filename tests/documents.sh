@@ -6,7 +6,7 @@
 # - a block `text NAME`, NAME having a dot, is put into the file NAME for the commands below it.
 # - a block `sh` is not run, since it asks for a network, another machine or much time; only its grammar is tried.
 # Each page has a folder of its own, with the program as ./foldcairn and with examples, tools and bench beside it. Where
-# python3 is there, the pictures are drawn once more, and compared too.
+# python3 is there, the pictures are drawn and the public calls are listed once more, and compared too.
 # Usage: tests/documents.sh PROGRAM [PAGE ..]. The last line is 'N passed, M failed', and the status is 0 where M is 0.
 set -u
 top=$(cd "$(dirname "$0")/.." && pwd) || exit 1
@@ -183,10 +183,29 @@ pictures() {
     done
 }
 
+# The list of public calls is to be what the sources have, and no call may leave its answers or its changes unsaid.
+calls() {
+    if ! command -v python3 > "$folder/written"; then
+        return
+    fi
+    if python3 "$top/tools/calls.py" | cmp -s - "$top/docs/internals/CALLS.md"; then
+        counts_pass
+    else
+        counts_failure "docs/internals/CALLS.md is not what tools/calls.py writes"
+    fi
+    if python3 "$top/tools/calls.py" --open > "$folder/written" 2> "$folder/counted" && ! grep -q . "$folder/written"; then
+        counts_pass
+    else
+        counts_failure "a public call leaves something unsaid"
+        cat "$folder/written"
+    fi
+}
+
 cd "$top" || exit 1
 if [ $# -eq 0 ]; then
     set -- README.md docs/*.md docs/internals/*.md
     pictures
+    calls
 fi
 for one; do
     read_page "$one"
