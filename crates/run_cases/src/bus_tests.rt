@@ -1,10 +1,8 @@
 //! What is delivered and dropped over any clocks is what the bus delivers and drops.
 
+use crate::made::small;
 use crate::runs::{Speeds, bus_lines, differing, run_lines, scenario, scenario_between};
 use crate::texts::{BACKUP_HOST, ONE_PACKET, WORKED};
-use lwb_base::Memory;
-use scenario_maker::made;
-use scenario_text::Scenario;
 use std::alloc::{AllocError, Global};
 use std::fmt::Write;
 use std::test::Fail;
@@ -69,16 +67,10 @@ fn lost_directions(rt: HostRuntime) -> Result<(), Fail> {
     Ok(())
 }
 
-// From 40 frames on the first host goes off in the middle.
-fn small(alloc: Global, seed: u64) -> Result<Scenario, Memory> {
-    let nodes = 2 + (seed % 4) as u8;
-    made(alloc, seed, nodes, 42)
-}
-
 #[test]
 fn made_scenarios(rt: HostRuntime) -> Result<(), Fail> {
     let alloc = rt.alloc();
-    for seed in 0..12u64 {
+    for seed in 0..40u64 {
         let s = small(alloc, seed)?;
         assert_eq!(rt; differing(alloc, &s)?, None, "of seed {seed}");
     }

@@ -4,6 +4,10 @@
 #[cfg(test)]
 mod bus_tests;
 #[cfg(test)]
+mod cost_tests;
+#[cfg(test)]
+mod made;
+#[cfg(test)]
 mod moves;
 #[cfg(test)]
 mod runs;
