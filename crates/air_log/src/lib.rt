@@ -24,6 +24,3 @@ pub use printing::{text, write_text};
 pub use trail::Trail;
 pub use trails::trail_of;
 pub use window_sum::WindowSum;
-
-#[cfg(test)]
-mod tests;

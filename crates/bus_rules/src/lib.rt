@@ -14,6 +14,3 @@ pub use part::Part;
 pub use rounds::{contention_slots, last_slot};
 pub use slots_owed::owed;
 pub use tune::{Tune, next_tune};
-
-#[cfg(test)]
-mod tests;

@@ -19,6 +19,3 @@ pub use job::Job;
 pub use parse::parse_deadlines;
 pub use stream::DeadlineStream;
 pub use text::DeadlineText;
-
-#[cfg(test)]
-mod tests;

@@ -12,6 +12,3 @@ mod winners;
 pub use calendar::Calendar;
 pub use class::Class;
 pub use orders::Orders;
-
-#[cfg(test)]
-mod tests;

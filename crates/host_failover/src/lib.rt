@@ -4,6 +4,3 @@
 mod tuner;
 
 pub use tuner::Tuner;
-
-#[cfg(test)]
-mod tests;

@@ -6,6 +6,3 @@ mod plan;
 mod turns;
 
 pub use plan::{Plan, plan_round};
-
-#[cfg(test)]
-mod tests;

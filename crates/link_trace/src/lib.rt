@@ -12,6 +12,3 @@ mod trace;
 pub use lines::{CaptureLine, CutLine, LinkLine, LoseLine};
 pub use links::Links;
 pub use trace::Trace;
-
-#[cfg(test)]
-mod tests;

@@ -36,6 +36,3 @@ pub use read::{INPUT_LIMIT, ReadStop, read_all};
 pub use recording_radio::RecordingRadio;
 pub use standard::{ReaderSource, WriterSink};
 pub use write::{WriteFault, write_all};
-
-#[cfg(test)]
-mod tests;

@@ -8,5 +8,4 @@ pub mod HostPlanned
 pub mod AnswersInOrder
 pub mod Meanings
 pub mod Beginning
-pub mod Accepting
 pub mod KeptTables

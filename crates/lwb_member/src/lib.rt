@@ -14,6 +14,3 @@ mod speaking;
 pub use member::Member;
 pub use message::{Heard, message_in};
 pub use slots::last_slot;
-
-#[cfg(test)]
-mod tests;

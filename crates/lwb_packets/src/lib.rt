@@ -12,6 +12,3 @@ pub use data_packet::{DataPacket, decode_payload, encode_payload};
 pub use kind::{Kind, kind_of};
 pub use laws::two_bytes_are_their_number;
 pub use request::{Request, decode_request, encode_request};
-
-#[cfg(test)]
-mod tests;

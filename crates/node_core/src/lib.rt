@@ -15,6 +15,3 @@ mod window;
 
 pub use call::Call;
 pub use node::{Node, Place};
-
-#[cfg(test)]
-mod tests;

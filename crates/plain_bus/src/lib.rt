@@ -32,6 +32,3 @@ pub use slot_windows::open_all;
 pub use station::{Flood, Station, Stations};
 pub use stepping::{FloodEnd, flooded};
 pub use window::Window;
-
-#[cfg(test)]
-mod tests;

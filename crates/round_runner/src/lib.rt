@@ -6,6 +6,3 @@ mod window;
 
 pub use round::Round;
 pub use window::Window;
-
-#[cfg(test)]
-mod tests;

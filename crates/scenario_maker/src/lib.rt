@@ -10,8 +10,3 @@ mod nodes;
 mod script_lines;
 
 pub use maker::made;
-
-#[cfg(test)]
-mod seven;
-#[cfg(test)]
-mod tests;

@@ -17,6 +17,3 @@ pub use decode::read;
 pub use encode::write;
 pub use owners::Owners;
 pub use schedule::Schedule;
-
-#[cfg(test)]
-mod tests;

@@ -6,6 +6,3 @@ mod streams;
 
 pub use stream::{Put, Waiting};
 pub use streams::Streams;
-
-#[cfg(test)]
-mod tests;

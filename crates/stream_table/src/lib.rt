@@ -6,6 +6,3 @@ mod places;
 mod table;
 
 pub use table::{Answer, Table};
-
-#[cfg(test)]
-mod tests;

@@ -12,6 +12,3 @@ pub use at_tick::At;
 pub use drift_clock::{DriftClock, turn_bounds};
 pub use jump_clock::JumpClock;
 pub use segment_clock::{ClockFault, SegmentClock};
-
-#[cfg(test)]
-mod tests;

@@ -10,6 +10,3 @@ mod reference;
 pub mod round_laws;
 
 pub use reference::{Reference, stopped};
-
-#[cfg(test)]
-mod tests;

@@ -1,0 +1,19 @@
+//! Tests of nodes and of their parts. They stand above what they test, so that each of those crates is proved once, and without them.
+#![tactic(auto)]
+
+#[cfg(test)]
+mod failover_tests;
+#[cfg(test)]
+mod member_tests;
+#[cfg(test)]
+mod node_tests;
+#[cfg(test)]
+mod round_tests;
+#[cfg(test)]
+mod rule_tests;
+#[cfg(test)]
+mod scheduler_tests;
+#[cfg(test)]
+mod stream_tests;
+#[cfg(test)]
+mod table_tests;
