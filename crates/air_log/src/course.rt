@@ -221,39 +221,30 @@ impl Course {
     fn log_delivery(&mut self, delivery: Option<Delivery>) -> Result<(), Memory>
         ensures { OnOk result (self.new ≡ record self.old { deliveries = self.old.deliveries ++ option_to_list delivery }) }
     {
-        match delivery {
-            Some(delivery) => match self.deliveries.push(delivery) {
-                Ok(()) => Ok(()),
-                Err(_) => Err(Memory),
-            },
-            None => Ok(()),
+        if let Some(delivery) = delivery {
+            self.deliveries.push(delivery)?;
         }
+        Ok(())
     }
 
     // A tuning that has ended, if there is one.
     fn log_tuning(&mut self, closed: Option<TunedEntry>) -> Result<(), Memory>
         ensures { OnOk result (self.new ≡ record self.old { tuned = one_more closed self.old.tuned }) }
     {
-        match closed {
-            Some(entry) => match self.tuned.push(entry) {
-                Ok(()) => Ok(()),
-                Err(_) => Err(Memory),
-            },
-            None => Ok(()),
+        if let Some(entry) = closed {
+            self.tuned.push(entry)?;
         }
+        Ok(())
     }
 
     // A sending, if there is one.
     fn log_sending(&mut self, sending: Option<Sending>) -> Result<(), Memory>
         ensures { OnOk result (self.new ≡ record self.old { sent = self.old.sent ++ option_to_list sending }) }
     {
-        match sending {
-            Some(x) => match self.sent.push(entry_of(x)) {
-                Ok(()) => Ok(()),
-                Err(_) => Err(Memory),
-            },
-            None => Ok(()),
+        if let Some(x) = sending {
+            self.sent.push(entry_of(x))?;
         }
+        Ok(())
     }
 }
 

@@ -69,10 +69,8 @@ impl Course {
         ensures few { IfOk result (λ n. n ≤ 1) }
     {
         let count = count_of(self.device.current_tune());
-        match tunes.push(self.device.current_tune()) {
-            Ok(()) => Ok(count),
-            Err(_) => Err(Memory),
-        }
+        tunes.push(self.device.current_tune())?;
+        Ok(count)
     }
 
     // What it tells with these tunes, once it has come to its end.
@@ -276,13 +274,10 @@ fn hearings_by(alloc: Global, entries: &[Entry], node: NodeId) -> Result<Vec<Hea
 fn push_some(heard: &mut Vec<HeardEntry>, hearing: Option<HeardEntry>) -> Result<(), Memory>
     ensures { OnOk result (heard.new.items ≡ heard.old.items ++ option_to_list hearing) }
 {
-    match hearing {
-        Some(hearing) => match heard.push(hearing) {
-            Ok(()) => Ok(()),
-            Err(_) => Err(Memory),
-        },
-        None => Ok(()),
+    if let Some(hearing) = hearing {
+        heard.push(hearing)?;
     }
+    Ok(())
 }
 
 // The hearing that an entry says, if it is of this node.

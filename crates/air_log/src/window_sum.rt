@@ -51,12 +51,12 @@ impl WindowSum {
         ensures after { self.new ≡ noted before after by_alarm sent self.old }
         ensures small { self.new.last ≤ 2 ^ 28 }
     {
-        let _ = &self.last;
+        let total = self.earlier.wrapping_add(self.last);
         if !after {
             return;
         }
         if !before {
-            self.open(by_alarm);
+            self.open(total, by_alarm);
         }
         if let Some(packet) = sent {
             self.send(&packet);
@@ -70,11 +70,12 @@ impl WindowSum {
         self.earlier.wrapping_add(self.last)
     }
 
-    fn open(&mut self, by_alarm: bool)
-        ensures after { self.new ≡ opened_sum by_alarm self.old }
+    // A window opens, and all before it count this.
+    fn open(&mut self, total: u64, by_alarm: bool)
+        ensures after { self.new ≡ record (opened_sum by_alarm self.old) { earlier = total } }
         ensures small { self.new.last ≤ 2 ^ 28 }
     {
-        self.earlier = self.total();
+        self.earlier = total;
         self.by_alarm = by_alarm;
         self.sent = 0;
         self.last = if by_alarm { self.profile.close() } else { 0 };

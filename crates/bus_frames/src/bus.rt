@@ -38,7 +38,6 @@ impl Bus {
     pub fn run(alloc: Global, s: &Scenario) -> Result<Bus, Memory>
         ensures { IfOk result (IsBusRun s.now) }
     {
-        let _profile = s.profile();
         let mut net = Network::new(alloc, s)?;
         let mut drops = Vec::new(alloc);
         let mut told = 0;

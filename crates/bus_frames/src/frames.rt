@@ -39,7 +39,6 @@ pub fn run_frame(
     ensures power { IfOk result (HavePower s.now (before_frame s.now (frame + 1))) }
     ensures drops { IfOk result (λ next. drops.new.items ≡ drops_below s.now [] (take next s.now.script)) }
 {
-    let _profile = s.profile();
     let next = tell_lines(net, s, frame, told, drops)?;
     begin_rounds(net);
     run_rounds(alloc, net, s, frame)?;

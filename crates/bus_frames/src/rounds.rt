@@ -43,7 +43,6 @@ fn hosts_of(s: &Scenario) -> u8
     ensures value { result ≡ length s.now.hosts }
     ensures few { result ≤ 4 }
 {
-    let _profile = s.profile();
     s.hosts().len() as u8
 }
 

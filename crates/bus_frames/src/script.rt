@@ -4,6 +4,7 @@ ghost use Rattle.std.specs.Prelude.{◌≡◌, ◌≤◌, ◌<◌, ◌+◌, ◌+
 ghost use Rattle.std.specs.List.{AllPairs};
 ghost use Rattle.bus_rules.specs.States.{State};
 ghost use Rattle.scenario_text.specs.ScenarioFacts.{IsAct};
+ghost use Rattle.scenario_text.specs.ScenarioGrammar.{IsScenario};
 ghost use Rattle.bus_model.specs.Bus.{before_frame, drops_below, state_at};
 ghost use Rattle.bus_model.specs.Flooding.{has};
 ghost use Rattle.bus_model.specs.ScriptedStates.{lost_by};
@@ -36,9 +37,9 @@ pub fn tell_lines(
     ensures drops { IfOk result (λ next. drops.new.items ≡ drops_below s.now [] (take next s.now.script)) }
     ensures ready { OnOk result ((m : ℕ) → IsReady s.now frame m net.old → IsReady s.now frame m net.new) }
     ensures rest { OnOk result ((net.new.costs ≡ net.old.costs) × (net.new.deliveries ≡ net.old.deliveries)) }
+    ensures said { IsScenario s.now }
 {
     let script = s.script();
-    let _profile = s.profile();
     for next in from..script.len() {
         let line = &script[next];
         if line.frame != frame {

@@ -9,10 +9,10 @@ pub mod ReceivedInRounds
 pub mod OtherRanks
 pub mod NumbersKept
 pub mod ListsInTurn
+pub mod OrderedDeliveries
 -- for this crate alone
 mod WorkedFloods
 mod WorkedBuses
 pub mod NumberedStreams
 pub mod NumbersSaid
-pub mod OrderedDeliveries
 pub mod ReachByDistance

@@ -7,7 +7,6 @@ use crate::answer::Answer;
 use crate::run_answer::world_after;
 use crate::summary::summary;
 use lwb_base::Memory;
-use scenario_maker::laws::made_scenarios_are_accepted;
 use scenario_maker::made;
 use std::alloc::Global;
 
@@ -17,7 +16,6 @@ pub fn demo_answer(alloc: Global, seed: u64, nodes: u8, frames: u32) -> Result<A
     ensures { (b : List ℕ) → IfOk result (λ a. Answers (asked.Demo seed nodes frames) b a) }
 {
     let scenario = made(alloc, seed, nodes, frames)?;
-    made_scenarios_are_accepted();
     let world = world_after(alloc, &scenario)?;
     let text = summary(
         alloc,

@@ -1,6 +1,5 @@
 ghost use Rattle.std.specs.Prelude.{◌≡◌, ◌<◌, ◌^◌, ℕ, IfOk, length};
 ghost use Rattle.tick_clock.specs.ClockReadings.{segment_clock_reads};
-ghost use Rattle.scenario_text.specs.ScenarioGrammar.{IsScenario};
 ghost use Rattle.scenario_clocks.specs.ClockLists.{clocks_by};
 ghost use Rattle.scenario_clocks.specs.StatedClocks.{scenario_clock};
 ghost use Rattle.air_log.specs.NodeCharges.{charges_in};
@@ -53,7 +52,6 @@ pub fn log_answer(alloc: Global, bytes: &[u8]) -> Result<Answer, Memory>
 
 /// The world of a scenario after its run over the clocks that it states.
 pub fn world_after(alloc: Global, s: &Scenario) -> Result<World<'_, SegmentClock>, Memory>
-    requires { IsScenario s.now }
     ensures run { IfOk result (λ w. IsRun s.now (scenario_clock s.now) w.0.air w.0.deliveries w.0.drops (core_of w.0.cores)) }
     ensures charges { IfOk result (λ w. w.0.charges ≡ charges_in s.now (scenario_clock s.now) w.0.air) }
 {
@@ -64,7 +62,6 @@ pub fn world_after(alloc: Global, s: &Scenario) -> Result<World<'_, SegmentClock
 
 /// The world of a scenario before its run, over the clocks that it states.
 pub fn stated_world(alloc: Global, s: &Scenario) -> Result<World<'_, SegmentClock>, Memory>
-    requires { IsScenario s.now }
     ensures new { IfOk result (λ w. w.0 ≡ new_world s.now) }
     ensures clocks { IfOk result (λ w. (v : ℕ) → clocks_by segment_clock_reads s.now.nodes w.1 v ≡ scenario_clock s.now v) }
 {

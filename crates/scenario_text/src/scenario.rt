@@ -105,7 +105,8 @@ impl Scenario {
 
     /// The number of frames, 1 to 4,096.
     pub fn frames(&self) -> u32
-        ensures { result ≡ self.now.frames }
+        ensures value { result ≡ self.now.frames }
+        ensures said { IsScenario self.now }
     {
         self.frames
     }
@@ -119,7 +120,8 @@ impl Scenario {
 
     /// The nodes, 2 to 64, by ascending id.
     pub fn nodes(&self) -> &[NodeLine]
-        ensures { result.now ≡ self.now.nodes }
+        ensures value { result.now ≡ self.now.nodes }
+        ensures said { IsScenario self.now }
     {
         &self.nodes
     }
@@ -133,7 +135,8 @@ impl Scenario {
 
     /// The hosts, 1 to 4, by rank.
     pub fn hosts(&self) -> &[NodeId]
-        ensures { result.now ≡ self.now.hosts }
+        ensures value { result.now ≡ self.now.hosts }
+        ensures said { IsScenario self.now }
     {
         &self.hosts
     }
@@ -148,7 +151,8 @@ impl Scenario {
 
     /// What the nodes are told to do, by frame, in the order of the text.
     pub fn script(&self) -> &[ScriptLine]
-        ensures { result.now ≡ self.now.script }
+        ensures value { result.now ≡ self.now.script }
+        ensures said { IsScenario self.now }
     {
         &self.script
     }

@@ -65,7 +65,7 @@ loop-frame-preserved g c =
     let value = c.as_slice.ensures.value in
     let lined : Shows (setup_of s c.args.node) (frame_start s l.frame) c.lines.new.self (at_frame s c.args.node clock (map reception_in hs) l.frame) =
     after_lines_shows clock s c.args.node hs l.frame l.told l.next l.tunes.items l.scanned l.course c.lines.new.self l.invariant c.in_ok-told.ensures.goes in
-    let within : l.frame < s.frames = omega (arith, c.loop-frame-test.true, c.frames-frame-end.ensures) in
+    let within : l.frame < s.frames = omega (arith, c.loop-frame-test.true, c.frames-frame-end.ensures.value) in
     let tune = tune_in clock s c.args.node hs l.frame c.lines.new.self within lined in
     record {
       lines = c.in_ok-told.ensures.cut;
@@ -85,7 +85,7 @@ returns g c =
     let s = c.args.s.now in
     let l = c.loop-frame in
     let hs = c.in_ok-heard.heard.items in
-    let over : l.frame ≡ s.frames = omega (arith, c.loop-frame-test.false, l.auto.frame-end, c.frames-frame-end.ensures) in
-    let end = tick_of s s.frames c.from.result c.frame-length.result c.profile.result (c.from.ensures ∙ c.frames.ensures) c.frame-length.ensures.value c.profile.ensures.value in
+    let over : l.frame ≡ s.frames = omega (arith, c.loop-frame-test.false, l.auto.frame-end, c.frames-frame-end.ensures.value) in
+    let end = tick_of s s.frames c.from.result c.frame-length.result c.profile.result (c.from.ensures ∙ c.frames.ensures.value) c.frame-length.ensures.value c.profile.ensures.value in
     told_is clock s c.args.node hs (sound s c.profile.ensures.said) (g.met.C.DriftClock.keeps_drift_law c.args.clock.now) l.frame l.told l.next l.tunes.items l.scanned l.course l.invariant over
     (c.from.result * c.frame-length.result) end c.close.new.self c.in_ok-close.ensures c.told.result c.told.ensures (heard_by c.args.a.now c.args.node) (c.in_ok-heard.ensures.heard ∙ ap (λ (air : List Entry). heard_by air c.args.node) c.entries.ensures)

@@ -45,10 +45,10 @@ module _ (c : goal.Then-line-frame) where
       let s = c.args.s.now in
       let n = c.loop-next.next in
       let l = c.index-script-next.result in
-      let below : n < length s.script = omega (arith, c.loop-next-test.true, ap length c.script-script.ensures) in
-      let at : l ≡ get_or s.script n l = c.index-script-next.is ∙ ap (λ (ls : List ScriptLine). get_or ls n l) c.script-script.ensures in
+      let below : n < length s.script = omega (arith, c.loop-next-test.true, ap length c.script-script.ensures.value) in
+      let at : l ≡ get_or s.script n l = c.index-script-next.is ∙ ap (λ (ls : List ScriptLine). get_or ls n l) c.script-script.ensures.value in
       let up = c.requires.cut.from n l c.loop-next.invariant.within below in
-      later_lines s (sound s c.profile-profile.ensures.said) n l below at c.args.frame (omega (arith, up, ap (λ (m : ScriptLine). m.frame) at)) c.if-line-frame.true
+      later_lines s (sound s c.script-script.ensures.said) n l below at c.args.frame (omega (arith, up, ap (λ (m : ScriptLine). m.frame) at)) c.if-line-frame.true
 
 pub returns-then-line-frame-clause-cut : goal.returns-then-line-frame-clause-cut
 returns-then-line-frame-clause-cut c = record {
@@ -70,7 +70,7 @@ returns-then-line-frame-clause-nodes c =
 -- a line that is told
 pub tell_line-requires-clause-ascending : goal.tell_line-requires-clause-ascending
 tell_line-requires-clause-ascending c =
-    ids_ascend c.args.s.now (sound c.args.s.now c.profile-profile.ensures.said) c.loop-next.net.ids (c.loop-next.invariant.ready 1000000 c.requires.ready).ids_are
+    ids_ascend c.args.s.now (sound c.args.s.now c.script-script.ensures.said) c.loop-next.net.ids (c.loop-next.invariant.ready 1000000 c.requires.ready).ids_are
 
 pub tell_line-requires-clause-each : goal.tell_line-requires-clause-each
 tell_line-requires-clause-each c =
@@ -82,9 +82,9 @@ tell_line-requires-clause-known c =
     let s = c.args.s.now in
     let n = c.loop-next.next in
     let l = c.index-script-next.result in
-    let below : n < length s.script = omega (arith, c.loop-next-test.true, ap length c.script-script.ensures) in
-    let at : l ≡ get_or s.script n l = c.index-script-next.is ∙ ap (λ (ls : List ScriptLine). get_or ls n l) c.script-script.ensures in
-    ap (λ (is : List ℕ). has is l.node) (c.loop-next.invariant.ready 1000000 c.requires.ready).ids_are ∙ line_known s (sound s c.profile-profile.ensures.said) n l below at
+    let below : n < length s.script = omega (arith, c.loop-next-test.true, ap length c.script-script.ensures.value) in
+    let at : l ≡ get_or s.script n l = c.index-script-next.is ∙ ap (λ (ls : List ScriptLine). get_or ls n l) c.script-script.ensures.value in
+    ap (λ (is : List ℕ). has is l.node) (c.loop-next.invariant.ready 1000000 c.requires.ready).ids_are ∙ line_known s (sound s c.script-script.ensures.said) n l below at
 
 pub tell_line-requires-clause-may : goal.tell_line-requires-clause-may
 tell_line-requires-clause-may c i d near here =
@@ -94,14 +94,14 @@ tell_line-requires-clause-may c i d near here =
     let l = c.index-script-next.result in
     let inv = c.loop-next.invariant in
     let ready = inv.ready 1000000 c.requires.ready in
-    let below : n < length s.script = omega (arith, c.loop-next-test.true, ap length c.script-script.ensures) in
-    let at : l ≡ get_or s.script n l = c.index-script-next.is ∙ ap (λ (ls : List ScriptLine). get_or ls n l) c.script-script.ensures in
+    let below : n < length s.script = omega (arith, c.loop-next-test.true, ap length c.script-script.ensures.value) in
+    let at : l ≡ get_or s.script n l = c.index-script-next.is ∙ ap (λ (ls : List ScriptLine). get_or ls n l) c.script-script.ensures.value in
     let own : get_or (ids s.nodes) i 0 ≡ l.node = ap (λ (is : List ℕ). get_or is i 0) (sym ready.ids_are) ∙ here in
     let g = bus_node s (prior_ranks s f) (told_at s f n) in
     let node : get_or c.loop-next.net.nodes i d ≡ g l.node =
     ap (λ (ns : List BusNode). get_or ns i d) inv.nodes_are ∙ get_or-map g (ids s.nodes) i 0 d (omega (arith, near, ready.nodes_each, ids_each s)) ∙ ap g own in (
-      subst (λ (x : BusNode). IsAct x.setup.profile l.act) (sym node) (line_act s (sound s c.profile-profile.ensures.said) n l below at),
-      subst (λ (x : BusNode). MayDo l.act x.state) (sym node) (may_do s (sound s c.profile-profile.ensures.said) n l below at (told_at s f n l.node) (inv.have l.node)),
+      subst (λ (x : BusNode). IsAct x.setup.profile l.act) (sym node) (line_act s (sound s c.script-script.ensures.said) n l below at),
+      subst (λ (x : BusNode). MayDo l.act x.state) (sym node) (may_do s (sound s c.script-script.ensures.said) n l below at (told_at s f n l.node) (inv.have l.node)),
     )
 
 pub loop-next-preserved : goal.loop-next-preserved
@@ -113,8 +113,8 @@ loop-next-preserved c =
     let inv = c.loop-next.invariant in
     let ran = c.in_ok-tell_line.ensures in
     let ready = inv.ready 1000000 c.requires.ready in
-    let below : n < length s.script = omega (arith, c.loop-next-test.true, ap length c.script-script.ensures) in
-    let at : l ≡ get_or s.script n l = c.index-script-next.is ∙ ap (λ (ls : List ScriptLine). get_or ls n l) c.script-script.ensures in
+    let below : n < length s.script = omega (arith, c.loop-next-test.true, ap length c.script-script.ensures.value) in
+    let at : l ≡ get_or s.script n l = c.index-script-next.is ∙ ap (λ (ls : List ScriptLine). get_or ls n l) c.script-script.ensures.value in
     let is : l.frame ≡ f = c.if-line-frame.false in
     let i = ran.nodes.0 in
     let g = bus_node s (prior_ranks s f) (told_at s f n) in
@@ -133,7 +133,7 @@ loop-next-preserved c =
       ];
       have = power_told s f n l below at is inv.have;
       nodes_are = here.0 ∙ ap (λ (ns : List BusNode). set ns i (told l (get_or ns i d))) inv.nodes_are
-          ∙ node_told s f (prior_ranks s f) n l below at is (ids_ascend s (sound s c.profile-profile.ensures.said) (ids s.nodes) refl) i near own d;
+          ∙ node_told s f (prior_ranks s f) n l below at is (ids_ascend s (sound s c.script-script.ensures.said) (ids s.nodes) refl) i near own d;
       lost = here.1 ∙ ap (λ (ds : List DropLine). ds ++ option_to_list (lost_by l l.act (get_or c.loop-next.net.nodes i d).state)) inv.lost
           ∙ ap (λ (x : BusNode). drops_below s [] (take n s.script) ++ option_to_list (lost_by l l.act x.state)) node
           ∙ sym (lost_more s f n l below at is);
@@ -155,13 +155,13 @@ loop-next-preserved c =
 -- the script is over
 module _ (c : goal.After-loop-next) where
   over : c.loop-next.next ≡ length c.args.s.now.script
-  over = (let upto = c.loop-next.invariant.upto in omega (arith, c.loop-next-test.false, upto, ap length c.script-script.ensures))
+  over = (let upto = c.loop-next.invariant.upto in omega (arith, c.loop-next-test.false, upto, ap length c.script-script.ensures.value))
 
   none_later : (i : ℕ) (d : ScriptLine) → c.loop-next.next ≤ i → i < length c.args.s.now.script → c.args.frame < (get_or c.args.s.now.script i d).frame
   none_later i d high near = absurd (omega (arith, high, near, over))
 
   counted : length c.script-script.result.now ≡ c.loop-next.next
-  counted = ap length c.script-script.ensures ∙ sym over
+  counted = ap length c.script-script.ensures.value ∙ sym over
 
 pub returns-clause-cut : goal.returns-clause-cut
 returns-clause-cut c = subst (IsCut c.args.s.now.script (c.args.frame + 1)) (sym (counted c)) (record {

@@ -9,7 +9,7 @@ use Rattle.lwb_world.proofs.field_bounds.devices.Goals as goal
 pub new-requires-clause-hosts : goal.new-requires-clause-hosts
 new-requires-clause-hosts c =
     let is = sound c.args.s.now c.profile-profile.ensures.said in
-    omega (arith, is.some_hosts, is.few_hosts, ap length c.hosts.ensures)
+    omega (arith, is.some_hosts, is.few_hosts, ap length c.hosts.ensures.value)
 
 pub new-requires-clause-sends : goal.new-requires-clause-sends
 new-requires-clause-sends c =
@@ -22,7 +22,7 @@ loop-line-preserved c =
     let n = c.line-item.result in
     let pushed : c.push.new.self.items ≡ c.loop-line.devices.items ++ d ∷ [] = search rules in
     let profile = c.profile-profile.ensures.value in
-    let hosts = c.hosts.ensures in
+    let hosts = c.hosts.ensures.value in
     let sends = c.sends.ensures in
     let setup : d.setup ≡ setup_of c.args.s.now n.node = c.in_ok-device.ensures.setup ∙ search rules in
     pushed

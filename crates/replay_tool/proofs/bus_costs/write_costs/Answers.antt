@@ -7,7 +7,7 @@ use Rattle.replay_tool.proofs.bus_costs.write_costs.Goals as goal
 pub unwrap-cost-requires : goal.unwrap-cost-requires
 unwrap-cost-requires c =
     let s = c.args.s.now in
-    let said = cost_at s c.nodes-line-items.result.now c.loop-line.line-index c.line-item.result c.nodes-line-items.ensures (omega arith) c.line-item.is in
+    let said = cost_at s c.nodes-line-items.result.now c.loop-line.line-index c.line-item.result c.nodes-line-items.ensures.value (omega arith) c.line-item.is in
     subst (λ o. IsSome o) (sym (c.cost.ensures s c.requires ∙ said)) refl
 
 pub loop-line-preserved : goal.loop-line-preserved
@@ -17,7 +17,7 @@ loop-line-preserved c =
     let items = c.nodes-line-items.result.now in
     let i = c.loop-line.line-index in
     let cost = c.unwrap-cost.result in
-    let said = cost_at s items i line c.nodes-line-items.ensures (omega arith) c.line-item.is in
+    let said = cost_at s items i line c.nodes-line-items.ensures.value (omega arith) c.line-item.is in
     let is : cost ≡ bus_cost s line.node = same_cost _ _ (sym c.unwrap-cost.ensures ∙ c.cost.ensures s c.requires ∙ said) in
     c.in_ok-write_cost.ensures
     ∙ ap (λ (t : List ℕ). t ++ cost_line line.node cost) c.loop-line.invariant

@@ -5,9 +5,9 @@ use Rattle.replay_tool.proofs.queue_tests.empty_queue.Goals as goal
 pub overflow_cast-nodes : goal.overflow_cast-nodes
 overflow_cast-nodes c =
     let is = sound c.args.s.now c.requires in
-    omega (arith, is.few_nodes, ap length c.nodes.ensures)
+    omega (arith, is.few_nodes, ap length c.nodes.ensures.value)
 
 pub new-requires : goal.new-requires
 new-requires c =
     let is = sound c.args.s.now c.requires in
-    omega (arith, is.two_nodes, is.few_nodes, ap length c.nodes.ensures)
+    omega (arith, is.two_nodes, is.few_nodes, ap length c.nodes.ensures.value)

@@ -2,4 +2,4 @@ use Rattle.scenario_clocks.proofs.StatedDrift.{scenario_states}
 use Rattle.replay_tool.proofs.run_answer.stated_world.Goals as goal
 
 pub stated_clocks-requires : goal.stated_clocks-requires
-stated_clocks-requires c = rw (c.nodes.ensures, c.rates.ensures) (scenario_states c.args.s.now c.requires)
+stated_clocks-requires c = rw (c.nodes.ensures.value, c.rates.ensures) (scenario_states c.args.s.now c.nodes.ensures.said)

@@ -17,7 +17,7 @@ returns-then-line-frame-clause-cut g c =
     let s = c.args.s.now in
     let k = c.loop-line.told in
     let line = c.in-Some.line.now in
-    cut_at frame_of s.script c.requires.sound.script_ascends k c.args.frame line (read_at s.script c.script.result.now k line c.script.ensures c.in-Some.ensures.lookup.0 c.in-Some.ensures.lookup.1) c.if-line-frame.true c.loop-line.invariant.cut
+    cut_at frame_of s.script c.requires.sound.script_ascends k c.args.frame line (read_at s.script c.script.result.now k line c.script.ensures.value c.in-Some.ensures.lookup.0 c.in-Some.ensures.lookup.1) c.if-line-frame.true c.loop-line.invariant.cut
 
 pub returns-then-line-frame-clause-power : goal.returns-then-line-frame-clause-power
 returns-then-line-frame-clause-power g c = c.loop-line.invariant.power
@@ -28,7 +28,7 @@ returns-then-line-frame-clause-goes g c =
     let k = c.loop-line.told in
     let line = c.in-Some.line.now in
     all_told (g.C.DriftClock.readings c.args.clock.now) s c.requires.sound c.args.frame k c.args.self.now c.loop-line.self c.loop-line.invariant
-    (cut_at frame_of s.script c.requires.sound.script_ascends k c.args.frame line (read_at s.script c.script.result.now k line c.script.ensures c.in-Some.ensures.lookup.0 c.in-Some.ensures.lookup.1) c.if-line-frame.true c.loop-line.invariant.cut)
+    (cut_at frame_of s.script c.requires.sound.script_ascends k c.args.frame line (read_at s.script c.script.result.now k line c.script.ensures.value c.in-Some.ensures.lookup.0 c.in-Some.ensures.lookup.1) c.if-line-frame.true c.loop-line.invariant.cut)
 
 pub line-requires-clause-shown : goal.line-requires-clause-shown
 line-requires-clause-shown g c =
@@ -45,21 +45,21 @@ line-requires-clause-range g c =
     let s = c.args.s.now in
     let k = c.loop-line.told in
     let line = c.in-Some.line.now in
-    in_range (g.C.DriftClock.readings c.args.clock.now) s c.requires.sound c.args.frame k c.args.self.now c.loop-line.self c.loop-line.invariant line (read_at s.script c.script.result.now k line c.script.ensures c.in-Some.ensures.lookup.0 c.in-Some.ensures.lookup.1) c.requires.profile
+    in_range (g.C.DriftClock.readings c.args.clock.now) s c.requires.sound c.args.frame k c.args.self.now c.loop-line.self c.loop-line.invariant line (read_at s.script c.script.result.now k line c.script.ensures.value c.in-Some.ensures.lookup.0 c.in-Some.ensures.lookup.1) c.requires.profile
 
 pub line-requires-clause-boots : goal.line-requires-clause-boots
 line-requires-clause-boots g c =
     let s = c.args.s.now in
     let k = c.loop-line.told in
     let line = c.in-Some.line.now in
-    boots (g.C.DriftClock.readings c.args.clock.now) s c.requires.sound c.args.frame k c.args.self.now c.loop-line.self c.loop-line.invariant line (read_at s.script c.script.result.now k line c.script.ensures c.in-Some.ensures.lookup.0 c.in-Some.ensures.lookup.1)
+    boots (g.C.DriftClock.readings c.args.clock.now) s c.requires.sound c.args.frame k c.args.self.now c.loop-line.self c.loop-line.invariant line (read_at s.script c.script.result.now k line c.script.ensures.value c.in-Some.ensures.lookup.0 c.in-Some.ensures.lookup.1)
 
 pub loop-line-smaller : goal.loop-line-smaller
 loop-line-smaller g c =
     let s = c.args.s.now in
     let k = c.loop-line.told in
     let line = c.in-Some.line.now in
-    let below = slice_get_within s.script k line (read_at s.script c.script.result.now k line c.script.ensures c.in-Some.ensures.lookup.0 c.in-Some.ensures.lookup.1) in
+    let below = slice_get_within s.script k line (read_at s.script c.script.result.now k line c.script.ensures.value c.in-Some.ensures.lookup.0 c.in-Some.ensures.lookup.1) in
     omega (arith, below)
 
 pub loop-line-preserved : goal.loop-line-preserved
@@ -68,7 +68,7 @@ loop-line-preserved g c =
     let k = c.loop-line.told in
     let line = c.in-Some.line.now in
     let now = tick_of s c.args.frame c.from.result c.frame.result c.profile.result c.from.ensures c.frame.ensures.value c.profile.ensures.value in
-    one_more_told (g.C.DriftClock.readings c.args.clock.now) s c.requires.sound c.args.frame k c.args.self.now c.loop-line.self c.loop-line.invariant line (read_at s.script c.script.result.now k line c.script.ensures c.in-Some.ensures.lookup.0 c.in-Some.ensures.lookup.1)
+    one_more_told (g.C.DriftClock.readings c.args.clock.now) s c.requires.sound c.args.frame k c.args.self.now c.loop-line.self c.loop-line.invariant line (read_at s.script c.script.result.now k line c.script.ensures.value c.in-Some.ensures.lookup.0 c.in-Some.ensures.lookup.1)
     c.if-line-frame.false c.line.new.self
     (subst (λ (t : ℕ). Goes t (own_line (g.C.DriftClock.readings c.args.clock.now) t line) c.loop-line.self c.line.new.self) now c.in_ok-line.ensures)
 
@@ -76,7 +76,7 @@ pub returns-clause-cut : goal.returns-clause-cut
 returns-clause-cut g c =
     let s = c.args.s.now in
     let k = c.loop-line.told in
-    cut_end frame_of s.script k c.args.frame (read_past s.script c.script.result.now k c.script.ensures c.in_default.ensures.lookup.0) c.loop-line.invariant.cut
+    cut_end frame_of s.script k c.args.frame (read_past s.script c.script.result.now k c.script.ensures.value c.in_default.ensures.lookup.0) c.loop-line.invariant.cut
 
 pub returns-clause-power : goal.returns-clause-power
 returns-clause-power g c = c.loop-line.invariant.power
@@ -86,4 +86,4 @@ returns-clause-goes g c =
     let s = c.args.s.now in
     let k = c.loop-line.told in
     all_told (g.C.DriftClock.readings c.args.clock.now) s c.requires.sound c.args.frame k c.args.self.now c.loop-line.self c.loop-line.invariant
-    (cut_end frame_of s.script k c.args.frame (read_past s.script c.script.result.now k c.script.ensures c.in_default.ensures.lookup.0) c.loop-line.invariant.cut)
+    (cut_end frame_of s.script k c.args.frame (read_past s.script c.script.result.now k c.script.ensures.value c.in_default.ensures.lookup.0) c.loop-line.invariant.cut)

@@ -25,24 +25,24 @@ loop-frame-init c =
     }
 
 pub run_frame-requires-clause-few : goal.run_frame-requires-clause-few
-run_frame-requires-clause-few c = (sound c.args.s.now c.profile-profile.ensures.said).few_frames
+run_frame-requires-clause-few c = (sound c.args.s.now c.frames-frame-end.ensures.said).few_frames
 
 pub returns : goal.returns
 returns c =
     let s = c.args.s.now in
     let inv = c.loop-frame.invariant in
-    let all : c.loop-frame.frame ≡ s.frames = omega (arith, c.loop-frame-test.false, c.loop-frame.auto.frame-end, c.frames-frame-end.ensures) in
+    let all : c.loop-frame.frame ≡ s.frames = omega (arith, c.loop-frame-test.false, c.loop-frame.auto.frame-end, c.frames-frame-end.ensures.value) in
     let at : IsAtFrame s s.frames c.loop-frame.net = subst (λ (f : ℕ). IsAtFrame s f c.loop-frame.net) all inv.at in
     let cut : IsCut s.script s.frames c.loop-frame.told = subst (λ (f : ℕ). IsCut s.script f c.loop-frame.told) all inv.cut in
     record {
       nodes = at.ready.ids_are;
       each_cost = at.costs_are;
       delivered = at.delivered;
-      lost = inv.lost ∙ ap (drops_below s []) (script_over s (sound s c.profile-profile.ensures.said) c.loop-frame.told cut);
+      lost = inv.lost ∙ ap (drops_below s []) (script_over s (sound s c.frames-frame-end.ensures.said) c.loop-frame.told cut);
     }
 
 pub invariant_of-result : goal.invariant_of-result
 invariant_of-result c =
     let s = c.args.s.now in
     let ready = c.loop-frame.invariant.at.ready in
-    (ids_ascend s (sound s c.profile-profile.ensures.said) c.loop-frame.net.ids ready.ids_are, ready.costs_each ∙ sym (ap length ready.ids_are ∙ ids_each s))
+    (ids_ascend s (sound s c.frames-frame-end.ensures.said) c.loop-frame.net.ids ready.ids_are, ready.costs_each ∙ sym (ap length ready.ids_are ∙ ids_each s))

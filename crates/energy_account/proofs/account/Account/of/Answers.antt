@@ -13,13 +13,13 @@ use Rattle.energy_account.proofs.StatedPlaces.{stated_place}
 use Rattle.energy_account.proofs.account.Account.of.Goals as goal
 
 pub stated_clocks-requires : goal.stated_clocks-requires
-stated_clocks-requires c = rw (c.nodes-nodes.ensures, c.rates.ensures) (scenario_states c.args.s.now c.requires.scenario)
+stated_clocks-requires c = rw (c.nodes-nodes.ensures.value, c.rates.ensures) (scenario_states c.args.s.now c.requires.scenario)
 
 pub energy_of_node-requires-clause-clock : goal.energy_of_node-requires-clause-clock
 energy_of_node-requires-clause-clock c =
     let s = c.args.s.now in
     let clocks = c.in_ok-clocks.ensures in
-    stated_place s c.nodes-nodes.result.now c.rates.result.now c.in_ok-clocks.clocks.items (sound s c.requires.scenario) c.nodes-nodes.ensures c.rates.ensures clocks.count clocks.stated
+    stated_place s c.nodes-nodes.result.now c.rates.result.now c.in_ok-clocks.clocks.items (sound s c.requires.scenario) c.nodes-nodes.ensures.value c.rates.ensures clocks.count clocks.stated
     c.loop-i.i c.index-nodes-i.result c.index.result.now (omega arith) c.index.ensures
 
 pub loop-i-preserved : goal.loop-i-preserved
@@ -38,7 +38,7 @@ pub returns : goal.returns
 returns c =
     let s = c.args.s.now in
     let nodes = c.nodes-nodes.result.now in
-    let whole : take c.loop-i.i nodes ≡ s.nodes = take_all c.loop-i.i nodes (omega arith) ∙ c.nodes-nodes.ensures in
+    let whole : take c.loop-i.i nodes ≡ s.nodes = take_all c.loop-i.i nodes (omega arith) ∙ c.nodes-nodes.ensures.value in
     let lines : c.loop-i.lines.items ≡ map (line_for s (scenario_clock s) c.args.a.now) s.nodes =
     c.loop-i.invariant ∙ ap (λ (ns : List NodeLine). map (line_for s (scenario_clock s) c.args.a.now) ns) whole in
     λ v. ap (λ (ls : List AccountLine). line_of ls v) lines ∙ account_of_lines s (scenario_clock s) c.args.a.now v

@@ -9,12 +9,12 @@ use Rattle.lwb_world.proofs.FirstField.{sound_nodes, first_field}
 use Rattle.lwb_world.proofs.field.Field.new.Goals as goal
 
 pub new-requires : goal.new-requires
-new-requires c = subst AreNodes (sym (c.as_slice.ensures.value ∙ c.in_ok-nodes.ensures ∙ ap (map node_id) c.nodes.ensures)) (sound_nodes c.args.s.now (sound c.args.s.now c.profile-profile.ensures.said))
+new-requires c = subst AreNodes (sym (c.as_slice.ensures.value ∙ c.in_ok-nodes.ensures ∙ ap (map node_id) c.nodes.ensures.value)) (sound_nodes c.args.s.now (sound c.args.s.now c.profile-profile.ensures.said))
 
 pub invariant_of-result : goal.invariant_of-result
 invariant_of-result c =
     let s = c.args.s.now in
-    let nodes = c.as_slice.ensures.value ∙ c.in_ok-nodes.ensures ∙ ap (map node_id) c.nodes.ensures in
+    let nodes = c.as_slice.ensures.value ∙ c.in_ok-nodes.ensures ∙ ap (map node_id) c.nodes.ensures.value in
     let medium : c.in_ok-medium.medium ≡ first_state s.profile (map node_id s.nodes) =
     c.in_ok-medium.ensures.state ∙ ap (λ (p : Numbers). first_state p c.as_slice.result.now) c.profile-profile.ensures.value ∙ ap (first_state s.profile) nodes in
     first_field s (sound s c.profile-profile.ensures.said) _ medium c.in_ok-devices.ensures
@@ -22,7 +22,7 @@ invariant_of-result c =
 pub returns : goal.returns
 returns c =
     let s = c.args.s.now in
-    let nodes = c.as_slice.ensures.value ∙ c.in_ok-nodes.ensures ∙ ap (map node_id) c.nodes.ensures in
+    let nodes = c.as_slice.ensures.value ∙ c.in_ok-nodes.ensures ∙ ap (map node_id) c.nodes.ensures.value in
     let medium : c.in_ok-medium.medium ≡ first_state s.profile (map node_id s.nodes) =
     c.in_ok-medium.ensures.state ∙ ap (λ (p : Numbers). first_state p c.as_slice.result.now) c.profile-profile.ensures.value ∙ ap (first_state s.profile) nodes in
     record {

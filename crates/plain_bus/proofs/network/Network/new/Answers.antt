@@ -31,7 +31,7 @@ loop-line-preserved c =
 pub returns : goal.returns
 returns c =
     let all : take c.loop-line.line-index c.nodes-lines.result.now ≡ c.args.s.now.nodes =
-    take_all c.loop-line.line-index c.nodes-lines.result.now (omega (arith, c.loop-line-test.false, c.loop-line.auto.line-index-end)) ∙ c.nodes-lines.ensures in
+    take_all c.loop-line.line-index c.nodes-lines.result.now (omega (arith, c.loop-line-test.false, c.loop-line.auto.line-index-end)) ∙ c.nodes-lines.ensures.value in
     let of_parts : List ℕ → List BusNode → List Cost → List Delivery → Network = λ a b cs ds. record { ids = a; nodes = b; costs = cs; deliveries = ds } in
     let of_lines : List NodeLine → Network = λ ls. of_parts (ids ls) (map (off_at c.args.s.now) (ids ls)) (map (λ (v : ℕ). no_cost) (ids ls)) [] in
     ap (λ (l : List ℕ). of_parts l c.loop-line.nodes.items c.loop-line.costs.items c.new.result.items) c.loop-line.invariant.ids_are

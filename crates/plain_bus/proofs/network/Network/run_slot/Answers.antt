@@ -37,7 +37,7 @@ open_slot-requires-clause-few c =
 pub flooded-end-requires-clause-few : goal.flooded-end-requires-clause-few
 flooded-end-requires-clause-few c =
     let few = (sound c.args.s.now c.profile-profile.ensures.said).few_nodes in
-    omega (arith, few, ap length c.nodes.ensures)
+    omega (arith, few, ap length c.nodes.ensures.value)
 
 pub charge_all-requires-clause-ascending : goal.charge_all-requires-clause-ascending
 charge_all-requires-clause-ascending c =
