@@ -1,5 +1,6 @@
 -- One frame more of a run.
-use Rattle.std.proofs.Common.{◌≡◌, ◌<◌, ◌≤◌, ◌+◌, ◌*◌, ◌++◌, ◌==◌, [], ℕ, zero, suc, List, Bool, true, false, All, inl, inr, if◌then◌else◌, length, map, flat_map, get_or, take, drop, count_by, sum_by, subst, refl, sym, ◌∙◌, ap, arith, add-one}
+use Rattle.std.proofs.Common.{◌≡◌, ◌<◌, ◌≤◌, ◌+◌, ◌*◌, ◌++◌, ◌==◌, [], ℕ, zero, suc, List, Bool, true, false, All, inl, inr, if◌then◌else◌, length, map}
+use Rattle.std.proofs.Common.{flat_map, get_or, take, drop, count_by, sum_by, subst, refl, sym, ◌∙◌, ap, arith, add-one}
 use Rattle.std.specs.List.{range_with_len}
 use Rattle.std.proofs.lemmas.Bool.{cases_lt}
 use Rattle.std.proofs.lemmas.List.{get_or-map, length-map, take_all}
@@ -47,7 +48,8 @@ module _ (s : ScenarioParts) (f : ℕ) where
   pub nodes_begun : (ranks : ℕ → ℕ) (states : ℕ → State) → map begun (nodes_with s ranks states) ≡ nodes_with s (ranks_in states) states
   nodes_begun ranks states = sym (map_of_map begun (bus_node s ranks states) (ids s.nodes))
 
-  pub nodes_ended : map (ended_at f) (nodes_with s (ranks_in (state_at s f)) (rounds s f (state_at s f))) ≡ nodes_with s (prior_ranks s (f + 1)) (before_frame s (f + 1))
+  pub nodes_ended : map (ended_at f) (nodes_with s (ranks_in (state_at s f)) (rounds s f (state_at s f))) ≡ nodes_with s (prior_ranks s (f + 1))
+      (before_frame s (f + 1))
   nodes_ended =
       sym (map_of_map (ended_at f) (bus_node s (ranks_in (state_at s f)) (rounds s f (state_at s f))) (ids s.nodes))
       ∙ ap (λ (g : ℕ → State). nodes_with s (ranks_in (state_at s f)) g) (sym (next_frame s f))
@@ -65,8 +67,10 @@ module _ (s : ScenarioParts) (f : ℕ) where
       ∙ ap (λ (b : ℕ). of (sum_by sent (range_with_len 0 (f + 1))) b (sum_by scan (range_with_len 0 f) + scan f)) (sym (sum_more window f))
       ∙ ap (λ (c : ℕ). of (sum_by sent (range_with_len 0 (f + 1))) (sum_by window (range_with_len 0 (f + 1))) c) (sym (sum_more scan f))
 
-  pub costs_more : map (λ v. with_round s (ranks_in (state_at s f) v) f (state_at s f) v (with_scan (state_at s f v) (cost_after s f v))) (ids s.nodes) ≡ map (cost_after s (f + 1)) (ids s.nodes)
-  costs_more = map_same (λ (v : ℕ). with_round s (ranks_in (state_at s f) v) f (state_at s f) v (with_scan (state_at s f v) (cost_after s f v))) (cost_after s (f + 1)) cost_more (ids s.nodes)
+  pub costs_more : map (λ v. with_round s (ranks_in (state_at s f) v) f (state_at s f) v (with_scan (state_at s f v) (cost_after s f v))) (ids s.nodes)
+      ≡ map (cost_after s (f + 1)) (ids s.nodes)
+  costs_more = map_same (λ (v : ℕ). with_round s (ranks_in (state_at s f) v) f (state_at s f) v (with_scan (state_at s f v) (cost_after s f v)))
+      (cost_after s (f + 1)) cost_more (ids s.nodes)
 
   pub delivered_more : deliveries_to s f ++ frame_deliveries s f (state_at s f) ≡ deliveries_to s (f + 1)
   delivered_more = sym (flat_more (λ g. frame_deliveries s g (state_at s g)) f)
@@ -83,33 +87,41 @@ module _ (s : ScenarioParts) (f : ℕ) where
   pub all_few : (cs : List Cost) → cs ≡ map (cost_after s f) (ids s.nodes) → All (λ c. c.scanned ≤ f) cs
   all_few cs are i d below =
       let near : i < length (ids s.nodes) = omega (arith, below, ap length are, length-map (ids s.nodes) (cost_after s f)) in
-      subst (λ (c : Cost). c.scanned ≤ f) (sym (ap (λ (l : List Cost). get_or l i d) are ∙ get_or-map (cost_after s f) (ids s.nodes) i 0 d near)) (scanned_few (get_or (ids s.nodes) i 0))
+      subst (λ (c : Cost). c.scanned ≤ f) (sym (ap (λ (l : List Cost). get_or l i d) are ∙ get_or-map (cost_after s f) (ids s.nodes) i 0 d near))
+      (scanned_few (get_or (ids s.nodes) i 0))
 
-  pub ready_begun : (m : ℕ) (old new : Network) (states : ℕ → State) (cost : ℕ → Cost) → new.ids ≡ old.ids → new.nodes ≡ map begun old.nodes → length new.costs ≡ length old.costs
+  pub ready_begun : (m : ℕ) (old new : Network) (states : ℕ → State) (cost : ℕ → Cost) → new.ids ≡ old.ids → new.nodes ≡ map begun old.nodes
+      → length new.costs ≡ length old.costs
       → old.costs ≡ map cost (ids s.nodes) → new.costs ≡ map (λ v. with_scan (states v) (cost v)) (ids s.nodes) → IsReady s f m old → IsReady s f m new
   ready_begun m old new states cost same nodes size costs scanned ready = record {
     ids_are = same ∙ ready.ids_are;
     nodes_each = ap length nodes ∙ length-map old.nodes begun ∙ ready.nodes_each;
     costs_each = size ∙ ready.costs_each;
     early = λ i d below. (let near : i < length old.nodes = omega (arith, below, ap length nodes, length-map old.nodes begun) in
-        subst (λ (x : BusNode). IsEarlyState f x.state) (sym (ap (λ (l : List BusNode). get_or l i d) nodes ∙ get_or-map begun old.nodes i d d near)) (ready.early i d near));
+        subst (λ (x : BusNode). IsEarlyState f x.state) (sym (ap (λ (l : List BusNode). get_or l i d) nodes ∙ get_or-map begun old.nodes i d d near))
+        (ready.early i d near));
     room = λ i d below.
         (let g : ℕ → Cost = λ v. with_scan (states v) (cost v) in
         let near : i < length (ids s.nodes) = omega (arith, below, ap length scanned, length-map (ids s.nodes) g) in
         let there : i < length old.costs = omega (arith, below, size) in
         let v : ℕ = get_or (ids s.nodes) i 0 in
-        let before : IsBelow m (cost v) = subst (IsBelow m) (ap (λ (l : List Cost). get_or l i d) costs ∙ get_or-map cost (ids s.nodes) i 0 d near) (ready.room i d there) in
-        subst (IsBelow m) (sym (ap (λ (l : List Cost). get_or l i d) scanned ∙ get_or-map g (ids s.nodes) i 0 d near)) (record { sent = before.sent; windows = before.windows }));
+        let before : IsBelow m (cost v) = subst (IsBelow m) (ap (λ (l : List Cost). get_or l i d) costs ∙ get_or-map cost (ids s.nodes) i 0 d near)
+        (ready.room i d there) in
+        subst (IsBelow m) (sym (ap (λ (l : List Cost). get_or l i d) scanned ∙ get_or-map g (ids s.nodes) i 0 d near))
+        (record { sent = before.sent; windows = before.windows }));
   }
 
-  pub ready_ended : (m : ℕ) (old new : Network) → new.ids ≡ old.ids → new.nodes ≡ map (ended_at f) old.nodes → new.costs ≡ old.costs → IsReady s f m old → IsReady s (f + 1) m new
+  pub ready_ended : (m : ℕ) (old new : Network) → new.ids ≡ old.ids → new.nodes ≡ map (ended_at f) old.nodes → new.costs ≡ old.costs → IsReady s f m old
+      → IsReady s (f + 1) m new
   ready_ended m old new same nodes costs ready = record {
     ids_are = same ∙ ready.ids_are;
     nodes_each = ap length nodes ∙ length-map old.nodes (ended_at f) ∙ ready.nodes_each;
     costs_each = ap length costs ∙ ready.costs_each;
     early = λ i d below. (let near : i < length old.nodes = omega (arith, below, ap length nodes, length-map old.nodes (ended_at f)) in
         let x : BusNode = get_or old.nodes i d in
-        subst (λ (y : BusNode). IsEarlyState (f + 1) y.state) (sym (ap (λ (l : List BusNode). get_or l i d) nodes ∙ get_or-map (ended_at f) old.nodes i d d near)) (ended_early x.setup f x.state (ready.early i d near)));
+        subst (λ (y : BusNode). IsEarlyState (f + 1) y.state)
+        (sym (ap (λ (l : List BusNode). get_or l i d) nodes ∙ get_or-map (ended_at f) old.nodes i d d near))
+        (ended_early x.setup f x.state (ready.early i d near)));
     room = subst (λ (l : List Cost). All (IsBelow m) l) (sym costs) ready.room;
   }
 
@@ -123,7 +135,8 @@ module _ (s : ScenarioParts) where
   pub power_off : HavePower s (before_frame s 0) 0
   power_off v = ap (λ (g : ℕ → State). power (g v)) (first_frame s)
 
-  pub ready_off : IsReady s 0 (0 * 184) (record { ids = ids s.nodes; nodes = map (off_at s) (ids s.nodes); costs = map (λ (v : ℕ). no_cost) (ids s.nodes); deliveries = [] })
+  pub ready_off : IsReady s 0 (0 * 184)
+      (record { ids = ids s.nodes; nodes = map (off_at s) (ids s.nodes); costs = map (λ (v : ℕ). no_cost) (ids s.nodes); deliveries = [] })
   ready_off = record {
     ids_are = refl;
     nodes_each = length-map (ids s.nodes) (off_at s) ∙ ids_each s;

@@ -8,13 +8,15 @@ use Rattle.bus_rules.specs.Slots.{Message, Opened, Closed, opened, closed, part_
 use Rattle.bus_rules.specs.Cores.{Core, is_member}
 use Rattle.bus_rules.specs.States.{State, StateOff, StateOn}
 use Rattle.bus_model.specs.Flooding.{accepted}
-use Rattle.bus_model.specs.Rounds.{Slot, slot_of, opened_at, said_in, accepted_at, closed_by, left_by, after_slot, before_slot, after_round, round, rounds, round_plan, rank_in}
+use Rattle.bus_model.specs.Rounds.{Slot, slot_of, opened_at, said_in, accepted_at, closed_by, left_by, after_slot, before_slot, after_round, round, rounds}
+use Rattle.bus_model.specs.Rounds.{round_plan, rank_in}
 use Rattle.bus_model.specs.ScriptedStates.{setup_in}
 
 module _ (s : ScenarioParts) (f : ℕ) (P : ℕ → State → Type 0) (Q : Message → Type 0)
     (opens : (v : ℕ) (part : Part) (c : Core) → P v (StateOn c) → P v (StateOn (opened (setup_in s v) f part c).core))
     (says : (v : ℕ) (part : Part) (c : Core) (m : Message) → P v (StateOn c) → (opened (setup_in s v) f part c).message ≡ Some m → Q m)
-    (closes : (v : ℕ) (part : Part) (b : Bool) (c : Core) (heard : Option Message) → ((m : Message) → heard ≡ Some m → Q m) → P v (StateOn c) → P v (StateOn (closed (setup_in s v) f part b c heard).core)) where
+    (closes : (v : ℕ) (part : Part) (b : Bool) (c : Core) (heard : Option Message) → ((m : Message) → heard ≡ Some m → Q m) → P v (StateOn c)
+    → P v (StateOn (closed (setup_in s v) f part b c heard).core)) where
   -- what is said in a window
   window_says : (rank : ℕ) (part : Part) (v : ℕ) (x : State) (m : Message) → P v x → said_in (opened_at s rank f part v x) ≡ Some m → Q m
   window_says rank part v (StateOff boots) m is said = absurd (cc)

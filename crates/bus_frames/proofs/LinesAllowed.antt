@@ -1,5 +1,6 @@
 -- What a line of the script asks of its node is allowed, and what it leaves.
-use Rattle.std.proofs.Common.{◌≡◌, ◌<◌, ◌≤◌, ◌+◌, ◌++◌, ◌∷◌, ◌==◌, ◌||◌, [], ℕ, List, Bool, true, false, All, Option, Some, None, inl, inr, if◌then◌else◌, length, take, drop, get_or, refl, sym, ◌∙◌, ap, subst, arith, take-append-drop}
+use Rattle.std.proofs.Common.{◌≡◌, ◌<◌, ◌≤◌, ◌+◌, ◌++◌, ◌∷◌, ◌==◌, ◌||◌, [], ℕ, List, Bool, true, false, All, Option, Some, None, inl, inr, if◌then◌else◌}
+use Rattle.std.proofs.Common.{length, take, drop, get_or, refl, sym, ◌∙◌, ap, subst, arith, take-append-drop}
 use Rattle.std.proofs.lemmas.Bool.{cond_both, eq-eqb, cases_eq, cases_lt}
 use Rattle.std.proofs.lemmas.List.{take_more, get_or_default}
 use Rattle.lwb_member.specs.Planning.{IsEarly}
@@ -81,14 +82,16 @@ module _ (s : ScenarioParts) (sound : IsSoundScenario s) (n : ℕ) (l : ScriptLi
   -- where the line is one of a later frame, so are all that follow
   pub later_lines : (f : ℕ) → f ≤ l.frame → (l.frame ≡ f → ⊥) → (i : ℕ) (d : ScriptLine) → n ≤ i → i < length s.script → f < (get_or s.script i d).frame
   later_lines f up other i d high near = elim (cases_lt n i) [
-    | inl after ↦ (let rises = sound.script_ascends n i d after near in omega (arith, rises, above, ap (λ (m : ScriptLine). m.frame) (at ∙ get_or_default s.script n l d below)))
+    | inl after ↦ (let rises = sound.script_ascends n i d after near in
+        omega (arith, rises, above, ap (λ (m : ScriptLine). m.frame) (at ∙ get_or_default s.script n l d below)))
     | inr not_after ↦ (let same : n ≡ i = omega (arith, high, not_after) in
         let here : l ≡ get_or s.script i d = at ∙ get_or_default s.script n l d below ∙ ap (λ (k : ℕ). get_or s.script k d) same in
         omega (arith, above, ap (λ (m : ScriptLine). m.frame) here))
   ]
     where
       above : f < l.frame
-      above = elim (cases_eq l.frame f) [ inl same ↦ absurd (other same) | inr differ ↦ elim (cases_lt f l.frame) [ inl less ↦ less | inr more ↦ absurd (other (omega (arith, up, more))) ] ]
+      above = elim (cases_eq l.frame f)
+          [ inl same ↦ absurd (other same) | inr differ ↦ elim (cases_lt f l.frame) [ inl less ↦ less | inr more ↦ absurd (other (omega (arith, up, more))) ] ]
 
 -- a table without entries, or the same one, is as early
 pub act_early : (f : ℕ) (a : Act) (x : State) → IsEarlyState f x → IsEarlyState f (after_act a x)

@@ -1,5 +1,7 @@
 -- The lines of a frame, told one after another.
-use Rattle.std.proofs.Common.{◌≡◌, ◌<◌, ◌≤◌, ◌+◌, ◌++◌, ◌∷◌, ◌==◌, ◌&&◌, [], ℕ, zero, suc, List, Bool, true, false, inl, inr, Option, if◌then◌else◌, length, map, take, drop, get_or, set, filter, fold, option_to_list, refl, sym, ◌∙◌, ap, subst, arith, append-nil, append_assoc, add-zero, take-append-drop, length-drop}
+use Rattle.std.proofs.Common.{◌≡◌, ◌<◌, ◌≤◌, ◌+◌, ◌++◌, ◌∷◌, ◌==◌, ◌&&◌, [], ℕ, zero, suc, List, Bool, true, false, inl, inr, Option, if◌then◌else◌, length}
+use Rattle.std.proofs.Common.{map, take, drop, get_or, set, filter, fold, option_to_list, refl, sym, ◌∙◌, ap, subst, arith, append-nil, append_assoc, add-zero}
+use Rattle.std.proofs.Common.{take-append-drop, length-drop}
 use Rattle.std.specs.List.{AllPairs}
 use Rattle.std.proofs.lemmas.Bool.{cases_lt, cases_Bool, cases_eq, eqb-true, eq-eqb, ne_eqb, false≢true}
 use Rattle.std.proofs.lemmas.List.{take_more, length-take-le, get_or-take, get_or-drop, get_or-map, length-map}
@@ -34,10 +36,12 @@ same_all g h (x ∷ xs) same =
 set_mapped : {X : Type 0} (g h : ℕ → X) (xs : List ℕ) (i : ℕ) → i < length xs → ((k : ℕ) → k < length xs → (k ≡ i → ⊥) → g (get_or xs k 0) ≡ h (get_or xs k 0))
     → set (map g xs) i (h (get_or xs i 0)) ≡ map h xs
 set_mapped g h [] i below same = absurd (omega (arith, below))
-set_mapped g h (x ∷ xs) zero below same = ap (λ (l : List _). h x ∷ l) (same_all g h xs (λ k near. same (suc k) (omega (arith, near)) (λ is. omega (arith, is))))
+set_mapped g h (x ∷ xs) zero below same =
+    ap (λ (l : List _). h x ∷ l) (same_all g h xs (λ k near. same (suc k) (omega (arith, near)) (λ is. omega (arith, is))))
 set_mapped g h (x ∷ xs) (suc i) below same =
     ap (λ (y : _). y ∷ set (map g xs) i (h (get_or xs i 0))) (same 0 (omega arith) (λ is. omega (arith, is)))
-    ∙ ap (λ (l : List _). h x ∷ l) (set_mapped g h xs i (omega (arith, below)) (λ k near other. same (suc k) (omega (arith, near)) (λ is. other (omega (arith, is)))))
+    ∙ ap (λ (l : List _). h x ∷ l)
+    (set_mapped g h xs i (omega (arith, below)) (λ k near other. same (suc k) (omega (arith, near)) (λ is. other (omega (arith, is)))))
 
 -- one line more of all that was told
 abbrev own : ℕ → ℕ → ScriptLine → Bool
@@ -55,12 +59,15 @@ module _ (s : ScenarioParts) (f : ℕ) where
   told_more : (n : ℕ) (l : ScriptLine) → n < length s.script → l ≡ get_or s.script n l → l.frame ≡ f → (v : ℕ)
       → told_at s f (n + 1) v ≡ (if l.node == v then after_line (told_at s f n v) l else told_at s f n v)
   told_more n l below at is v =
-      ap (λ (ls : List ScriptLine). fold after_line (before_frame s f v) (filter (own f v) ls)) (take_more s.script n l below ∙ ap (λ (y : ScriptLine). take n s.script ++ y ∷ []) (sym at))
+      ap (λ (ls : List ScriptLine). fold after_line (before_frame s f v) (filter (own f v) ls))
+      (take_more s.script n l below ∙ ap (λ (y : ScriptLine). take n s.script ++ y ∷ []) (sym at))
       ∙ ap (fold after_line (before_frame s f v)) (filter-append (own f v) (take n s.script) (l ∷ []))
-      ∙ ap (λ (b : Bool). fold after_line (before_frame s f v) (filter (own f v) (take n s.script) ++ (if b then l ∷ [] else []))) (and_true (l.node == v) (l.frame == f) (eq-eqb l.frame f is))
+      ∙ ap (λ (b : Bool). fold after_line (before_frame s f v) (filter (own f v) (take n s.script) ++ (if b then l ∷ [] else [])))
+      (and_true (l.node == v) (l.frame == f) (eq-eqb l.frame f is))
       ∙ by_node (l.node == v)
     where
-      by_node : (b : Bool) → fold after_line (before_frame s f v) (filter (own f v) (take n s.script) ++ (if b then l ∷ [] else [])) ≡ (if b then after_line (told_at s f n v) l else told_at s f n v)
+      by_node : (b : Bool) → fold after_line (before_frame s f v) (filter (own f v) (take n s.script) ++ (if b then l ∷ [] else []))
+          ≡ (if b then after_line (told_at s f n v) l else told_at s f n v)
       by_node true = fold_push after_line (before_frame s f v) (filter (own f v) (take n s.script)) l
       by_node false = ap (fold after_line (before_frame s f v)) (append-nil (filter (own f v) (take n s.script)))
 
@@ -71,13 +78,15 @@ module _ (s : ScenarioParts) (f : ℕ) where
   pub none_told : (n : ℕ) → IsCut s.script f n → (v : ℕ) → told_at s f n v ≡ before_frame s f v
   none_told n cut v = ap (fold after_line (before_frame s f v)) (none_kept (own f v) (take n s.script) (λ i d below.
       (let near : i < n = within i below in
-      other_frame v i (get_or (take n s.script) i d) (λ is. (let before = cut.before i d near in omega (arith, before, is, ap (λ (l : ScriptLine). l.frame) (get_or-take n s.script i d near)))))))
+      other_frame v i (get_or (take n s.script) i d)
+      (λ is. (let before = cut.before i d near in omega (arith, before, is, ap (λ (l : ScriptLine). l.frame) (get_or-take n s.script i d near)))))))
     where
       within : (i : ℕ) → i < length (take n s.script) → i < n
       within i below = omega (arith, below, length-take-le n s.script cut.within)
 
   -- and behind the last one
-  pub all_told : (n : ℕ) → ((i : ℕ) (d : ScriptLine) → n ≤ i → i < length s.script → f < (get_or s.script i d).frame) → (v : ℕ) → told_at s f n v ≡ state_at s f v
+  pub all_told : (n : ℕ) → ((i : ℕ) (d : ScriptLine) → n ≤ i → i < length s.script → f < (get_or s.script i d).frame) → (v : ℕ)
+      → told_at s f n v ≡ state_at s f v
   all_told n later v =
       ap (fold after_line (before_frame s f v)) (sym (
       ap (filter (own f v)) (sym (take-append-drop n s.script))
@@ -114,23 +123,29 @@ module _ (s : ScenarioParts) (f : ℕ) where
       ]
 
   -- its power
-  pub power_told : (n : ℕ) (l : ScriptLine) → n < length s.script → l ≡ get_or s.script n l → l.frame ≡ f → HavePower s (told_at s f n) n → HavePower s (told_at s f (n + 1)) (n + 1)
+  pub power_told : (n : ℕ) (l : ScriptLine) → n < length s.script → l ≡ get_or s.script n l → l.frame ≡ f → HavePower s (told_at s f n) n
+      → HavePower s (told_at s f (n + 1)) (n + 1)
   power_told n l below at is have v =
       ap power (told_more n l below at is v) ∙ by_node (l.node == v)
-      ∙ sym (ap (turned v (false, 0)) (take_more s.script n l below ∙ ap (λ (y : ScriptLine). take n s.script ++ y ∷ []) (sym at)) ∙ turned_more v (false, 0) (take n s.script) l)
+      ∙ sym (ap (turned v (false, 0)) (take_more s.script n l below ∙ ap (λ (y : ScriptLine). take n s.script ++ y ∷ []) (sym at))
+      ∙ turned_more v (false, 0) (take n s.script) l)
     where
-      turned_more : (v : ℕ) (b : Bool × ℕ) (ls : List ScriptLine) (l : ScriptLine) → turned v b (ls ++ l ∷ []) ≡ (if l.node == v then turned_by l.act (turned v b ls) else turned v b ls)
+      turned_more : (v : ℕ) (b : Bool × ℕ) (ls : List ScriptLine) (l : ScriptLine)
+          → turned v b (ls ++ l ∷ []) ≡ (if l.node == v then turned_by l.act (turned v b ls) else turned v b ls)
       turned_more v b [] l = refl
       turned_more v b (x ∷ ls) l = turned_more v (if x.node == v then turned_by x.act b else b) ls l
 
-      by_node : (b : Bool) → power (if b then after_line (told_at s f n v) l else told_at s f n v) ≡ (if b then turned_by l.act (turned v (false, 0) (take n s.script)) else turned v (false, 0) (take n s.script))
+      by_node : (b : Bool) → power (if b then after_line (told_at s f n v) l else told_at s f n v)
+          ≡ (if b then turned_by l.act (turned v (false, 0) (take n s.script)) else turned v (false, 0) (take n s.script))
       by_node true = act_power l.act (told_at s f n v) ∙ ap (turned_by l.act) (have v)
       by_node false = have v
 
   -- and what is lost
-  drops_more : (above ls : List ScriptLine) (l : ScriptLine) → drops_below s above (ls ++ l ∷ []) ≡ drops_below s above ls ++ option_to_list (lost_by l l.act (before_line s (above ++ ls) l))
+  drops_more : (above ls : List ScriptLine) (l : ScriptLine) → drops_below s above (ls ++ l ∷ [])
+      ≡ drops_below s above ls ++ option_to_list (lost_by l l.act (before_line s (above ++ ls) l))
   drops_more above [] l =
-      append-nil (option_to_list (lost_by l l.act (before_line s above l))) ∙ ap (λ (xs : List ScriptLine). option_to_list (lost_by l l.act (before_line s xs l))) (sym (append-nil above))
+      append-nil (option_to_list (lost_by l l.act (before_line s above l)))
+      ∙ ap (λ (xs : List ScriptLine). option_to_list (lost_by l l.act (before_line s xs l))) (sym (append-nil above))
   drops_more above (x ∷ ls) l =
       let first = option_to_list (lost_by x x.act (before_line s above x)) in
       let rest = drops_below s (above ++ x ∷ []) ls in
@@ -143,4 +158,6 @@ module _ (s : ScenarioParts) (f : ℕ) where
   lost_more n l below at is =
       ap (drops_below s []) (take_more s.script n l below ∙ ap (λ (y : ScriptLine). take n s.script ++ y ∷ []) (sym at))
       ∙ drops_more [] (take n s.script) l
-      ∙ ap (λ (k : ℕ). drops_below s [] (take n s.script) ++ option_to_list (lost_by l l.act (fold after_line (before_frame s k l.node) (filter (λ m. (m.node == l.node) && (m.frame == k)) (take n s.script))))) is
+      ∙ ap (λ (k : ℕ). drops_below s []
+      (take n s.script) ++ option_to_list (lost_by l l.act
+      (fold after_line (before_frame s k l.node) (filter (λ m. (m.node == l.node) && (m.frame == k)) (take n s.script))))) is

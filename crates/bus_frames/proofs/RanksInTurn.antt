@@ -1,5 +1,6 @@
 -- The rounds of the ranks, one after another.
-use Rattle.std.proofs.Common.{◌≡◌, ◌<◌, ◌+◌, ◌==◌, ℕ, List, Bool, true, false, nat_lt, inl, inr, Option, Some, None, if◌then◌else◌, map, flat_map, sum_by, refl, sym, ◌∙◌, ap, subst, arith, add-zero}
+use Rattle.std.proofs.Common.{◌≡◌, ◌<◌, ◌+◌, ◌==◌, ℕ, List, Bool, true, false, nat_lt, inl, inr, Option, Some, None, if◌then◌else◌, map, flat_map, sum_by, refl}
+use Rattle.std.proofs.Common.{sym, ◌∙◌, ap, subst, arith, add-zero}
 use Rattle.std.specs.List.{range_with_len}
 use Rattle.std.specs.Option.{option_map, option_map_or}
 use Rattle.std.proofs.lemmas.Bool.{cases_lt, cases_Bool, eqb-true, false≢true, lt-ltb, le-ltb, eq-eqb}
@@ -36,11 +37,14 @@ with_plan s rank f states o v c = record c {
   windows = c.windows + option_map_or (λ p. sum_by (λ j. slot_window s.profile (slot_at s rank f p states j) v) (slots_of p)) o 0;
 }
 
-pub no_round : (s : ScenarioParts) (rank f : ℕ) (states : ℕ → State) (cost : ℕ → Cost) → map cost (ids s.nodes) ≡ map (λ v. if ranks_in states v == rank then with_plan s rank f states None v (cost v) else cost v) (ids s.nodes)
-no_round s rank f states cost = map_same cost (λ (v : ℕ). if ranks_in states v == rank then with_plan s rank f states None v (cost v) else cost v) (λ v. both (ranks_in states v == rank) (cost v)) (ids s.nodes)
+pub no_round : (s : ScenarioParts) (rank f : ℕ) (states : ℕ → State) (cost : ℕ → Cost)
+    → map cost (ids s.nodes) ≡ map (λ v. if ranks_in states v == rank then with_plan s rank f states None v (cost v) else cost v) (ids s.nodes)
+no_round s rank f states cost = map_same cost (λ (v : ℕ). if ranks_in states v == rank then with_plan s rank f states None v (cost v) else cost v)
+    (λ v. both (ranks_in states v == rank) (cost v)) (ids s.nodes)
   where
     both : (b : Bool) (c : Cost) → c ≡ (if b then record c { sent = c.sent + 0; windows = c.windows + 0 } else c)
-    both true c = ap (λ (a : ℕ). record c { sent = a }) (sym (add-zero c.sent)) ∙ ap (λ (b : ℕ). record c { sent = c.sent + 0; windows = b }) (sym (add-zero c.windows))
+    both true c = ap (λ (a : ℕ). record c { sent = a }) (sym (add-zero c.sent)) ∙ ap (λ (b : ℕ). record c { sent = c.sent + 0; windows = b })
+        (sym (add-zero c.windows))
     both false c = refl
 
 below_other : (a r : ℕ) → (a == r) ≡ false → nat_lt a (r + 1) ≡ nat_lt a r
@@ -67,7 +71,8 @@ module _ (s : ScenarioParts) (f : ℕ) (start : ℕ → State) (r : ℕ) where
     | inr other ↦ ap (λ (b : Bool). if b then old else (if nat_lt a r then new else old)) other
   ]
 
-  left : {X : Type 0} (a : ℕ) (old new here : X) → ((a == r) ≡ true → here ≡ new) → (if a == r then here else (if nat_lt a r then new else old)) ≡ (if nat_lt a (r + 1) then new else old)
+  left : {X : Type 0} (a : ℕ) (old new here : X) → ((a == r) ≡ true → here ≡ new) → (if a == r then here else (if nat_lt a r then new else old))
+      ≡ (if nat_lt a (r + 1) then new else old)
   left a old new here same_rank = elim (cases_Bool (a == r)) [
     | inl same ↦ (
         let is = eqb-true a r same in
@@ -85,15 +90,22 @@ module _ (s : ScenarioParts) (f : ℕ) (start : ℕ → State) (r : ℕ) where
       (λ v. ap (λ (x : State). bus_node s (ranks_in start) (λ (u : ℕ). x) v) (sym (entered (ranks_in start v) (start v) (rounds s f start v)))) (ids s.nodes)
 
   pub leaves : nodes_in s r start (round s r f start) (run_below s f start r) ≡ nodes_with s (ranks_in start) (run_below s f start (r + 1))
-  leaves = map_same (bus_node s (ranks_in start) (mixed r (ranks_in start) (round s r f start) (run_below s f start r))) (bus_node s (ranks_in start) (run_below s f start (r + 1)))
+  leaves = map_same (bus_node s (ranks_in start) (mixed r (ranks_in start) (round s r f start) (run_below s f start r)))
+      (bus_node s (ranks_in start) (run_below s f start (r + 1)))
       (λ v. ap (λ (x : State). bus_node s (ranks_in start) (λ (u : ℕ). x) v)
-      (left (ranks_in start v) (start v) (rounds s f start v) (round s r f start v) (λ same. ap (λ (k : ℕ). round s k f start v) (sym (eqb-true (ranks_in start v) r same))))) (ids s.nodes)
+      (left (ranks_in start v) (start v) (rounds s f start v) (round s r f start v)
+      (λ same. ap (λ (k : ℕ). round s k f start v) (sym (eqb-true (ranks_in start v) r same))))) (ids s.nodes)
 
-  pub costs_left : (cost : ℕ → Cost) → map (λ v. if ranks_in start v == r then with_round s r f start v (cost_below s f start r cost v) else cost_below s f start r cost v) (ids s.nodes) ≡ map (cost_below s f start (r + 1) cost) (ids s.nodes)
-  costs_left cost = map_same (λ (v : ℕ). if ranks_in start v == r then with_round s r f start v (cost_below s f start r cost v) else cost_below s f start r cost v) (cost_below s f start (r + 1) cost)
+  pub costs_left : (cost : ℕ → Cost)
+      → map (λ v. if ranks_in start v == r then with_round s r f start v (cost_below s f start r cost v) else cost_below s f start r cost v) (ids s.nodes)
+      ≡ map (cost_below s f start (r + 1) cost) (ids s.nodes)
+  costs_left cost = map_same
+      (λ (v : ℕ). if ranks_in start v == r then with_round s r f start v (cost_below s f start r cost v) else cost_below s f start r cost v)
+      (cost_below s f start (r + 1) cost)
       (λ v. left (ranks_in start v) (cost v) (with_round s (ranks_in start v) f start v (cost v)) (with_round s r f start v (cost_below s f start r cost v))
       (λ same. (let is = eqb-true (ranks_in start v) r same in
-      ap (λ (b : Bool). with_round s r f start v (if b then with_round s (ranks_in start v) f start v (cost v) else cost v)) (le-ltb (ranks_in start v) r (omega (arith, is)))
+      ap (λ (b : Bool). with_round s r f start v (if b then with_round s (ranks_in start v) f start v (cost v) else cost v))
+      (le-ltb (ranks_in start v) r (omega (arith, is)))
       ∙ ap (λ (k : ℕ). with_round s k f start v (cost v)) (sym is)))) (ids s.nodes)
 
 module _ (s : ScenarioParts) (f : ℕ) (start : ℕ → State) where
@@ -105,13 +117,17 @@ module _ (s : ScenarioParts) (f : ℕ) (start : ℕ → State) where
       (λ v. ap (λ (x : State). bus_node s (ranks_in start) (λ (u : ℕ). x) v) (none_below (ranks_in start v) (start v) (rounds s f start v))) (ids s.nodes)
 
   pub none_charged : (cost : ℕ → Cost) → map cost (ids s.nodes) ≡ map (cost_below s f start 0 cost) (ids s.nodes)
-  none_charged cost = map_same cost (cost_below s f start 0 cost) (λ v. none_below (ranks_in start v) (cost v) (with_round s (ranks_in start v) f start v (cost v))) (ids s.nodes)
+  none_charged cost = map_same cost (cost_below s f start 0 cost)
+      (λ v. none_below (ranks_in start v) (cost v) (with_round s (ranks_in start v) f start v (cost v))) (ids s.nodes)
 
   module _ (n : ℕ) (ranked : (v : ℕ) → ranks_in start v < n) where
     pub all_run : nodes_with s (ranks_in start) (run_below s f start n) ≡ nodes_with s (ranks_in start) (rounds s f start)
     all_run = map_same (bus_node s (ranks_in start) (run_below s f start n)) (bus_node s (ranks_in start) (rounds s f start))
-        (λ v. ap (λ (x : State). bus_node s (ranks_in start) (λ (u : ℕ). x) v) (ap (λ (b : Bool). if b then rounds s f start v else start v) (lt-ltb (ranks_in start v) n (ranked v)))) (ids s.nodes)
+        (λ v. ap (λ (x : State). bus_node s (ranks_in start) (λ (u : ℕ). x) v)
+        (ap (λ (b : Bool). if b then rounds s f start v else start v) (lt-ltb (ranks_in start v) n (ranked v)))) (ids s.nodes)
 
-    pub all_charged : (cost : ℕ → Cost) → map (cost_below s f start n cost) (ids s.nodes) ≡ map (λ v. with_round s (ranks_in start v) f start v (cost v)) (ids s.nodes)
+    pub all_charged : (cost : ℕ → Cost) → map (cost_below s f start n cost) (ids s.nodes) ≡ map (λ v. with_round s (ranks_in start v) f start v (cost v))
+        (ids s.nodes)
     all_charged cost = map_same (cost_below s f start n cost) (λ (v : ℕ). with_round s (ranks_in start v) f start v (cost v))
-        (λ v. ap (λ (b : Bool). if b then with_round s (ranks_in start v) f start v (cost v) else cost v) (lt-ltb (ranks_in start v) n (ranked v))) (ids s.nodes)
+        (λ v. ap (λ (b : Bool). if b then with_round s (ranks_in start v) f start v (cost v) else cost v) (lt-ltb (ranks_in start v) n (ranked v)))
+        (ids s.nodes)

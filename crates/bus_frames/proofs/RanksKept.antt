@@ -1,5 +1,6 @@
 -- The rank that a node scans, holds or hosts is one of the scenario.
-use Rattle.std.proofs.Common.{◌≡◌, ◌<◌, ◌≤◌, ◌+◌, ◌%◌, ◌&&◌, ◌==◌, ℕ, zero, suc, List, [], ◌∷◌, Bool, true, false, Option, Some, None, nat_lt, if◌then◌else◌, is_some, length, fold, option_map, refl, sym, ◌∙◌, ap, subst, arith, mod-lt}
+use Rattle.std.proofs.Common.{◌≡◌, ◌<◌, ◌≤◌, ◌+◌, ◌%◌, ◌&&◌, ◌==◌, ℕ, zero, suc, List, [], ◌∷◌, Bool, true, false, Option, Some, None, nat_lt, if◌then◌else◌}
+use Rattle.std.proofs.Common.{is_some, length, fold, option_map, refl, sym, ◌∙◌, ap, subst, arith, mod-lt}
 use Rattle.std.proofs.lemmas.Bool.{false≢true}
 use Rattle.lwb_base.specs.Profile.{Numbers}
 use Rattle.lwb_base.specs.Messages.{Ask, Plan, Schedule, node_of, stream_of}
@@ -15,7 +16,8 @@ use Rattle.bus_rules.specs.declared.tune.Tune.TheVariants.{Scan, Hold, Host}
 use Rattle.bus_rules.specs.Cores.{Core, Setup, as_host, begins_host, frame_ended, is_fresh, new_host, opening_accepted, closing_accepted, schedule_accepted}
 use Rattle.bus_rules.specs.HostPlans.{host_plan}
 use Rattle.bus_rules.specs.Plans.{opening}
-use Rattle.bus_rules.specs.Slots.{Message, ScheduleOf, DataOf, RequestOf, opened, closed, slot_heard, hosts_now, host_closes, silent, is_own, data_of, request_of}
+use Rattle.bus_rules.specs.Slots.{Message, ScheduleOf, DataOf, RequestOf, opened, closed, slot_heard, hosts_now, host_closes, silent, is_own, data_of}
+use Rattle.bus_rules.specs.Slots.{request_of}
 use Rattle.bus_rules.specs.States.{State, StateOff, StateOn, at_core, refuses, queues}
 use Rattle.bus_rules.specs.Streams.{Streams, Waiting, first_waiting, requested}
 use Rattle.bus_rules.specs.Tables.{Table}
@@ -52,7 +54,11 @@ opens q r f (Contention i) c is = record { rank = is.rank; plan = is.plan }
 opens q r f Closing c is = by_test (hosts_now f c)
   where
     by_test : (b : Bool) → IsRanked r (if b then host_closes q f c else silent c).core
-    by_test true = record { rank = is.rank; plan = λ host. (let same = plan_rank q.profile q.id c.boot (rank_of c.tune) f c.kept c.table c.streams in let below = is.rank in omega (arith, same, below)) }
+    by_test true = record {
+      rank = is.rank;
+      plan =
+          λ host. (let same = plan_rank q.profile q.id c.boot (rank_of c.tune) f c.kept c.table c.streams in let below = is.rank in omega (arith, same, below));
+    }
     by_test false = is
 
 -- a host has a plan
@@ -92,7 +98,8 @@ says q r f Closing c (ScheduleOf x) is said = by_test (hosts_now f c) said
     by_test : (b : Bool) → (if b then host_closes q f c else silent c).message ≡ Some (ScheduleOf x) → x.plan.rank < r
     by_test true said =
         let h = host_plan q.profile q.id c.boot (rank_of c.tune) f c.kept c.table c.streams in
-        let below : h.plan.rank < r = (let same = plan_rank q.profile q.id c.boot (rank_of c.tune) f c.kept c.table c.streams in let rank = is.rank in omega (arith, same, rank)) in
+        let below : h.plan.rank < r =
+        (let same = plan_rank q.profile q.id c.boot (rank_of c.tune) f c.kept c.table c.streams in let rank = is.rank in omega (arith, same, rank)) in
         subst (λ (y : Schedule). y.plan.rank < r) (said_same (record { plan = h.plan; gap = h.gap }) x said) below
     by_test false said = absurd (cc)
 
@@ -109,7 +116,8 @@ takes node r f x c below is = by_test (x.gap == 0)
     by_test true = record { rank = is.rank; plan = λ host. below }
     by_test false = record { rank = below; plan = λ host. below }
 
-closes : (q : Setup) (r f : ℕ) (part : Part) (b : Bool) (c : Core) (o : Option Message) → ((m : Message) → o ≡ Some m → IsRankedMessage r m) → IsRanked r c → IsRanked r (closed q f part b c o).core
+closes : (q : Setup) (r f : ℕ) (part : Part) (b : Bool) (c : Core) (o : Option Message) → ((m : Message) → o ≡ Some m → IsRankedMessage r m) → IsRanked r c
+    → IsRanked r (closed q f part b c o).core
 closes q r f part b c None told is = heard r f part b c is
 closes q r f part b c (Some (ScheduleOf x)) told is = takes q.id r f x c (told (ScheduleOf x) refl) is
 closes q r f part b c (Some (DataOf d)) told is = heard r f part true c is
@@ -147,7 +155,8 @@ ends q f some c is = by_tune c.tune refl
     scanning r w below = record { rank = below; plan = λ host. absurd (false≢true (sym host)) }
 
     by_scan : (r w : ℕ) → r < q.ranks → (joined serves turns : Bool)
-        → (let t : Tune = if joined then Scan r 0 else if serves then Host r (f + 1) else if turns then Scan ((r + 1) % q.ranks) 0 else Scan r (w + 1) in IsRanked q.ranks (as_host q.profile (begins_host (Scan r w) t) (abbrev_free t)))
+        → (let t : Tune = if joined then Scan r 0 else if serves then Host r (f + 1) else if turns then Scan ((r + 1) % q.ranks) 0 else Scan r (w + 1) in
+        IsRanked q.ranks (as_host q.profile (begins_host (Scan r w) t) (abbrev_free t)))
     by_scan r w below true serves turns = record { rank = below; plan = λ host. absurd (false≢true (sym host)) }
     by_scan r w below false true turns = record { rank = below; plan = λ host. below }
     by_scan r w below false false true = record { rank = mod-lt (r + 1) (omega (arith, some)); plan = λ host. absurd (false≢true (sym host)) }
@@ -158,12 +167,16 @@ ends q f some c is = by_tune c.tune refl
     by_hold r due below plan true = record { rank = below; plan = λ host. plan }
     by_hold r due below plan false = record { rank = below; plan = λ host. absurd (false≢true (sym host)) }
 
-    by_tune : (t : Tune) → c.tune ≡ t → IsRanked q.ranks (as_host q.profile (begins_host c.tune (next_tune c.tune f (is_fresh c) q.own q.ranks)) (abbrev_free (next_tune c.tune f (is_fresh c) q.own q.ranks)))
-    by_tune t at = subst (λ (u : Tune). IsRanked q.ranks (as_host q.profile (begins_host u (next_tune u f (is_fresh c) q.own q.ranks)) (abbrev_free (next_tune u f (is_fresh c) q.own q.ranks)))) (sym at) (of_tune t
+    by_tune : (t : Tune) → c.tune ≡ t → IsRanked q.ranks
+        (as_host q.profile (begins_host c.tune (next_tune c.tune f (is_fresh c) q.own q.ranks)) (abbrev_free (next_tune c.tune f (is_fresh c) q.own q.ranks)))
+    by_tune t at = subst (λ (u : Tune). IsRanked q.ranks
+        (as_host q.profile (begins_host u (next_tune u f (is_fresh c) q.own q.ranks)) (abbrev_free (next_tune u f (is_fresh c) q.own q.ranks)))) (sym at)
+        (of_tune t
         (subst (λ (u : Tune). rank_of u < q.ranks) at is.rank) (λ host. is.plan (ap is_scan at ∙ host)))
       where
         of_tune : (u : Tune) → rank_of u < q.ranks → (is_scan u ≡ false → c.plan.rank < q.ranks)
-            → IsRanked q.ranks (as_host q.profile (begins_host u (next_tune u f (is_fresh c) q.own q.ranks)) (abbrev_free (next_tune u f (is_fresh c) q.own q.ranks)))
+            → IsRanked q.ranks (as_host q.profile (begins_host u (next_tune u f (is_fresh c) q.own q.ranks))
+            (abbrev_free (next_tune u f (is_fresh c) q.own q.ranks)))
         of_tune (Host r due) below plan = record { rank = below; plan = λ host. plan refl }
         of_tune (Hold r due) below plan = by_hold r due below (plan refl) (nat_lt f due)
         of_tune (Scan r w) below plan = by_scan r w below (is_fresh c) (is_rank q.own r && (w + 1 == 5)) (w + 1 == 12)

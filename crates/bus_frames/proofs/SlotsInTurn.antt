@@ -1,5 +1,6 @@
 -- The slots of a round, one after another.
-use Rattle.std.proofs.Common.{◌≡◌, ◌≤◌, ◌<◌, ◌+◌, ◌*◌, ◌++◌, ◌∷◌, ◌==◌, [], ℕ, zero, suc, List, Bool, true, false, All, if◌then◌else◌, length, map, flat_map, get_or, sum_by, refl, sym, ◌∙◌, ap, subst, arith, add-one, add-zero, append-nil, append_assoc, mul-le-mul_right}
+use Rattle.std.proofs.Common.{◌≡◌, ◌≤◌, ◌<◌, ◌+◌, ◌*◌, ◌++◌, ◌∷◌, ◌==◌, [], ℕ, zero, suc, List, Bool, true, false, All, if◌then◌else◌, length, map, flat_map}
+use Rattle.std.proofs.Common.{get_or, sum_by, refl, sym, ◌∙◌, ap, subst, arith, add-one, add-zero, append-nil, append_assoc, mul-le-mul_right}
 use Rattle.std.specs.List.{range_with_len}
 use Rattle.std.proofs.lemmas.List.Concat.{flat_map-append}
 use Rattle.std.proofs.lemmas.List.FromFn.{get_or-map-range_with_len, length-map-range_with_len}
@@ -49,11 +50,13 @@ first_slot : (s : ScenarioParts) (rank f : ℕ) (p : Plan) (start : ℕ → Stat
 unfolding before_slot
 first_slot s rank f p start = refl
 
-pub before_first : (s : ScenarioParts) (rank f : ℕ) (p : Plan) (start others : ℕ → State) → nodes_in s rank start start others ≡ nodes_before s rank f p start others 0
+pub before_first : (s : ScenarioParts) (rank f : ℕ) (p : Plan) (start others : ℕ → State) → nodes_in s rank start start others
+    ≡ nodes_before s rank f p start others 0
 before_first s rank f p start others = ap (λ (g : ℕ → State). nodes_in s rank start g others) (sym (first_slot s rank f p start))
 
 pub flat_more : {X : Type 0} (g : ℕ → List X) (n : ℕ) → flat_map g (range_with_len 0 (n + 1)) ≡ flat_map g (range_with_len 0 n) ++ g n
-flat_more g n = ap (flat_map g) (range_more n) ∙ flat_map-append g (range_with_len 0 n) (n ∷ []) ∙ ap (λ (l : List _). flat_map g (range_with_len 0 n) ++ l) (append-nil (g n))
+flat_more g n = ap (flat_map g) (range_more n) ∙ flat_map-append g (range_with_len 0 n) (n ∷ []) ∙ ap (λ (l : List _). flat_map g (range_with_len 0 n) ++ l)
+    (append-nil (g n))
 
 pub sum_more : (g : ℕ → ℕ) (n : ℕ) → sum_by g (range_with_len 0 (n + 1)) ≡ sum_by g (range_with_len 0 n) + g n
 sum_more g n = ap (sum_by g) (range_more n) ∙ sum_by_push g (range_with_len 0 n) n
@@ -69,25 +72,34 @@ module _ (s : ScenarioParts) (rank f : ℕ) (p : Plan) (start : ℕ → State) w
       ∙ ap (λ (b : ℕ). of (c.sent + sum_by sent (range_with_len 0 (n + 1))) b) (omega (arith, sum_more window n))
 
   no_slot : (v : ℕ) (c : Cost) → c ≡ with_slots s rank f p start 0 v c
-  no_slot v c = ap (λ (a : ℕ). record c { sent = a }) (sym (add-zero c.sent)) ∙ ap (λ (b : ℕ). record c { sent = c.sent + 0; windows = b }) (sym (add-zero c.windows))
+  no_slot v c = ap (λ (a : ℕ). record c { sent = a }) (sym (add-zero c.sent)) ∙ ap (λ (b : ℕ). record c { sent = c.sent + 0; windows = b })
+      (sym (add-zero c.windows))
 
   choose : (b : Bool) (x y z : Cost) → x ≡ y → (if b then x else z) ≡ (if b then y else z)
   choose b x y z is = ap (λ (c : Cost). if b then c else z) is
 
-  pub costs_first : (cost : ℕ → Cost) → map cost (ids s.nodes) ≡ map (λ v. if ranks_in start v == rank then with_slots s rank f p start 0 v (cost v) else cost v) (ids s.nodes)
+  pub costs_first : (cost : ℕ → Cost)
+      → map cost (ids s.nodes) ≡ map (λ v. if ranks_in start v == rank then with_slots s rank f p start 0 v (cost v) else cost v) (ids s.nodes)
   costs_first cost = map_same cost (λ (v : ℕ). if ranks_in start v == rank then with_slots s rank f p start 0 v (cost v) else cost v)
-      (λ v. both (ranks_in start v == rank) (cost v) ∙ choose (ranks_in start v == rank) (cost v) (with_slots s rank f p start 0 v (cost v)) (cost v) (no_slot v (cost v))) (ids s.nodes)
+      (λ v. both (ranks_in start v == rank) (cost v) ∙ choose (ranks_in start v == rank) (cost v) (with_slots s rank f p start 0 v (cost v)) (cost v)
+      (no_slot v (cost v))) (ids s.nodes)
     where
       both : (b : Bool) (c : Cost) → c ≡ (if b then c else c)
       both true c = refl
       both false c = refl
 
   pub costs_more : (n : ℕ) (cost : ℕ → Cost)
-      → map (λ v. if ranks_in start v == rank then with_slot_at s rank f p start n v (if ranks_in start v == rank then with_slots s rank f p start n v (cost v) else cost v) else (if ranks_in start v == rank then with_slots s rank f p start n v (cost v) else cost v)) (ids s.nodes)
+      → map (λ v. if ranks_in start v == rank then with_slot_at s rank f p start n v
+      (if ranks_in start v == rank then with_slots s rank f p start n v (cost v) else cost v) else (if ranks_in start v == rank then with_slots s rank f p
+      start n v (cost v) else cost v)) (ids s.nodes)
       ≡ map (λ v. if ranks_in start v == rank then with_slots s rank f p start (n + 1) v (cost v) else cost v) (ids s.nodes)
-  costs_more n cost = map_same (λ (v : ℕ). if ranks_in start v == rank then with_slot_at s rank f p start n v (if ranks_in start v == rank then with_slots s rank f p start n v (cost v) else cost v) else (if ranks_in start v == rank then with_slots s rank f p start n v (cost v) else cost v))
+  costs_more n cost = map_same
+      (λ (v : ℕ). if ranks_in start v == rank then with_slot_at s rank f p start n v
+      (if ranks_in start v == rank then with_slots s rank f p start n v (cost v) else cost v) else (if ranks_in start v == rank then with_slots s rank f p
+      start n v (cost v) else cost v))
       (λ (v : ℕ). if ranks_in start v == rank then with_slots s rank f p start (n + 1) v (cost v) else cost v)
-      (λ v. both (ranks_in start v == rank) (with_slot_at s rank f p start n v) (with_slots s rank f p start n v (cost v)) (with_slots s rank f p start (n + 1) v (cost v)) (cost v) (slot_more n v (cost v))) (ids s.nodes)
+      (λ v. both (ranks_in start v == rank) (with_slot_at s rank f p start n v) (with_slots s rank f p start n v (cost v))
+      (with_slots s rank f p start (n + 1) v (cost v)) (cost v) (slot_more n v (cost v))) (ids s.nodes)
     where
       both : (b : Bool) (g : Cost → Cost) (x y z : Cost) → g x ≡ y → (if b then g (if b then x else z) else (if b then x else z)) ≡ (if b then y else z)
       both true g x y z is = is

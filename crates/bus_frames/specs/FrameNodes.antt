@@ -1,5 +1,6 @@
 -- The nodes in the course of a frame as the code has them.
-use Rattle.std.specs.Prelude.{◌*◌, zero, suc, ◌≡◌, ◌<◌, ◌≤◌, ◌==◌, ◌&&◌, nat_lt, ℕ, List, Bool, true, false, map, fold, filter, take, flat_map, length, slice_index_or, if◌then◌else◌}
+use Rattle.std.specs.Prelude.{◌*◌, zero, suc, ◌≡◌, ◌<◌, ◌≤◌, ◌==◌, ◌&&◌, nat_lt, ℕ, List, Bool, true, false, map, fold, filter, take, flat_map, length}
+use Rattle.std.specs.Prelude.{slice_index_or, if◌then◌else◌}
 use Rattle.std.specs.List.{range_with_len}
 use Rattle.scenario_text.specs.ScenarioFacts.{turned}
 use Rattle.scenario_text.specs.ScenarioParts.{ScenarioParts}

@@ -1,5 +1,6 @@
 -- A node more where a slot closes.
-use Rattle.std.proofs.Common.{◌≡◌, ◌<◌, ◌+◌, ◌++◌, ◌∷◌, [], ℕ, List, true, Option, Some, length, map, take, get_or, set, filter_map, option_to_list, refl, sym, ◌∙◌, ap, subst, arith, append_assoc}
+use Rattle.std.proofs.Common.{◌≡◌, ◌<◌, ◌+◌, ◌++◌, ◌∷◌, [], ℕ, List, true, Option, Some, length, map, take, get_or, set, filter_map, option_to_list, refl, sym}
+use Rattle.std.proofs.Common.{◌∙◌, ap, subst, arith, append_assoc}
 use Rattle.std.proofs.lemmas.List.{get_or-map, length-map, get_or_default, take_more_set}
 use Rattle.bus_rules.specs.Slots.{Message}
 use Rattle.bus_rules.specs.declared.delivery.Delivery.{Delivery}
@@ -16,7 +17,8 @@ use Rattle.plain_bus.proofs.TextFloods.{has_element, kept_more}
 
 module _ (b : Behind) (ids : List ℕ) (ws : List Window) (xs : List Station) (behind : IsBehind b ids ws xs) (same : length ws ≡ length xs)
     (n : ℕ → BusNode) (olds : List BusNode) (are : olds ≡ map n ids) (may : AllMay b ids n)
-    (i : ℕ) (here : i < length xs) (w : Window) (w_at : w ≡ get_or ws i w) (x : Station) (x_at : x ≡ get_or xs i x) (m : BusNode) (m_at : m ≡ get_or olds i m) where
+    (i : ℕ) (here : i < length xs) (w : Window) (w_at : w ≡ get_or ws i w) (x : Station) (x_at : x ≡ get_or xs i x) (m : BusNode)
+    (m_at : m ≡ get_or olds i m) where
   abbrev v : ℕ
   v = get_or ids i 0
 
@@ -39,7 +41,8 @@ module _ (b : Behind) (ids : List ℕ) (ws : List Window) (xs : List Station) (b
         ∙ ap (heard_in b (b.window v).initiates) (first_at b ids ws xs behind i x here x_at)
 
     pub may_here : MayAcceptIn m.state h
-    may_here = subst (λ (z : BusNode). MayAcceptIn z.state h) (sym node_is) (subst (λ (g : Option Message). MayAcceptIn (n v).state g) (sym heard_is) (may v (has_element ids i in_ids)))
+    may_here = subst (λ (z : BusNode). MayAcceptIn z.state h) (sym node_is)
+        (subst (λ (g : Option Message). MayAcceptIn (n v).state g) (sym heard_is) (may v (has_element ids i in_ids)))
 
     v_at : v ≡ get_or ids i v
     v_at = get_or_default ids i 0 v in_ids
@@ -49,13 +52,18 @@ module _ (b : Behind) (ids : List ℕ) (ws : List Window) (xs : List Station) (b
     closed_more f part now y there is done =
         take_more_set now i y there
         ∙ one_more_mapped (closed_node b f part n) ids i v (take i now) y in_ids v_at done
-        (is ∙ ap (λ (s : Seen). node_closed f part s h m) window_is ∙ ap (λ (g : Option Message). node_closed f part (b.window v) g m) heard_is ∙ ap (node_closed f part (b.window v) (heard_at b v)) node_is)
+        (is ∙ ap (λ (s : Seen). node_closed f part s h m) window_is ∙ ap (λ (g : Option Message). node_closed f part (b.window v) g m) heard_is
+        ∙ ap (node_closed f part (b.window v) (heard_at b v)) node_is)
 
     pub delivered_more : (rank f j : ℕ) (part : Part) (before old new : List Delivery) (d : Option Delivery) → d ≡ node_delivers rank f j part (seen w) h m
-        → old ≡ before ++ filter_map (delivers_node b rank f j part n) (take i ids) → new ≡ old ++ option_to_list d → new ≡ before ++ filter_map (delivers_node b rank f j part n) (take (i + 1) ids)
+        → old ≡ before ++ filter_map (delivers_node b rank f j part n) (take i ids) → new ≡ old ++ option_to_list d
+        → new ≡ before ++ filter_map (delivers_node b rank f j part n) (take (i + 1) ids)
     delivered_more rank f j part before old new d is so_far more =
         let g = delivers_node b rank f j part n in
-        let same_d : d ≡ g v = is ∙ ap (λ (s : Seen). node_delivers rank f j part s h m) window_is ∙ ap (λ (k : Option Message). node_delivers rank f j part (b.window v) k m) heard_is ∙ ap (node_delivers rank f j part (b.window v) (heard_at b v)) node_is in
+        let same_d : d ≡ g v = is ∙ ap (λ (s : Seen). node_delivers rank f j part s h m) window_is
+        ∙ ap (λ (k : Option Message). node_delivers rank f j part (b.window v) k m) heard_is
+        ∙ ap (node_delivers rank f j part (b.window v) (heard_at b v)) node_is in
         more ∙ ap (λ (l : List Delivery). l ++ option_to_list d) so_far
         ∙ append_assoc before (filter_map g (take i ids)) (option_to_list d)
-        ∙ ap (λ (l : List Delivery). before ++ l) (ap (λ (e : Option Delivery). filter_map g (take i ids) ++ option_to_list e) same_d ∙ sym (kept_more g ids i v in_ids v_at))
+        ∙ ap (λ (l : List Delivery). before ++ l)
+        (ap (λ (e : Option Delivery). filter_map g (take i ids) ++ option_to_list e) same_d ∙ sym (kept_more g ids i v in_ids v_at))

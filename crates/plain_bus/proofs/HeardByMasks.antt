@@ -1,5 +1,6 @@
 -- What a node hears in a step, read off the stations and the masks.
-use Rattle.std.proofs.Common.{◌≡◌, ◌<◌, ℕ, suc, List, [], ◌∷◌, Bool, true, false, not, ◌&&◌, ◌||◌, inl, inr, Option, Some, None, is_some, is_none, nat_lt, refl, sym, ◌∙◌, ap, length, map, get_or, min, ◌==◌, if◌then◌else◌, bit_and, arith}
+use Rattle.std.proofs.Common.{◌≡◌, ◌<◌, ℕ, suc, List, [], ◌∷◌, Bool, true, false, not, ◌&&◌, ◌||◌, inl, inr, Option, Some, None, is_some, is_none, nat_lt, refl}
+use Rattle.std.proofs.Common.{sym, ◌∙◌, ap, length, map, get_or, min, ◌==◌, if◌then◌else◌, bit_and, arith}
 use Rattle.std.specs.Int.{bit_at}
 use Rattle.std.specs.Option.{option_and_then}
 use Rattle.std.proofs.lemmas.Bool.{false≢true, or_cases, eqb-true, lt-ltb}
@@ -19,7 +20,8 @@ of_bit true = refl
 of_bit false = refl
 
 -- a mask tells of the node at a place
-pub bit_tells : (nodes : List ℕ) (test : ℕ → Bool) (mask place : ℕ) → IsMask test nodes mask → place < length nodes → (bit_at mask place == 1) ≡ test (get_or nodes place 0)
+pub bit_tells : (nodes : List ℕ) (test : ℕ → Bool) (mask place : ℕ) → IsMask test nodes mask → place < length nodes
+    → (bit_at mask place == 1) ≡ test (get_or nodes place 0)
 bit_tells nodes test mask place is below =
     ap (λ (n : ℕ). n == 1) (is place ∙ ap (λ (b : Bool). if b && test (get_or nodes place 0) then 1 else 0) (lt-ltb place (length nodes) below))
     ∙ of_bit (test (get_or nodes place 0))
@@ -58,15 +60,18 @@ module _ (s : Setting) (m : Moment) (t : Traced) (f : Flood) (k : ℕ) (flood : 
   station_there : (i : ℕ) (d : Station) → i < length t.nodes → get_or (map (station_at m) t.nodes) i d ≡ station_at m (get_or t.nodes i 0)
   station_there i d below = get_or-map (station_at m) t.nodes i 0 d below
 
-  module _ (v reaching senders : ℕ) (reach : IsMask (λ u. passes t.lines f.frame f.slot k u v) t.nodes reaching) (sends : IsMask (λ u. is_some (m.sends u)) t.nodes senders) where
-    given : (i : ℕ) (d : Station) → i < length t.nodes → offer s m k v (get_or (map (station_at m) t.nodes) i d).node ≡ sent_at (map (station_at m) t.nodes) (bit_and reaching senders) i d
+  module _ (v reaching senders : ℕ) (reach : IsMask (λ u. passes t.lines f.frame f.slot k u v) t.nodes reaching)
+      (sends : IsMask (λ u. is_some (m.sends u)) t.nodes senders) where
+    given : (i : ℕ) (d : Station) → i < length t.nodes → offer s m k v (get_or (map (station_at m) t.nodes) i d).node ≡ sent_at (map (station_at m) t.nodes)
+        (bit_and reaching senders) i d
     given i d below =
         let u = get_or t.nodes i 0 in
         let is = station_there i d below in
         ap (λ (x : Station). offer s m k v x.node) is
         ∙ ap (λ (b : Bool). if b then m.sends u else None) (flood.links k u v)
         ∙ sent_if (passes t.lines f.frame f.slot k u v) (m.sends u)
-        ∙ ap (λ (b : Bool). if b then m.sends u else None) (sym (both_tell t.nodes (λ w. passes t.lines f.frame f.slot k w v) (λ w. is_some (m.sends w)) reaching senders i reach sends below))
+        ∙ ap (λ (b : Bool). if b then m.sends u else None)
+        (sym (both_tell t.nodes (λ w. passes t.lines f.frame f.slot k w v) (λ w. is_some (m.sends w)) reaching senders i reach sends below))
         ∙ ap (λ (x : Station). if bit_at (bit_and reaching senders) i == 1 then x.sends else None) (sym is)
 
     -- the masks give what reaches v
@@ -121,7 +126,8 @@ module _ (s : Setting) (m : Moment) (t : Traced) (f : Flood) (k : ℕ) (flood : 
         by_may true = refl
         by_may false = refl
 
-    pub heard : (x : Station) (o : ℕ) → x ≡ station_at m v → may_hear_at f x place ≡ true → pick s m k v ≡ Some o → takes_at f x place o ≡ true → hears s m k v ≡ Some o
+    pub heard : (x : Station) (o : ℕ) → x ≡ station_at m v → may_hear_at f x place ≡ true → pick s m k v ≡ Some o → takes_at f x place o ≡ true
+        → hears s m k v ≡ Some o
     heard x o is may got takes_it =
         ap (λ (b : Bool). hearing b (pick s m k v)) (sym (may_read x is) ∙ may)
         ∙ ap (λ (w : Option ℕ). hearing true w) got

@@ -13,7 +13,8 @@ module _ (s : Setting) (inside : (v : ℕ) → has s.initiators v ≡ true → h
       let known = known_at s inside k in
       elim (only_from (candidates s m k v) (named s m k v) o (heard_parts (may_hear s m v) (takes s m v) (pick s m k v) o is).1) [
         | inl all ↦ (let u = from_filter (offer s m k v) s.everyone o all.0 in known.origins u.0 o (sends_parts (s.passes k u.0 v) (m.sends u.0) o u.2).1)
-        | inr other ↦ (let u = named_parts (offer s m k v) (s.captured k v) o other in known.origins u.0 o (sends_parts (s.passes k u.0 v) (m.sends u.0) o u.2).1)
+        | inr other ↦ (let u = named_parts (offer s m k v) (s.captured k v) o other in
+            known.origins u.0 o (sends_parts (s.passes k u.0 v) (m.sends u.0) o u.2).1)
       ]
 
   here : (k v o : ℕ) → hears s (moment s k) k v ≡ Some o → has s.everyone v ≡ true

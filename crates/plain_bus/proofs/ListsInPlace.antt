@@ -13,14 +13,16 @@ same_place xs ys i d same =
     ∙ ap (λ (n : ℕ). get_or ys n d) (add-zero i)
 
 -- one element more of a list that was mapped so far
-pub one_more_mapped : {X Y : Type 0} (g : X → Y) (olds : List X) (i : ℕ) (n : X) (ys : List Y) (y : Y) → i < length olds → n ≡ get_or olds i n → ys ≡ take i (map g olds) → y ≡ g n
+pub one_more_mapped : {X Y : Type 0} (g : X → Y) (olds : List X) (i : ℕ) (n : X) (ys : List Y) (y : Y) → i < length olds → n ≡ get_or olds i n
+    → ys ≡ take i (map g olds) → y ≡ g n
     → ys ++ y ∷ [] ≡ take (i + 1) (map g olds)
 one_more_mapped g olds i n ys y below at done is =
     ap (λ (l : List _). l ++ y ∷ []) done
     ∙ ap (λ (z : _). take i (map g olds) ++ z ∷ []) (is ∙ ap g at ∙ sym (get_or-map g olds i n y below))
     ∙ sym (take_more (map g olds) i y (omega (arith, below, length-map olds g)))
 
-pub one_more_changed : {X : Type 0} (g : X → X) (olds now : List X) (i : ℕ) (n y : X) → i < length olds → i < length now → n ≡ get_or olds i n → take i now ≡ take i (map g olds) → y ≡ g n
+pub one_more_changed : {X : Type 0} (g : X → X) (olds now : List X) (i : ℕ) (n y : X) → i < length olds → i < length now → n ≡ get_or olds i n
+    → take i now ≡ take i (map g olds) → y ≡ g n
     → take (i + 1) (set now i y) ≡ take (i + 1) (map g olds)
 one_more_changed g olds now i n y below there at done is = take_more_set now i y there ∙ one_more_mapped g olds i n (take i now) y below at done is
 

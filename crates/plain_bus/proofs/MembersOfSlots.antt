@@ -1,5 +1,6 @@
 -- Windows of nodes as the definitions have them, and the flood of a slot by masks.
-use Rattle.std.proofs.Common.{◌≡◌, ◌<◌, ℕ, List, [], ◌∷◌, Bool, true, false, ◌&&◌, ◌||◌, ◌==◌, nat_lt, Option, Some, None, is_some, refl, sym, ◌∙◌, ap, length, map, get_or, subst, if◌then◌else◌, inl, inr, arith}
+use Rattle.std.proofs.Common.{◌≡◌, ◌<◌, ℕ, List, [], ◌∷◌, Bool, true, false, ◌&&◌, ◌||◌, ◌==◌, nat_lt, Option, Some, None, is_some, refl, sym, ◌∙◌, ap, length}
+use Rattle.std.proofs.Common.{map, get_or, subst, if◌then◌else◌, inl, inr, arith}
 use Rattle.std.specs.List.{filter}
 use Rattle.std.proofs.lemmas.Bool.{false≢true, eqb-true, or_left, cases_lt, le-ltb}
 use Rattle.std.proofs.lemmas.List.{get_or-map, length-map}
@@ -30,7 +31,8 @@ window_at s rank f part v (StateOn c) = refl
 
 -- and so is its closing, from the state that its opening left
 pub closing_at : (s : ScenarioParts) (rank f : ℕ) (part : Part) (v : ℕ) (x : State) (heard : Option Message)
-    → closed_of (setup_in s v) f part (is_some (opened_at s rank f part v x)) (is_some (said_in (opened_at s rank f part v x))) heard (state_opened (setup_in s v) rank f part x)
+    → closed_of (setup_in s v) f part (is_some (opened_at s rank f part v x)) (is_some (said_in (opened_at s rank f part v x))) heard
+    (state_opened (setup_in s v) rank f part x)
     ≡ closed_by s f part v (opened_at s rank f part v x) heard x
 closing_at s rank f part v (StateOff boots) None = refl
 closing_at s rank f part v (StateOff boots) (Some m) = refl
@@ -38,7 +40,8 @@ closing_at s rank f part v (StateOn c) heard = by_member (is_member rank f c) he
   where
     by_member : (b : Bool) (heard : Option Message)
         → (let window : Option Opened = if b then Some (opened (setup_in s v) f part c) else None in
-        closed_of (setup_in s v) f part (is_some window) (is_some (said_in window)) heard (StateOn (if b then (opened (setup_in s v) f part c).core else c)) ≡ closed_by s f part v window heard (StateOn c))
+        closed_of (setup_in s v) f part (is_some window) (is_some (said_in window)) heard (StateOn (if b then (opened (setup_in s v) f part c).core else c))
+        ≡ closed_by s f part v window heard (StateOn c))
     by_member true heard = refl
     by_member false None = refl
     by_member false (Some m) = refl
@@ -52,7 +55,8 @@ has_filtered p (x ∷ xs) v = by_test (p x) (x == v) refl refl (has_filtered p x
     none true b not = refl
     none false b not = sym not
 
-    by_test : (b e : Bool) → p x ≡ b → (x == v) ≡ e → has (filter p xs) v ≡ (has xs v && p v) → has (if b then x ∷ filter p xs else filter p xs) v ≡ ((e || has xs v) && p v)
+    by_test : (b e : Bool) → p x ≡ b → (x == v) ≡ e → has (filter p xs) v ≡ (has xs v && p v) → has (if b then x ∷ filter p xs else filter p xs) v
+        ≡ ((e || has xs v) && p v)
     by_test true true is same rest = or_left (x == v) (has (filter p xs) v) same ∙ sym (ap p (sym (eqb-true x v same)) ∙ is)
     by_test true false is other rest = ap (λ (e : Bool). e || has (filter p xs) v) other ∙ rest
     by_test false true is same rest = rest ∙ none (has xs v) (p v) (ap p (sym (eqb-true x v same)) ∙ is)
@@ -90,14 +94,17 @@ module _ (s : ScenarioParts) (t : Traced) (rank f j : ℕ) (part : Part) (states
   abbrev joins : ℕ → Bool
   joins v = takes_part rank part (states v) (window v)
 
-  pub flood_of_slot : t.lines ≡ s.trace → IsSealed t s.nodes → x ≡ record { frame = f; slot = j; limit = s.sends; initiators = x.initiators; everyone = x.everyone; lone = None }
+  pub flood_of_slot : t.lines ≡ s.trace → IsSealed t s.nodes
+      → x ≡ record { frame = f; slot = j; limit = s.sends; initiators = x.initiators; everyone = x.everyone; lone = None }
       → IsMask says (ids s.nodes) x.initiators → IsMask joins (ids s.nodes) x.everyone → IsFlood (flood_of s rank f j part states window) t x
   flood_of_slot lines sealed is initiators everyone = record {
     limit = sym (ap (λ (y : Flood). y.limit) is);
     links = λ k u v. ap (λ (l : Lines). passes l f j k u v) (sym lines) ∙ ap (λ (y : Flood). passes t.lines y.frame y.slot k u v) (sym is);
     captures = λ k v. ap (λ (l : Lines). captured l f j k v) (sym lines) ∙ ap (λ (y : Flood). captured t.lines y.frame y.slot k v) (sym is);
-    initiators = subst (λ (ns : List ℕ). IsMask (has (filter says (ids s.nodes))) ns x.initiators) (sym sealed) (mask_of_filtered says (ids s.nodes) x.initiators initiators);
-    everyone = subst (λ (ns : List ℕ). IsMask (has (filter joins (ids s.nodes))) ns x.everyone) (sym sealed) (mask_of_filtered joins (ids s.nodes) x.everyone everyone);
+    initiators = subst (λ (ns : List ℕ). IsMask (has (filter says (ids s.nodes))) ns x.initiators) (sym sealed)
+        (mask_of_filtered says (ids s.nodes) x.initiators initiators);
+    everyone = subst (λ (ns : List ℕ). IsMask (has (filter joins (ids s.nodes))) ns x.everyone) (sym sealed)
+        (mask_of_filtered joins (ids s.nodes) x.everyone everyone);
     here = λ v there. ap (λ (ns : List ℕ). has ns v) sealed ∙ first_of (has (ids s.nodes) v) (joins v) (sym (has_filtered joins (ids s.nodes) v) ∙ there);
     inside = λ v there.
         (let both : (has (ids s.nodes) v && says v) ≡ true = sym (has_filtered says (ids s.nodes) v) ∙ there in
@@ -111,7 +118,8 @@ module _ (s : ScenarioParts) (t : Traced) (rank f j : ℕ) (part : Part) (states
       no_lone o is = cc
 
 -- one place more of two lists of tests
-pub same_test : {W : Type 0} (g : W → Bool) (ws : List W) (test : ℕ → Bool) (nodes : List ℕ) (i : ℕ) (w : W) → map g ws ≡ map test nodes → i < length ws → w ≡ get_or ws i w → (i < length nodes) × (test (get_or nodes i 0) ≡ g w)
+pub same_test : {W : Type 0} (g : W → Bool) (ws : List W) (test : ℕ → Bool) (nodes : List ℕ) (i : ℕ) (w : W) → map g ws ≡ map test nodes → i < length ws
+    → w ≡ get_or ws i w → (i < length nodes) × (test (get_or nodes i 0) ≡ g w)
 same_test g ws test nodes i w same below is =
     let size : length ws ≡ length nodes = sym (length-map ws g) ∙ ap length same ∙ length-map nodes test in
     let here : i < length nodes = omega (arith, below, size) in
@@ -128,7 +136,8 @@ map_same g h same xs i = map (λ x. same x i) xs
 module _ (s : ScenarioParts) (rank f : ℕ) (part : Part) (states : ℕ → State) (ws : List Window)
     (are : map seen ws ≡ map (λ v. seen_by rank part (states v) (opened_at s rank f part v (states v))) (ids s.nodes)) where
   told : (g : Seen → Bool) → map (λ w. g (seen w)) ws ≡ map (λ v. g (seen_by rank part (states v) (opened_at s rank f part v (states v)))) (ids s.nodes)
-  told g = map_of_map g seen ws ∙ ap (map g) are ∙ sym (map_of_map g (λ (v : ℕ). seen_by rank part (states v) (opened_at s rank f part v (states v))) (ids s.nodes))
+  told g = map_of_map g seen ws ∙ ap (map g) are
+      ∙ sym (map_of_map g (λ (v : ℕ). seen_by rank part (states v) (opened_at s rank f part v (states v))) (ids s.nodes))
 
   pub windows_seen : AreWindows s rank f part states ws
   windows_seen = record {

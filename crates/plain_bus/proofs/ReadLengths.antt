@@ -1,5 +1,6 @@
 -- How many bytes a packet has that reads as something.
-use Rattle.std.proofs.Common.{◌≡◌, ◌≤◌, ◌+◌, ◌&&◌, ◌==◌, ℕ, List, Bool, true, false, Option, Some, None, nat_le, if◌then◌else◌, is_some, length, drop, slice_index, refl, sym, ◌∙◌, ap, arith, length-drop}
+use Rattle.std.proofs.Common.{◌≡◌, ◌≤◌, ◌+◌, ◌&&◌, ◌==◌, ℕ, List, Bool, true, false, Option, Some, None, nat_le, if◌then◌else◌, is_some, length, drop}
+use Rattle.std.proofs.Common.{slice_index, refl, sym, ◌∙◌, ap, arith, length-drop}
 use Rattle.std.specs.Option.{option_map, option_map_or}
 use Rattle.std.proofs.lemmas.Bool.{and_parts, eqb-true, leb-true}
 use Rattle.lwb_base.specs.Messages.{Schedule, length_of}
@@ -30,12 +31,14 @@ schedule_long p x is =
     sym (length-spelling x j k) ∙ ap length (bytes_same (spelling x j k) p spelled)
 
 module _ (p : List ℕ) where
-  of_schedule : (o : Option Schedule) → schedule_of p ≡ o → is_some (option_map ScheduleOf o) ≡ true → option_map_or message_length (option_map ScheduleOf o) 0 ≡ length p
+  of_schedule : (o : Option Schedule) → schedule_of p ≡ o → is_some (option_map ScheduleOf o) ≡ true
+      → option_map_or message_length (option_map ScheduleOf o) 0 ≡ length p
   of_schedule None at is = absurd (cc)
   of_schedule (Some x) at is = schedule_long p x at
 
   by_kind : (d r : Bool) → is_data p ≡ d → is_request p ≡ r
-      → (let m : Option Message = if d then Some (DataOf (data_in p)) else if r then Some (RequestOf (request_in p)) else option_map ScheduleOf (schedule_of p) in is_some m ≡ true → option_map_or message_length m 0 ≡ length p)
+      → (let m : Option Message = if d then Some (DataOf (data_in p)) else if r then Some (RequestOf (request_in p)) else option_map ScheduleOf
+      (schedule_of p) in is_some m ≡ true → option_map_or message_length m 0 ≡ length p)
   by_kind true r is_d is_r is = data_long p is_d
   by_kind false true is_d is_r is = request_long p is_r
   by_kind false false is_d is_r is = of_schedule (schedule_of p) refl is

@@ -1,5 +1,6 @@
 -- The leader of a round, found among the nodes as the code has them.
-use Rattle.std.proofs.Common.{◌≡◌, ◌<◌, ◌+◌, ◌==◌, ◌∷◌, [], ℕ, zero, suc, List, Bool, true, false, inl, inr, Option, Some, None, if◌then◌else◌, length, map, take, get_or, refl, sym, ◌∙◌, ap, subst, arith, add-one, option_and_then}
+use Rattle.std.proofs.Common.{◌≡◌, ◌<◌, ◌+◌, ◌==◌, ◌∷◌, [], ℕ, zero, suc, List, Bool, true, false, inl, inr, Option, Some, None, if◌then◌else◌, length, map}
+use Rattle.std.proofs.Common.{take, get_or, refl, sym, ◌∙◌, ap, subst, arith, add-one, option_and_then}
 use Rattle.std.specs.List.{find}
 use Rattle.std.specs.Option.{option_map, option_or}
 use Rattle.std.proofs.lemmas.Bool.{and_parts, false≢true, cases_Bool, eqb-true}
@@ -66,7 +67,8 @@ pub find_mapped : {X Y : Type 0} (p : Y → Bool) (g : X → Y) (xs : List X) �
 find_mapped p g [] = refl
 find_mapped p g (x ∷ xs) = by_first (p (g x)) (find_mapped p g xs)
   where
-    by_first : (b : Bool) → find p (map g xs) ≡ option_map g (find (λ x. p (g x)) xs) → (if b then Some (g x) else find p (map g xs)) ≡ option_map g (if b then Some x else find (λ x. p (g x)) xs)
+    by_first : (b : Bool) → find p (map g xs) ≡ option_map g (find (λ x. p (g x)) xs) → (if b then Some (g x) else find p (map g xs))
+        ≡ option_map g (if b then Some x else find (λ x. p (g x)) xs)
     by_first true rest = refl
     by_first false rest = rest
 
@@ -93,7 +95,8 @@ module _ (rank : ℕ) (test : Core → Bool) (ranked : (c : Core) → test c ≡
     | inr fails ↦ sym fails
   ]
 
-  parts_same : (x other : State) (r : Bool) → (rank_in x == rank) ≡ r → is_on test x ≡ true → option_map parts_of (plan_in x) ≡ Some (parts_in (if r then x else other))
+  parts_same : (x other : State) (r : Bool) → (rank_in x == rank) ≡ r → is_on test x ≡ true → option_map parts_of (plan_in x)
+      ≡ Some (parts_in (if r then x else other))
   parts_same (StateOff boots) other r at is = absurd (false≢true is)
   parts_same (StateOn c) other true at is = refl
   parts_same (StateOn c) other false at is = absurd (false≢true (sym at ∙ ranked c is))
@@ -102,7 +105,8 @@ module _ (rank : ℕ) (test : Core → Bool) (ranked : (c : Core) → test c ≡
     abbrev node : ℕ → BusNode
     node v = bus_node s (ranks_in start) (mixed rank (ranks_in start) start others) v
 
-    pub found_as : option_map parts_at (find (λ n. is_on test (shown rank n)) (map node (ids s.nodes))) ≡ option_and_then (λ v. option_map parts_of (plan_in (start v))) (find (λ v. is_on test (start v)) (ids s.nodes))
+    pub found_as : option_map parts_at (find (λ n. is_on test (shown rank n)) (map node (ids s.nodes)))
+        ≡ option_and_then (λ v. option_map parts_of (plan_in (start v))) (find (λ v. is_on test (start v)) (ids s.nodes))
     found_as =
         ap (option_map parts_at) (find_mapped (λ n. is_on test (shown rank n)) node (ids s.nodes)
         ∙ (λ i. option_map node (find (λ v. same_test (start v) (others v) (ranks_in start v == rank) refl i) (ids s.nodes))))
@@ -111,7 +115,8 @@ module _ (rank : ℕ) (test : Core → Bool) (ranked : (c : Core) → test c ≡
         by_found : (o : Option ℕ) → find (λ v. is_on test (start v)) (ids s.nodes) ≡ o
             → option_map parts_at (option_map node o) ≡ option_and_then (λ v. option_map parts_of (plan_in (start v))) o
         by_found None is = refl
-        by_found (Some v) is = sym (parts_same (start v) (others v) (ranks_in start v == rank) refl (found_passes (λ u. is_on test (start u)) (ids s.nodes) v is))
+        by_found (Some v) is = sym (parts_same (start v) (others v) (ranks_in start v == rank) refl
+            (found_passes (λ u. is_on test (start u)) (ids s.nodes) v is))
 
 abbrev parts_by : (ℕ → State) → Option ℕ → Option (List Part)
 parts_by start o = option_and_then (λ v. option_map parts_of (plan_in (start v))) o
@@ -124,15 +129,19 @@ both_found None (Some u) start some = refl
 both_found (Some v) o start some = let ps = some v refl in ap (λ (l : Option (List Part)). option_or l (parts_by start o)) ps.1 ∙ sym ps.1
 
 pub led : (s : ScenarioParts) (rank f : ℕ) (start others : ℕ → State) (nodes : List BusNode) → nodes ≡ nodes_in s rank start start others
-    → option_or (option_map parts_at (find (leads rank f) nodes)) (option_map parts_at (find (holds rank f) nodes)) ≡ option_map parts_of (round_plan s rank f start)
+    → option_or (option_map parts_at (find (leads rank f) nodes)) (option_map parts_at (find (holds rank f) nodes))
+    ≡ option_map parts_of (round_plan s rank f start)
 led s rank f start others nodes are =
     let hosting : Core → Bool = λ c. hosts_in rank f c.tune in
     let holding : Core → Bool = λ c. holds_in rank f c.tune in
     ap (λ (l : List BusNode). option_or (option_map parts_at (find (leads rank f) l)) (option_map parts_at (find (holds rank f) l))) are
-    ∙ ap (λ (o : Option (List Part)). option_or o (option_map parts_at (find (holds rank f) (nodes_in s rank start start others)))) (found_as rank hosting (λ c is. hosts_rank rank f c.tune is) s start others)
-    ∙ ap (λ (o : Option (List Part)). option_or (parts_by start (find (λ v. is_on hosting (start v)) (ids s.nodes))) o) (found_as rank holding (λ c is. holds_rank rank f c.tune is) s start others)
+    ∙ ap (λ (o : Option (List Part)). option_or o (option_map parts_at (find (holds rank f) (nodes_in s rank start start others))))
+    (found_as rank hosting (λ c is. hosts_rank rank f c.tune is) s start others)
+    ∙ ap (λ (o : Option (List Part)). option_or (parts_by start (find (λ v. is_on hosting (start v)) (ids s.nodes))) o)
+    (found_as rank holding (λ c is. holds_rank rank f c.tune is) s start others)
     ∙ both_found (find (λ v. is_on hosting (start v)) (ids s.nodes)) (find (λ v. is_on holding (start v)) (ids s.nodes)) start
     (λ v is. (
       parts_in (if ranks_in start v == rank then start v else others v),
-      parts_same rank hosting (λ c test. hosts_rank rank f c.tune test) (start v) (others v) (ranks_in start v == rank) refl (found_passes (λ u. is_on hosting (start u)) (ids s.nodes) v is),
+      parts_same rank hosting (λ c test. hosts_rank rank f c.tune test) (start v) (others v) (ranks_in start v == rank) refl
+          (found_passes (λ u. is_on hosting (start u)) (ids s.nodes) v is),
     ))

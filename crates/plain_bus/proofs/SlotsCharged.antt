@@ -1,5 +1,6 @@
 -- What the code charges for a slot is what the slot of the round costs, at all nodes.
-use Rattle.std.proofs.Common.{◌≡◌, ◌+◌, ◌*◌, ◌==◌, ◌&&◌, ◌∷◌, [], ℕ, List, Bool, true, false, Option, Some, None, is_some, if◌then◌else◌, length, map, filter, filter_map, refl, sym, ◌∙◌, ap, subst, arith, inl, inr, sum_by}
+use Rattle.std.proofs.Common.{◌≡◌, ◌+◌, ◌*◌, ◌==◌, ◌&&◌, ◌∷◌, [], ℕ, List, Bool, true, false, Option, Some, None, is_some, if◌then◌else◌, length, map, filter}
+use Rattle.std.proofs.Common.{filter_map, refl, sym, ◌∙◌, ap, subst, arith, inl, inr, sum_by}
 use Rattle.std.specs.List.{cons_option}
 use Rattle.std.specs.Option.{option_map, option_map_or}
 use Rattle.std.proofs.lemmas.Bool.{cases_Bool}
@@ -58,25 +59,31 @@ module _ (s : ScenarioParts) (rank f : ℕ) (p : Plan) (start others : ℕ → S
           )
     ]
 
-    one_sent : (k : ℕ) (rest more : List ℕ) (o : Option ℕ) → (moment x.flood k).sends v ≡ o → filter_map (λ (i : ℕ). option_map (λ (origin : ℕ). (i, length_at x origin)) ((moment x.flood i).sends v)) rest ≡ sent_as (bytes_of b v) more
-        → cons_option (option_map (λ (origin : ℕ). (k, length_at x origin)) o) (filter_map (λ (i : ℕ). option_map (λ (origin : ℕ). (i, length_at x origin)) ((moment x.flood i).sends v)) rest)
+    one_sent : (k : ℕ) (rest more : List ℕ) (o : Option ℕ) → (moment x.flood k).sends v ≡ o
+        → filter_map (λ (i : ℕ). option_map (λ (origin : ℕ). (i, length_at x origin)) ((moment x.flood i).sends v)) rest ≡ sent_as (bytes_of b v) more
+        → cons_option (option_map (λ (origin : ℕ). (k, length_at x origin)) o)
+        (filter_map (λ (i : ℕ). option_map (λ (origin : ℕ). (i, length_at x origin)) ((moment x.flood i).sends v)) rest)
         ≡ sent_as (bytes_of b v) (if is_some o then k ∷ more else more)
     one_sent k rest more None is same = same
     one_sent k rest more (Some o) is same =
         ap (λ (n : ℕ). (k, n) ∷ filter_map (λ (i : ℕ). option_map (λ (origin : ℕ). (i, length_at x origin)) ((moment x.flood i).sends v)) rest) (long k o is)
         ∙ ap (λ (l : List (ℕ × ℕ)). (k, bytes_of b v) ∷ l) same
 
-    all_sent : (ks : List ℕ) → filter_map (λ (i : ℕ). option_map (λ (origin : ℕ). (i, length_at x origin)) ((moment x.flood i).sends v)) ks ≡ sent_as (bytes_of b v) (filter (sends_in x.flood v) ks)
+    all_sent : (ks : List ℕ) → filter_map (λ (i : ℕ). option_map (λ (origin : ℕ). (i, length_at x origin)) ((moment x.flood i).sends v)) ks
+        ≡ sent_as (bytes_of b v) (filter (sends_in x.flood v) ks)
     all_sent [] = refl
     all_sent (k ∷ ks) = one_sent k ks (filter (sends_in x.flood v) ks) ((moment x.flood k).sends v) refl (all_sent ks)
 
     sent_is : sent_by x v ≡ sent_as (bytes_of b v) (steps_in (sends_in x.flood v))
     sent_is = all_sent steps
 
-    pub slot_charged_at : (c : Cost) → with_slot s.profile s.sends (b.window v).is_open (bytes_of b v) (steps_in (sends_in x.flood v)) c ≡ with_slot_at s rank f p start j v c
+    pub slot_charged_at : (c : Cost) → with_slot s.profile s.sends (b.window v).is_open (bytes_of b v) (steps_in (sends_in x.flood v)) c
+        ≡ with_slot_at s rank f p start j v c
     slot_charged_at c =
-        let cost : ℕ → List (ℕ × ℕ) → Cost = λ sent ls. record c { sent = c.sent + sent; windows = c.windows + (if is_some (x.window v) then charge s.profile (last_of s.sends ls) else 0) } in
-        ap (λ (n : ℕ). cost n (sent_as (bytes_of b v) (steps_in (sends_in x.flood v)))) (sym (sent_in_all s.profile (bytes_of b v) (steps_in (sends_in x.flood v))))
+        let cost : ℕ → List (ℕ × ℕ) → Cost =
+        λ sent ls. record c { sent = c.sent + sent; windows = c.windows + (if is_some (x.window v) then charge s.profile (last_of s.sends ls) else 0) } in
+        ap (λ (n : ℕ). cost n (sent_as (bytes_of b v) (steps_in (sends_in x.flood v))))
+        (sym (sent_in_all s.profile (bytes_of b v) (steps_in (sends_in x.flood v))))
         ∙ ap (λ (ls : List (ℕ × ℕ)). cost (sum_by (λ (a : ℕ × ℕ). airtime s.profile a.1) ls) ls) (sym sent_is)
 
   pub slot_costs : (cost : ℕ → Cost) → map (slot_charged s.profile rank s.sends b (sends_in x.flood) (node_at s rank f p start others j) cost) (ids s.nodes)

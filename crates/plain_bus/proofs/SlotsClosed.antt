@@ -1,5 +1,6 @@
 -- What the closing of a slot changes and delivers is what the round's definition says of each node.
-use Rattle.std.proofs.Common.{◌≡◌, ℕ, List, Bool, true, false, ◌&&◌, ◌||◌, ◌==◌, Option, Some, None, is_some, refl, sym, ◌∙◌, ap, if◌then◌else◌, option_map, option_and_then}
+use Rattle.std.proofs.Common.{◌≡◌, ℕ, List, Bool, true, false, ◌&&◌, ◌||◌, ◌==◌, Option, Some, None, is_some, refl, sym, ◌∙◌, ap, if◌then◌else◌, option_map}
+use Rattle.std.proofs.Common.{option_and_then}
 use Rattle.std.proofs.lemmas.Bool.{false≢true, eq-eqb, and_parts}
 use Rattle.lwb_base.specs.Messages.{Schedule, node_of, stream_of}
 use Rattle.bus_rules.specs.Streams.{Waiting, first_waiting, requested}
@@ -34,7 +35,8 @@ module _ (s : ScenarioParts) (rank f : ℕ) (part : Part) (v : ℕ) (x : State) 
   window = opened_at s rank f part v x
 
   pub seen_mixed : (b : Bool) (o : State) → (b ≡ false → IsElsewhere rank x)
-      → (let y : State = if b then (if b then x else o) else StateOff 0 in seen_by rank part y (window_of (setup_in s v) rank f part y)) ≡ seen_by rank part x window
+      → (let y : State = if b then (if b then x else o) else StateOff 0 in seen_by rank part y (window_of (setup_in s v) rank f part y))
+      ≡ seen_by rank part x window
   seen_mixed true o other = ap (λ (w : Option Opened). seen_by rank part x w) (window_at s rank f part v x)
   seen_mixed false o other =
       ap (λ (t : Bool). record { is_open = false; takes_part = t; initiates = false; message = None }) (none_takes rank part x (other refl))
@@ -42,14 +44,16 @@ module _ (s : ScenarioParts) (rank f : ℕ) (part : Part) (v : ℕ) (x : State) 
 
 -- what a closing leaves of the state that the opening left
 pub left_opened : (s : ScenarioParts) (rank f : ℕ) (part : Part) (v : ℕ) (x : State) (heard : Option Message)
-    → left_by (state_opened (setup_in s v) rank f part x) (closed_by s f part v (opened_at s rank f part v x) heard x) ≡ left_by x (closed_by s f part v (opened_at s rank f part v x) heard x)
+    → left_by (state_opened (setup_in s v) rank f part x) (closed_by s f part v (opened_at s rank f part v x) heard x)
+    ≡ left_by x (closed_by s f part v (opened_at s rank f part v x) heard x)
 left_opened s rank f part v (StateOff boots) None = refl
 left_opened s rank f part v (StateOff boots) (Some m) = refl
 left_opened s rank f part v (StateOn c) heard = by_member (is_member rank f c) heard
   where
     by_member : (b : Bool) (heard : Option Message)
         → (let window : Option Opened = if b then Some (opened (setup_in s v) f part c) else None in
-        left_by (StateOn (if b then (opened (setup_in s v) f part c).core else c)) (closed_by s f part v window heard (StateOn c)) ≡ left_by (StateOn c) (closed_by s f part v window heard (StateOn c)))
+        left_by (StateOn (if b then (opened (setup_in s v) f part c).core else c)) (closed_by s f part v window heard (StateOn c))
+        ≡ left_by (StateOn c) (closed_by s f part v window heard (StateOn c)))
     by_member true heard = refl
     by_member false None = refl
     by_member false (Some m) = refl
@@ -84,7 +88,8 @@ tune_opened s f (DataSlot o) v c is = is
 tune_opened s f (Contention i) v c is = is
 tune_opened s f Closing v c is = rw (hosts_none (rank_of c.tune) f c.tune is) is
 
-member_host : (rank f : ℕ) (t : Tune) (fresh : Bool) → hosts t ≡ true → (hosts_in rank f t || holds_in rank f t || (scans rank t && fresh)) ≡ true → hosts_in rank f t ≡ true
+member_host : (rank f : ℕ) (t : Tune) (fresh : Bool) → hosts t ≡ true → (hosts_in rank f t || holds_in rank f t || (scans rank t && fresh)) ≡ true
+    → hosts_in rank f t ≡ true
 member_host rank f (Scan r w) fresh host is = absurd (false≢true host)
 member_host rank f (Hold r d) fresh host is = absurd (false≢true host)
 member_host rank f (Host r d) fresh host is = by_test ((r == rank) && (d == f)) is
@@ -119,7 +124,8 @@ may_accept s rank f part v (StateOn c) (Some (ScheduleOf m)) quiet outside plain
   where
     by_tests : (b h t : Bool) → is_member rank f c ≡ b → hosts c.tune ≡ h → is_schedule_part part ≡ t
         → (is_some (said_in (if b then Some (opened (setup_in s v) f part c) else None)) ≡ true → ◌≡◌ {A = Option Message} (Some (ScheduleOf m)) None)
-        → (takes_part rank part (StateOn c) (if b then Some (opened (setup_in s v) f part c) else None) ≡ false → ◌≡◌ {A = Option Message} (Some (ScheduleOf m)) None)
+        → (takes_part rank part (StateOn c) (if b then Some (opened (setup_in s v) f part c) else None) ≡ false
+        → ◌≡◌ {A = Option Message} (Some (ScheduleOf m)) None)
         → hosts (if b then (opened (setup_in s v) f part c).core else c).tune ≡ false
     by_tests b h false is host sched quiet outside = absurd (plain sched m refl)
     by_tests true false true is host sched quiet outside = tune_opened s f part v c host

@@ -1,5 +1,6 @@
 -- What stands behind the flood of a slot, as the code has it.
-use Rattle.std.proofs.Common.{◌≡◌, ◌<◌, ◌≤◌, ◌+◌, ◌++◌, [], ◌∷◌, ℕ, is_some, List, Option, All, true, Some, None, length, map, take, drop, get_or, refl, sym, ◌∙◌, ap, subst, arith, append-nil}
+use Rattle.std.proofs.Common.{◌≡◌, ◌<◌, ◌≤◌, ◌+◌, ◌++◌, [], ◌∷◌, ℕ, is_some, List, Option, All, true, Some, None, length, map, take, drop, get_or, refl, sym}
+use Rattle.std.proofs.Common.{◌∙◌, ap, subst, arith, append-nil}
 use Rattle.std.specs.List.{AllPairs}
 use Rattle.std.proofs.lemmas.List.{take_all, take_more, drop_all, length-map}
 use Rattle.lwb_base.specs.Messages.{Plan}
@@ -48,12 +49,15 @@ module _ (s : ScenarioParts) (rank f : ℕ) (p : Plan) (start others : ℕ → S
   flood = (slot_at s rank f p start j).flood
 
   pub behind_slot : (ws : List Window) (xs : List Station) → ((v : ℕ) → has flood.initiators v ≡ true → has flood.everyone v ≡ true)
-      → map seen ws ≡ map (window_seen s rank f p start others j) (ids s.nodes) → xs ≡ map (station_at (moment flood STEPS)) (ids s.nodes) → IsBehind (behind s rank f p start others j) (ids s.nodes) ws xs
+      → map seen ws ≡ map (window_seen s rank f p start others j) (ids s.nodes) → xs ≡ map (station_at (moment flood STEPS)) (ids s.nodes)
+      → IsBehind (behind s rank f p start others j) (ids s.nodes) ws xs
   behind_slot ws xs inside windows are = record {
     windows = windows;
-    ids = ap (map (λ (x : Station). x.node)) are ∙ sym (map_of_map (λ (x : Station). x.node) (station_at (moment flood STEPS)) (ids s.nodes)) ∙ same_list (ids s.nodes);
+    ids = ap (map (λ (x : Station). x.node)) are ∙ sym (map_of_map (λ (x : Station). x.node) (station_at (moment flood STEPS)) (ids s.nodes))
+        ∙ same_list (ids s.nodes);
     firsts = ap (map (λ (x : Station). x.heard)) are ∙ sym (map_of_map (λ (x : Station). x.heard) (station_at (moment flood STEPS)) (ids s.nodes));
-    here = λ v o k is. in_whole (λ u. is_some (said_in (opened_at s rank f (part_of p j) u (before_slot s rank f p start j u)))) (ids s.nodes) o (heard_origin flood inside v o k is);
+    here = λ v o k is. in_whole (λ u. is_some (said_in (opened_at s rank f (part_of p j) u (before_slot s rank f p start j u)))) (ids s.nodes) o
+        (heard_origin flood inside v o k is);
   }
     where
       same_list : (l : List ℕ) → map (λ v. v) l ≡ l

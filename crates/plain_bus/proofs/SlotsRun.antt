@@ -1,5 +1,6 @@
 -- A slot run by code is the slot of the round, at all nodes.
-use Rattle.std.proofs.Common.{◌≡◌, ℕ, ◌+◌, suc, List, [], ◌∷◌, Bool, true, false, ◌==◌, ◌&&◌, Option, Some, None, is_some, refl, sym, ◌∙◌, ap, if◌then◌else◌, option_map, option_and_then, subst, map, filter, filter_map, add-one}
+use Rattle.std.proofs.Common.{◌≡◌, ℕ, ◌+◌, suc, List, [], ◌∷◌, Bool, true, false, ◌==◌, ◌&&◌, Option, Some, None, is_some, refl, sym, ◌∙◌, ap, if◌then◌else◌}
+use Rattle.std.proofs.Common.{option_map, option_and_then, subst, map, filter, filter_map, add-one}
 use Rattle.std.specs.List.{cons_option}
 use Rattle.std.proofs.lemmas.Bool.{false≢true, or_left, or_right, eq-eqb}
 use Rattle.lwb_base.specs.Messages.{Plan, Schedule}
@@ -10,7 +11,8 @@ use Rattle.bus_rules.specs.Slots.{Message, ScheduleOf, Opened, Closed, part_of, 
 use Rattle.bus_rules.specs.States.{State, StateOff, StateOn}
 use Rattle.bus_model.specs.FloodOfText.{ids}
 use Rattle.bus_model.specs.Flooding.{Setting, moment, has, STEPS}
-use Rattle.bus_model.specs.Rounds.{Slot, opened_at, said_in, takes_part, closed_by, closed_at, left_by, accepted_at, before_slot, after_slot, slot_at, rank_in, delivered_at}
+use Rattle.bus_model.specs.Rounds.{Slot, opened_at, said_in, takes_part, closed_by, closed_at, left_by, accepted_at, before_slot, after_slot, slot_at, rank_in}
+use Rattle.bus_model.specs.Rounds.{delivered_at}
 use Rattle.bus_model.specs.ScriptedStates.{setup_in}
 use Rattle.bus_model.proofs.OtherRanks.{IsElsewhere, no_window, slots_elsewhere}
 use Rattle.bus_model.proofs.ReceivedByPaths.{of_filtered}
@@ -25,11 +27,13 @@ pub elsewhere_by : (rank : ℕ) (x : State) → (rank_in x == rank) ≡ false �
 elsewhere_by rank (StateOff boots) is = tt
 elsewhere_by rank (StateOn c) is = is
 
-slot_next : (s : ScenarioParts) (rank f : ℕ) (p : Plan) (start : ℕ → State) (j : ℕ) → before_slot s rank f p start (suc j) ≡ after_slot s rank f p j (before_slot s rank f p start j)
+slot_next : (s : ScenarioParts) (rank f : ℕ) (p : Plan) (start : ℕ → State) (j : ℕ) → before_slot s rank f p start (suc j) ≡ after_slot s rank f p j
+    (before_slot s rank f p start j)
 unfolding before_slot
 slot_next s rank f p start j = refl
 
-pub slot_more : (s : ScenarioParts) (rank f : ℕ) (p : Plan) (start : ℕ → State) (j : ℕ) → before_slot s rank f p start (j + 1) ≡ after_slot s rank f p j (before_slot s rank f p start j)
+pub slot_more : (s : ScenarioParts) (rank f : ℕ) (p : Plan) (start : ℕ → State) (j : ℕ) → before_slot s rank f p start (j + 1) ≡ after_slot s rank f p j
+    (before_slot s rank f p start j)
 slot_more s rank f p start j = ap (λ (n : ℕ). before_slot s rank f p start n) (add-one j) ∙ slot_next s rank f p start j
 
 -- two maps that agree on a list
@@ -81,20 +85,23 @@ module _ (s : ScenarioParts) (rank f : ℕ) (p : Plan) (start others : ℕ → S
       subst (IsElsewhere rank) (sym (slots_elsewhere s rank f p v start there j)) there
 
   -- the windows of the nodes
-  pub seen_all : (nodes : List BusNode) (q : Part) → nodes ≡ nodes_before s rank f p start others j → q ≡ part_of p j → map (seen_of rank f q) nodes ≡ map window_seen (ids s.nodes)
+  pub seen_all : (nodes : List BusNode) (q : Part) → nodes ≡ nodes_before s rank f p start others j → q ≡ part_of p j
+      → map (seen_of rank f q) nodes ≡ map window_seen (ids s.nodes)
   seen_all nodes q are is =
       ap (map (seen_of rank f q)) are ∙ ap (λ (r : Part). map (seen_of rank f r) (nodes_before s rank f p start others j)) is
       ∙ sym (map_of_map (seen_of rank f part) (bus_node s (ranks_in start) (mixed rank (ranks_in start) states others)) (ids s.nodes))
       ∙ map_same (λ (v : ℕ). seen_of rank f part (bus_node s (ranks_in start) (mixed rank (ranks_in start) states others) v)) window_seen
       (λ v. seen_mixed s rank f part v (states v) (ranks_in start v == rank) (others v) (other_rank v)) (ids s.nodes)
 
-  pub opened_all : (nodes : List BusNode) (q : Part) → nodes ≡ nodes_before s rank f p start others j → q ≡ part_of p j → map (node_opened rank f q) nodes ≡ map node_at (ids s.nodes)
+  pub opened_all : (nodes : List BusNode) (q : Part) → nodes ≡ nodes_before s rank f p start others j → q ≡ part_of p j → map (node_opened rank f q) nodes
+      ≡ map node_at (ids s.nodes)
   opened_all nodes q are is =
       ap (map (node_opened rank f q)) are ∙ ap (λ (r : Part). map (node_opened rank f r) (nodes_before s rank f p start others j)) is
       ∙ sym (map_of_map (node_opened rank f part) (bus_node s (ranks_in start) (mixed rank (ranks_in start) states others)) (ids s.nodes))
 
   -- what a node accepts
-  turned_round : (c : Bool) (o : Option (ℕ × ℕ)) → (if c then None else option_and_then (λ (a : ℕ × ℕ). said_in (window a.0)) o) ≡ option_and_then (λ (a : ℕ × ℕ). said_in (window a.0)) (if c then None else o)
+  turned_round : (c : Bool) (o : Option (ℕ × ℕ)) → (if c then None else option_and_then (λ (a : ℕ × ℕ). said_in (window a.0)) o)
+      ≡ option_and_then (λ (a : ℕ × ℕ). said_in (window a.0)) (if c then None else o)
   turned_round true o = refl
   turned_round false o = refl
 
@@ -116,7 +123,8 @@ module _ (s : ScenarioParts) (rank f : ℕ) (p : Plan) (start others : ℕ → S
   apart v there is =
       let other = other_rank v is in
       outside v there
-      (ap (takes_part rank part (states v)) (no_window s rank f part v (states v) other) ∙ sym (none_takes rank part (states v) other) ∙ sched_none (is_schedule_part part))
+      (ap (takes_part rank part (states v)) (no_window s rank f part v (states v) other) ∙ sym (none_takes rank part (states v) other)
+      ∙ sched_none (is_schedule_part part))
 
   plain : (v : ℕ) → is_schedule_part part ≡ false → (m : Schedule) → heard_at behind v ≡ Some (ScheduleOf m) → ⊥
   plain v no_sched m is = by_first (is_some (said_in (window v))) ((moment x.flood STEPS).heard v) is
@@ -131,7 +139,8 @@ module _ (s : ScenarioParts) (rank f : ℕ) (p : Plan) (start others : ℕ → S
   all_may v there = by_rank (ranks_in start v == rank) refl
     where
       by_rank : (c : Bool) → (ranks_in start v == rank) ≡ c
-          → MayAcceptIn (if c then state_opened (setup_in s v) rank f part (if c then states v else others v) else (if c then states v else others v)) (heard_at behind v)
+          → MayAcceptIn (if c then state_opened (setup_in s v) rank f part (if c then states v else others v) else (if c then states v else others v))
+          (heard_at behind v)
       by_rank true is = may_accept s rank f part v (states v) (heard_at behind v)
           (λ says. ap (λ (c : Bool). if c then None else option_and_then (λ (a : ℕ × ℕ). said_in (window a.0)) ((moment x.flood STEPS).heard v)) says)
           (outside v there) (plain v)
@@ -140,21 +149,24 @@ module _ (s : ScenarioParts) (rank f : ℕ) (p : Plan) (start others : ℕ → S
   -- the closing of a node
   closes : (v : ℕ) → has (ids s.nodes) v ≡ true → (c : Bool) → (ranks_in start v == rank) ≡ c
       → (let y : State = if c then state_opened (setup_in s v) rank f part (if c then states v else others v) else (if c then states v else others v) in
-      closed_of (setup_in s v) f part (is_some (window v)) (is_some (said_in (window v))) (heard_at behind v) y) ≡ closed_by s f part v (window v) (heard_at behind v) (states v)
+      closed_of (setup_in s v) f part (is_some (window v)) (is_some (said_in (window v))) (heard_at behind v) y) ≡ closed_by s f part v (window v)
+      (heard_at behind v) (states v)
   closes v there true is = closing_at s rank f part v (states v) (heard_at behind v)
   closes v there false is =
       let shut = no_window s rank f part v (states v) (other_rank v is) in
       let deaf = apart v there is in
       ap (λ (w : Option Opened). closed_of (setup_in s v) f part (is_some w) (is_some (said_in w)) (heard_at behind v) (others v)) shut
       ∙ ap (λ (h : Option Message). closed_of (setup_in s v) f part false false h (others v)) deaf ∙ untouched s f part v (others v)
-      ∙ ap (λ (h : Option Message). closed_by s f part v None h (states v)) (sym deaf) ∙ ap (λ (w : Option Opened). closed_by s f part v w (heard_at behind v) (states v)) (sym shut)
+      ∙ ap (λ (h : Option Message). closed_by s f part v None h (states v)) (sym deaf)
+      ∙ ap (λ (w : Option Opened). closed_by s f part v w (heard_at behind v) (states v)) (sym shut)
 
   closed_as : (v : ℕ) → has (ids s.nodes) v ≡ true → closed_by s f part v (window v) (heard_at behind v) (states v) ≡ closed_at s f x states v
   closed_as v there = ap (λ (h : Option Message). closed_by s f part v (window v) h (states v)) (accepts_as v there)
 
   leaves : (v : ℕ) → has (ids s.nodes) v ≡ true → (c : Bool) → (ranks_in start v == rank) ≡ c
       → (let y : State = if c then state_opened (setup_in s v) rank f part (if c then states v else others v) else (if c then states v else others v) in
-      left_by y (closed_of (setup_in s v) f part (is_some (window v)) (is_some (said_in (window v))) (heard_at behind v) y)) ≡ (if c then after_slot s rank f p j states v else others v)
+      left_by y (closed_of (setup_in s v) f part (is_some (window v)) (is_some (said_in (window v))) (heard_at behind v) y))
+      ≡ (if c then after_slot s rank f p j states v else others v)
   leaves v there true is =
       ap (left_by (state_opened (setup_in s v) rank f part (states v))) (closes v there true is)
       ∙ left_opened s rank f part v (states v) (heard_at behind v) ∙ ap (left_by (states v)) (closed_as v there)
@@ -165,10 +177,12 @@ module _ (s : ScenarioParts) (rank f : ℕ) (p : Plan) (start others : ℕ → S
 
   pub nodes_closed : map (closed_node behind f part node_at) (ids s.nodes) ≡ nodes_before s rank f p start others (j + 1)
   nodes_closed =
-      same_in (closed_node behind f part node_at) (bus_node s (ranks_in start) (mixed rank (ranks_in start) (after_slot s rank f p j states) others)) (ids s.nodes)
+      same_in (closed_node behind f part node_at) (bus_node s (ranks_in start) (mixed rank (ranks_in start) (after_slot s rank f p j states) others))
+      (ids s.nodes)
       (λ v there. ap (λ (y : State). record { setup = setup_in s v; rank = ranks_in start v; state = y }) (leaves v there (ranks_in start v == rank) refl))
       ∙ ap (λ (g : ℕ → State). map (bus_node s (ranks_in start) (mixed rank (ranks_in start) g others)) (ids s.nodes)) (sym (slot_more s rank f p start j))
 
   pub nodes_delivered : filter_map (delivers_node behind rank f j part node_at) (ids s.nodes) ≡ filter_map (delivered_at s rank f p start j) (ids s.nodes)
   nodes_delivered = kept_same_in (delivers_node behind rank f j part node_at) (delivered_at s rank f p start j) (ids s.nodes)
-      (λ v there. ap (λ (c : Option Closed). option_map (delivery_of v f rank j) (option_and_then (λ (d : Closed). d.delivered) c)) (closes v there (ranks_in start v == rank) refl ∙ closed_as v there))
+      (λ v there. ap (λ (c : Option Closed). option_map (delivery_of v f rank j) (option_and_then (λ (d : Closed). d.delivered) c))
+      (closes v there (ranks_in start v == rank) refl ∙ closed_as v there))

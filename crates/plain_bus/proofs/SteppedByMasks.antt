@@ -1,5 +1,6 @@
 -- The stations from step to step of a flood.
-use Rattle.std.proofs.Common.{◌≡◌, ◌<◌, ◌≤◌, ℕ, All, ◌+◌, ◌*◌, ◌^◌, ◌%◌, suc, zero, List, [], ◌∷◌, ◌++◌, Bool, true, false, ◌&&◌, inl, inr, Option, Some, None, is_some, nat_lt, refl, sym, ◌∙◌, ap, subst, length, map, take, get_or, ◌==◌, if◌then◌else◌, bit_or, arith, add-one, add-zero}
+use Rattle.std.proofs.Common.{◌≡◌, ◌<◌, ◌≤◌, ℕ, All, ◌+◌, ◌*◌, ◌^◌, ◌%◌, suc, zero, List, [], ◌∷◌, ◌++◌, Bool, true, false, ◌&&◌, inl, inr, Option, Some, None}
+use Rattle.std.proofs.Common.{is_some, nat_lt, refl, sym, ◌∙◌, ap, subst, length, map, take, get_or, ◌==◌, if◌then◌else◌, bit_or, arith, add-one, add-zero}
 use Rattle.std.specs.Int.{bit_at}
 use Rattle.std.specs.Option.{option_and_then}
 use Rattle.std.proofs.lemmas.Bool.{false≢true, and_parts}
@@ -60,7 +61,8 @@ unfolding moment
 moment_first s = refl
 
 -- a station behind a step
-pub stepped : (s : Setting) (k : ℕ) (m : Moment) (v : ℕ) (x : Station) (heard : Option ℕ) → x ≡ station_at m v → heard ≡ hears s m k v → station_after k x heard ≡ station_at (next s k m) v
+pub stepped : (s : Setting) (k : ℕ) (m : Moment) (v : ℕ) (x : Station) (heard : Option ℕ) → x ≡ station_at m v → heard ≡ hears s m k v
+    → station_after k x heard ≡ station_at (next s k m) v
 stepped s k m v x heard is hearing = ap (λ (y : Station). station_after k y heard) is ∙ ap (λ (o : Option ℕ). station_after k (station_at m v) o) hearing
 
 pub times_stepped : (k : ℕ) (x : Station) (heard : Option ℕ) → x.times ≤ k → (station_after k x heard).times ≤ k + 1
@@ -71,14 +73,16 @@ times_stepped k x heard few = by_sends (is_some x.sends)
     by_sends false = omega (arith, few)
 
 -- one station more
-pub one_more_station : (f : ℕ → Station) (nodes : List ℕ) (i : ℕ) (x : Station) (old new : List Station) → i < length nodes → old ≡ take i (map f nodes) → x ≡ f (get_or nodes i 0) → new ≡ old ++ x ∷ []
+pub one_more_station : (f : ℕ → Station) (nodes : List ℕ) (i : ℕ) (x : Station) (old new : List Station) → i < length nodes → old ≡ take i (map f nodes)
+    → x ≡ f (get_or nodes i 0) → new ≡ old ++ x ∷ []
     → new ≡ take (i + 1) (map f nodes)
 one_more_station f nodes i x old new below is at adds =
     adds ∙ ap (λ (l : List Station). l ++ x ∷ []) is
     ∙ ap (λ (y : Station). take i (map f nodes) ++ y ∷ []) (at ∙ sym (get_or-map f nodes i 0 x below))
     ∙ sym (take_more (map f nodes) i x (omega (arith, below, length-map nodes f)))
 
-pub one_more_sender : (test : ℕ → Bool) (nodes : List ℕ) (i : ℕ) (x : Station) (mask : ℕ) → length nodes ≤ 64 → i < length nodes → IsMaskUpto test nodes i mask → is_some x.sends ≡ test (get_or nodes i 0)
+pub one_more_sender : (test : ℕ → Bool) (nodes : List ℕ) (i : ℕ) (x : Station) (mask : ℕ) → length nodes ≤ 64 → i < length nodes
+    → IsMaskUpto test nodes i mask → is_some x.sends ≡ test (get_or nodes i 0)
     → IsMaskUpto test nodes (i + 1) (with_sender mask i x)
 one_more_sender test nodes i x mask few below is at = by_sends (is_some x.sends) refl
   where
@@ -96,14 +100,16 @@ no_station test nodes i = bit_at-zero i ∙ sym (nothing i)
     nothing i = rw (below_none i) refl
 
 -- a node at the beginning
-pub begun : (s : Setting) (t : Traced) (f : Flood) (place : ℕ) → IsFlood s t f → place < length t.nodes → station_first f place (get_or t.nodes place 0) ≡ station_at (beginning s) (get_or t.nodes place 0)
+pub begun : (s : Setting) (t : Traced) (f : Flood) (place : ℕ) → IsFlood s t f → place < length t.nodes → station_first f place (get_or t.nodes place 0)
+    ≡ station_at (beginning s) (get_or t.nodes place 0)
 begun s t f place flood below =
     let v = get_or t.nodes place 0 in
     let first : Bool → Station = λ b. record { node = v; sends = if b then Some v else None; times = 0; heard = None } in
     ap first (bit_tells t.nodes (has s.initiators) f.initiators place flood.initiators below)
 
 -- where nobody sends nothing changes
-module _ (s : Setting) (t : Traced) (f : Flood) (k : ℕ) (m : Moment) (flood : IsFlood s t f) (known : IsKnown s m) (x : Stations) (at : AreAt m t.nodes x) (none : x.senders ≡ 0) where
+module _ (s : Setting) (t : Traced) (f : Flood) (k : ℕ) (m : Moment) (flood : IsFlood s t f) (known : IsKnown s m) (x : Stations) (at : AreAt m t.nodes x)
+    (none : x.senders ≡ 0) where
   silent : (u : ℕ) → m.sends u ≡ None
   silent u = elim (inspect (m.sends u)) [
     | inl is ↦ is
@@ -126,7 +132,8 @@ module _ (s : Setting) (t : Traced) (f : Flood) (k : ℕ) (m : Moment) (flood : 
 
   unheard : (v : ℕ) → hears s m k v ≡ None
   unheard v =
-      ap (λ (o : Option ℕ). if may_hear s m v then option_and_then (λ p. if takes s m v p then Some p else None) o else None) (nothing_picked s m k v known (offered v))
+      ap (λ (o : Option ℕ). if may_hear s m v then option_and_then (λ p. if takes s m v p then Some p else None) o else None)
+      (nothing_picked s m k v known (offered v))
       ∙ by_may (may_hear s m v)
     where
       by_may : (b : Bool) → ◌≡◌ {A = Option ℕ} (if b then None else None) None
@@ -156,7 +163,8 @@ module _ (s : Setting) (t : Traced) (f : Flood) (k : ℕ) (m : Moment) (flood : 
   pub nothing_changes : AreAt (next s k m) t.nodes x
   nothing_changes = record {
     each = at.each ∙ (λ i. map (λ v. same_station v i) t.nodes);
-    senders = same_tests t.nodes (λ v. is_some (m.sends v)) (λ v. is_some ((next s k m).sends v)) x.senders (λ v. ap (λ (o : Option ℕ). is_some o) (sym (sends_same v))) at.senders;
+    senders = same_tests t.nodes (λ v. is_some (m.sends v)) (λ v. is_some ((next s k m).sends v)) x.senders
+        (λ v. ap (λ (o : Option ℕ). is_some o) (sym (sends_same v))) at.senders;
   }
 
 -- no node yet

@@ -1,5 +1,6 @@
 -- The steps in which a node sent, counted off the masks of the senders.
-use Rattle.std.proofs.Common.{◌≡◌, ◌<◌, ◌≤◌, ◌==◌, ◌+◌, ◌∷◌, ◌++◌, [], ℕ, zero, suc, List, Bool, true, false, Option, Some, None, length, filter, get_or, refl, sym, ◌∙◌, ap, subst, arith, if◌then◌else◌, add-one, append-nil}
+use Rattle.std.proofs.Common.{◌≡◌, ◌<◌, ◌≤◌, ◌==◌, ◌+◌, ◌∷◌, ◌++◌, [], ℕ, zero, suc, List, Bool, true, false, Option, Some, None, length, filter, get_or, refl}
+use Rattle.std.proofs.Common.{sym, ◌∙◌, ap, subst, arith, if◌then◌else◌, add-one, append-nil}
 use Rattle.std.specs.Int.{bit_at}
 use Rattle.std.specs.List.{range_with_len, last_or}
 use Rattle.std.proofs.lemmas.List.Elements.{filter-append}
@@ -20,8 +21,10 @@ last_pushed o [] x = refl
 last_pushed o (y ∷ xs) x = last_pushed (Some y) xs x
 
 module _ (masks : List ℕ) (place n : ℕ) where
-  pushed : (b : Bool) → (bit_at (get_or masks n 0) place == 1) ≡ b → steps_at masks place (n + 1) ≡ steps_at masks place n ++ filter (λ k. bit_at (get_or masks k 0) place == 1) (n ∷ [])
-  pushed b is = ap (filter (λ k. bit_at (get_or masks k 0) place == 1)) (range_more n) ∙ filter-append (λ k. bit_at (get_or masks k 0) place == 1) (range_with_len 0 n) (n ∷ [])
+  pushed : (b : Bool) → (bit_at (get_or masks n 0) place == 1) ≡ b → steps_at masks place (n + 1) ≡ steps_at masks place n ++ filter
+      (λ k. bit_at (get_or masks k 0) place == 1) (n ∷ [])
+  pushed b is = ap (filter (λ k. bit_at (get_or masks k 0) place == 1)) (range_more n) ∙ filter-append (λ k. bit_at (get_or masks k 0) place == 1)
+      (range_with_len 0 n) (n ∷ [])
 
   pub one_step_more : (bit_at (get_or masks n 0) place == 1) ≡ true → steps_at masks place (n + 1) ≡ steps_at masks place n ++ n ∷ []
   one_step_more is = pushed true is ∙ ap (λ (b : Bool). steps_at masks place n ++ (if b then n ∷ [] else [])) is

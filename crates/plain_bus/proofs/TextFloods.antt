@@ -1,5 +1,6 @@
 -- The flood of a flood text, read off its stations.
-use Rattle.std.proofs.Common.{◌≡◌, ◌<◌, ℕ, zero, suc, ◌+◌, List, [], ◌∷◌, ◌++◌, Bool, true, false, ◌||◌, ◌&&◌, nat_lt, subst, Option, Some, None, refl, sym, ◌∙◌, ap, length, map, take, get_or, sum_by, option_to_list, option_map, filter_map, ◌==◌, if◌then◌else◌, arith, inl, inr}
+use Rattle.std.proofs.Common.{◌≡◌, ◌<◌, ℕ, zero, suc, ◌+◌, List, [], ◌∷◌, ◌++◌, Bool, true, false, ◌||◌, ◌&&◌, nat_lt, subst, Option, Some, None, refl, sym}
+use Rattle.std.proofs.Common.{◌∙◌, ap, length, map, take, get_or, sum_by, option_to_list, option_map, filter_map, ◌==◌, if◌then◌else◌, arith, inl, inr}
 use Rattle.std.specs.List.{cons_option}
 use Rattle.std.proofs.lemmas.Bool.{false≢true, eqb-true, eq-eqb, ne_eqb, cases_eq, or_left, or_right, cases_lt, le-ltb}
 use Rattle.std.proofs.lemmas.List.{take_more}
@@ -53,7 +54,8 @@ all_here nodes mask is i = is i ∙ elim (cases_lt i (length nodes)) [
 ]
 
 module _ (f : FloodParts) (known : knows f.nodes f.start ≡ true) where
-  pub flood_of_text : (t : Traced) (x : Flood) → t.lines ≡ f.trace → IsSealed t f.nodes → x ≡ record { frame = 5; slot = 1; limit = f.sends; initiators = x.initiators; everyone = x.everyone; lone = Some f.start }
+  pub flood_of_text : (t : Traced) (x : Flood) → t.lines ≡ f.trace → IsSealed t f.nodes
+      → x ≡ record { frame = 5; slot = 1; limit = f.sends; initiators = x.initiators; everyone = x.everyone; lone = Some f.start }
       → IsMask (λ v. v == f.start) (ids f.nodes) x.initiators → IsMask (λ v. true) (ids f.nodes) x.everyone → IsFlood (setting f) t x
   flood_of_text t x lines sealed is initiators everyone = record {
     limit = sym (ap (λ (y : Flood). y.limit) is);
@@ -76,13 +78,15 @@ one_kept {X} {Y} g x = of_one (g x)
     of_one None = refl
     of_one (Some y) = refl
 
-pub kept_more : {X Y : Type 0} (g : X → Option Y) (xs : List X) (i : ℕ) (x : X) → i < length xs → x ≡ get_or xs i x → filter_map g (take (i + 1) xs) ≡ filter_map g (take i xs) ++ option_to_list (g x)
+pub kept_more : {X Y : Type 0} (g : X → Option Y) (xs : List X) (i : ℕ) (x : X) → i < length xs → x ≡ get_or xs i x → filter_map g (take (i + 1) xs)
+    ≡ filter_map g (take i xs) ++ option_to_list (g x)
 kept_more g xs i x below at =
     ap (filter_map g) (take_more xs i x below ∙ ap (λ (y : _). take i xs ++ y ∷ []) (sym at))
     ∙ filter_map-append g (take i xs) (x ∷ [])
     ∙ ap (λ (l : List _). filter_map g (take i xs) ++ l) (one_kept g x)
 
-kept_of_map : {X Y Z : Type 0} (g : Y → Option Z) (h : X → Y) (w : X → Option Z) → ((x : X) → g (h x) ≡ w x) → (xs : List X) → filter_map g (map h xs) ≡ filter_map w xs
+kept_of_map : {X Y Z : Type 0} (g : Y → Option Z) (h : X → Y) (w : X → Option Z) → ((x : X) → g (h x) ≡ w x) → (xs : List X)
+    → filter_map g (map h xs) ≡ filter_map w xs
 kept_of_map g h w same [] = refl
 kept_of_map g h w same (x ∷ xs) = ap (λ (o : Option _). cons_option o (filter_map g (map h xs))) (same x) ∙ ap (cons_option (w x)) (kept_of_map g h w same xs)
 
@@ -93,7 +97,8 @@ sum_of_map h (v ∷ xs) =
 
 module _ (f : FloodParts) where
   accepted_at_end : (v : ℕ) → accepted_from f.start (station_at (moment (setting f) STEPS) v) ≡ acceptance (setting f) v
-  accepted_at_end v = ap (λ (b : Bool). option_map {U = ℕ × ℕ} (λ a. (v, a.1)) (if b then None else (moment (setting f) STEPS).heard v)) (sym (only_start f.start v))
+  accepted_at_end v = ap (λ (b : Bool). option_map {U = ℕ × ℕ} (λ a. (v, a.1)) (if b then None else (moment (setting f) STEPS).heard v))
+      (sym (only_start f.start v))
 
   pub acceptances_read : filter_map (accepted_from f.start) (map (station_at (moment (setting f) STEPS)) (ids f.nodes)) ≡ (outcome f).accepts
   acceptances_read = kept_of_map (accepted_from f.start) (station_at (moment (setting f) STEPS)) (acceptance (setting f)) accepted_at_end (ids f.nodes)

@@ -1,5 +1,6 @@
 -- What a window counts, by how often its node sent and the last step in which it did.
-use Rattle.std.proofs.Common.{◌≡◌, ◌≤◌, ◌==◌, ◌+◌, ◌-◌, ◌*◌, ℕ, List, [], ◌∷◌, Bool, true, false, inl, inr, Option, Some, None, if◌then◌else◌, length, map, refl, sym, ◌∙◌, ap, arith}
+use Rattle.std.proofs.Common.{◌≡◌, ◌≤◌, ◌==◌, ◌+◌, ◌-◌, ◌*◌, ℕ, List, [], ◌∷◌, Bool, true, false, inl, inr, Option, Some, None, if◌then◌else◌, length, map}
+use Rattle.std.proofs.Common.{refl, sym, ◌∙◌, ap, arith}
 use Rattle.std.specs.List.{last_or}
 use Rattle.std.specs.Option.{option_map}
 use Rattle.std.proofs.Math.Nat.{mul-le-mul_right}
@@ -57,7 +58,8 @@ last_told limit bytes count last ks size is =
     ap (λ (n : ℕ). if n == limit then last_or None (map g ks) else None) (length-map ks g ∙ sym size)
     ∙ ap (λ (o : Option (ℕ × ℕ)). if count == limit then o else None) (last_mapped g None ks ∙ ap (option_map g) (sym is))
 
-module _ (p : Numbers) (limit bytes count : ℕ) (is_open : Bool) (last : Option ℕ) (ks : List ℕ) (opened : is_open ≡ true) (size : count ≡ length ks) (is : last ≡ last_or None ks) where
+module _ (p : Numbers) (limit bytes count : ℕ) (is_open : Bool) (last : Option ℕ) (ks : List ℕ) (opened : is_open ≡ true) (size : count ≡ length ks)
+    (is : last ≡ last_or None ks) where
   told : window_charge p limit is_open bytes ks ≡ charge p (if count == limit then option_map (λ (k : ℕ). (k, bytes)) last else None)
   told = ap (λ (b : Bool). if b then charge p (last_of limit (sent_as bytes ks)) else 0) opened ∙ ap (charge p) (last_told limit bytes count last ks size is)
 
@@ -72,7 +74,8 @@ module _ (p : Numbers) (limit bytes count : ℕ) (is_open : Bool) (last : Option
   window_unfull less = told ∙ ap (λ (b : Bool). charge p (if b then option_map (λ (k : ℕ). (k, bytes)) last else None)) (ne_eqb count limit less)
 
   pub window_silent : last ≡ None → window_charge p limit is_open bytes ks ≡ p.close
-  window_silent none = told ∙ ap (λ (o : Option ℕ). charge p (if count == limit then option_map (λ (k : ℕ). (k, bytes)) o else None)) none ∙ by_count (count == limit)
+  window_silent none = told ∙ ap (λ (o : Option ℕ). charge p (if count == limit then option_map (λ (k : ℕ). (k, bytes)) o else None)) none
+      ∙ by_count (count == limit)
     where
       by_count : (b : Bool) → charge p (if b then None else None) ≡ p.close
       by_count true = refl

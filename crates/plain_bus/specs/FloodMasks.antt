@@ -1,5 +1,6 @@
 -- A flood by masks of the nodes that a trace is sealed with.
-use Rattle.std.specs.Prelude.{◌≡◌, ◌<◌, ◌==◌, ℕ, ◌+◌, ◌*◌, ◌^◌, ◌%◌, bit_or, List, Bool, true, false, is_some, is_none, not, ◌&&◌, ◌||◌, nat_lt, Some, None, if◌then◌else◌, length, map, slice_index, slice_index_or, option_map}
+use Rattle.std.specs.Prelude.{◌≡◌, ◌<◌, ◌==◌, ℕ, ◌+◌, ◌*◌, ◌^◌, ◌%◌, bit_or, List, Bool, true, false, is_some, is_none, not, ◌&&◌, ◌||◌, nat_lt, Some, None}
+use Rattle.std.specs.Prelude.{if◌then◌else◌, length, map, slice_index, slice_index_or, option_map}
 use Rattle.std.specs.declared.option.Option.{Option}
 use Rattle.std.specs.Int.{bit_at}
 use Rattle.link_trace.specs.Masks.{IsMask}

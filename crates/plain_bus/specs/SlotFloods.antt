@@ -28,7 +28,8 @@ abbrev pub seen : Window → Seen
 seen w = record { is_open = w.is_open; takes_part = w.takes_part; initiates = w.initiates; message = option_and_then message_of w.said }
 
 abbrev pub seen_by : ℕ → Part → State → Option Opened → Seen
-seen_by rank part x window = record { is_open = is_some window; takes_part = takes_part rank part x window; initiates = is_some (said_in window); message = said_in window }
+seen_by rank part x window =
+    record { is_open = is_some window; takes_part = takes_part rank part x window; initiates = is_some (said_in window); message = said_in window }
 
 abbrev pub seen_of : ℕ → ℕ → Part → BusNode → Seen
 seen_of rank f part n = seen_by rank part (shown rank n) (window_of n.setup rank f part (shown rank n))

@@ -15,7 +15,8 @@ count_scan-requires c =
     let d : Cost = get_or c.loop-cost.costs i c.cost-item.result in
     let size = c.loop-cost.auto.costs in
     let below : i < length olds = omega (arith, c.loop-cost-test.true, size) in
-    let at : d ≡ get_or olds i d = same_place c.loop-cost.costs olds i c.cost-item.result c.loop-cost.invariant.todo ∙ get_or_default olds i c.cost-item.result d below in
+    let at : d ≡ get_or olds i d = same_place c.loop-cost.costs olds i c.cost-item.result c.loop-cost.invariant.todo
+    ∙ get_or_default olds i c.cost-item.result d below in
     subst (λ (x : Cost). x.scanned ≤ 4096) (sym at) (c.requires.few i d below)
 
 pub loop-cost-preserved : goal.loop-cost-preserved
@@ -38,10 +39,12 @@ loop-cost-preserved c =
       done = λ s ranks states cost nodes costs.
           (let v : ℕ = get_or (ids s.nodes) i 0 in
           let in_ids : i < length (ids s.nodes) = omega (arith, below, ap length costs, length-map (ids s.nodes) cost) in
-          let node_is : node ≡ bus_node s ranks states v = node_at ∙ ap (λ (l : List BusNode). get_or l i node) nodes ∙ get_or-map (bus_node s ranks states) (ids s.nodes) i 0 node in_ids in
+          let node_is : node ≡ bus_node s ranks states v = node_at ∙ ap (λ (l : List BusNode). get_or l i node) nodes
+          ∙ get_or-map (bus_node s ranks states) (ids s.nodes) i 0 node in_ids in
           let cost_is : d ≡ cost v = at ∙ ap (λ (l : List Cost). get_or l i d) costs ∙ get_or-map cost (ids s.nodes) i 0 d in_ids in
           take_more_set now i y there
-          ∙ one_more_mapped (λ (u : ℕ). with_scan (states u) (cost u)) (ids s.nodes) i v (take i now) y in_ids (get_or_default (ids s.nodes) i 0 v in_ids) (c.loop-cost.invariant.done s ranks states cost nodes costs)
+          ∙ one_more_mapped (λ (u : ℕ). with_scan (states u) (cost u)) (ids s.nodes) i v (take i now) y in_ids (get_or_default (ids s.nodes) i 0 v in_ids)
+          (c.loop-cost.invariant.done s ranks states cost nodes costs)
           (c.count_scan.ensures ∙ ap (λ (x : BusNode). with_scan x.state d) node_is ∙ ap (with_scan (states v)) cost_is));
       todo = rest_unchanged olds now i y c.loop-cost.invariant.todo;
     }

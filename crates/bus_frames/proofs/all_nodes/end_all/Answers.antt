@@ -25,4 +25,5 @@ returns c =
     let i = c.loop-node.node-index in
     let size = c.loop-node.auto.nodes in
     sym (take_all i c.loop-node.nodes (omega (arith, c.loop-node-test.false, size))) ∙ c.loop-node.invariant.done
-    ∙ take_all i (map (ended_at c.args.frame) c.args.nodes.now) (omega (arith, c.loop-node-test.false, size, length-map c.args.nodes.now (ended_at c.args.frame)))
+    ∙ take_all i (map (ended_at c.args.frame) c.args.nodes.now)
+    (omega (arith, c.loop-node-test.false, size, length-map c.args.nodes.now (ended_at c.args.frame)))

@@ -15,7 +15,8 @@ count_scans-requires-clause-nodes c =
 
 pub count_scans-requires-clause-few : goal.count_scans-requires-clause-few
 count_scans-requires-clause-few c =
-    subst (λ (l : List Cost). All (λ (x : Cost). x.scanned ≤ 4096) l) (sym (c.deref_mut.ensures.value ∙ ap (λ (n : Network). n.costs) c.net.view_is)) c.requires.few
+    subst (λ (l : List Cost). All (λ (x : Cost). x.scanned ≤ 4096) l) (sym (c.deref_mut.ensures.value ∙ ap (λ (n : Network). n.costs) c.net.view_is))
+    c.requires.few
 
 pub returns-clause-nodes : goal.returns-clause-nodes
 returns-clause-nodes c =
@@ -36,7 +37,8 @@ returns-clause-costs c s ranks states cost nodes costs =
 pub returns-clause-same : goal.returns-clause-same
 returns-clause-same c =
     let size : length c.net.inside.costs.items ≡ c.net.inside.costs.len = ap length (sym c.deref_mut.ensures.value) ∙ c.deref_mut.ensures.len in
-    ap length (put_back c.net.inside.costs.len c.count_scans.new.costs c.net.inside.costs.items size (omega (arith, c.count_scans.auto.costs, ap length c.deref_mut.ensures.value)))
+    ap length (put_back c.net.inside.costs.len c.count_scans.new.costs c.net.inside.costs.items size
+    (omega (arith, c.count_scans.auto.costs, ap length c.deref_mut.ensures.value)))
     ∙ omega (arith, c.count_scans.auto.costs, ap length c.deref_mut.ensures.value, ap (λ (n : Network). length n.costs) c.net.view_is)
 
 pub returns-clause-rest : goal.returns-clause-rest

@@ -16,4 +16,8 @@ returns-clause-nodes c =
     ∙ c.end_all.ensures ∙ ap (map (ended_at c.args.frame)) (c.deref_mut.ensures.value ∙ ap (λ (n : Network). n.nodes) c.net.view_is)
 
 pub returns-clause-rest : goal.returns-clause-rest
-returns-clause-rest c = (ap (λ (n : Network). n.ids) c.net.view_is, ap (λ (n : Network). n.costs) c.net.view_is, ap (λ (n : Network). n.deliveries) c.net.view_is)
+returns-clause-rest c = (
+  ap (λ (n : Network). n.ids) c.net.view_is,
+  ap (λ (n : Network). n.costs) c.net.view_is,
+  ap (λ (n : Network). n.deliveries) c.net.view_is,
+)

@@ -22,7 +22,8 @@ tell_lines-requires-clause-ready c =
     ready_more c.args.s.now c.args.frame (c.args.frame * 184) 1000000 c.args.net.now (omega (arith, few, c.requires.frame)) c.requires.at.ready
 
 pub begin_rounds-requires-clause-each : goal.begin_rounds-requires-clause-each
-begin_rounds-requires-clause-each c = (let ready = c.in_ok-next.ensures.ready (c.args.frame * 184) c.requires.at.ready in ready.nodes_each ∙ sym ready.costs_each)
+begin_rounds-requires-clause-each c =
+    (let ready = c.in_ok-next.ensures.ready (c.args.frame * 184) c.requires.at.ready in ready.nodes_each ∙ sym ready.costs_each)
 
 pub begin_rounds-requires-clause-few : goal.begin_rounds-requires-clause-few
 begin_rounds-requires-clause-few c i d below =
@@ -37,7 +38,8 @@ run_rounds-requires-clause-ready c =
     let first : c.tell_lines.new.net.costs ≡ map (cost_after s f) (ids s.nodes) = told.rest.0 ∙ c.requires.at.costs_are in
     let few = c.requires.few in
     ready_more s f (f * 184) 1000000 c.begin_rounds.new.net (omega (arith, few, c.requires.frame))
-    (ready_begun s f (f * 184) c.tell_lines.new.net c.begin_rounds.new.net (state_at s f) (cost_after s f) c.begin_rounds.ensures.rest.0 c.begin_rounds.ensures.nodes c.begin_rounds.ensures.same
+    (ready_begun s f (f * 184) c.tell_lines.new.net c.begin_rounds.new.net (state_at s f) (cost_after s f) c.begin_rounds.ensures.rest.0
+    c.begin_rounds.ensures.nodes c.begin_rounds.ensures.same
     first (c.begin_rounds.ensures.costs s (prior_ranks s f) (state_at s f) (cost_after s f) told.nodes first) (told.ready (f * 184) c.requires.at.ready))
 
 pub returns-clause-power : goal.returns-clause-power
@@ -54,9 +56,12 @@ returns-clause-at c =
     let ends = c.end_frame.ensures in
     let in_rank = ranked s (sound s told.said) f in
     let first : c.tell_lines.new.net.costs ≡ map (cost_after s f) (ids s.nodes) = told.rest.0 ∙ c.requires.at.costs_are in
-    let begun_nodes : c.begin_rounds.new.net.nodes ≡ nodes_with s (ranks_in st) st = begins.nodes ∙ ap (map begun) told.nodes ∙ nodes_begun s f (prior_ranks s f) st in
-    let scanned : c.begin_rounds.new.net.costs ≡ map (λ (v : ℕ). with_scan (st v) (cost_after s f v)) (ids s.nodes) = begins.costs s (prior_ranks s f) st (cost_after s f) told.nodes first in
-    let begun_ready = ready_begun s f (f * 184) c.tell_lines.new.net c.begin_rounds.new.net st (cost_after s f) begins.rest.0 begins.nodes begins.same first scanned (told.ready (f * 184) c.requires.at.ready) in
+    let begun_nodes : c.begin_rounds.new.net.nodes ≡ nodes_with s (ranks_in st) st = begins.nodes ∙ ap (map begun) told.nodes
+    ∙ nodes_begun s f (prior_ranks s f) st in
+    let scanned : c.begin_rounds.new.net.costs ≡ map (λ (v : ℕ). with_scan (st v) (cost_after s f v)) (ids s.nodes) =
+    begins.costs s (prior_ranks s f) st (cost_after s f) told.nodes first in
+    let begun_ready = ready_begun s f (f * 184) c.tell_lines.new.net c.begin_rounds.new.net st (cost_after s f) begins.rest.0 begins.nodes begins.same first
+    scanned (told.ready (f * 184) c.requires.at.ready) in
     record {
       nodes_are = ends.nodes ∙ ap (map (ended_at f)) (ran.nodes st in_rank begun_nodes) ∙ nodes_ended s f;
       costs_are = ends.rest.1 ∙ ran.costs st (λ (v : ℕ). with_scan (st v) (cost_after s f v)) in_rank begun_nodes scanned ∙ costs_more s f;

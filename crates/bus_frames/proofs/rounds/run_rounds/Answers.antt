@@ -1,4 +1,5 @@
-use Rattle.std.proofs.Common.{◌≡◌, ◌<◌, ◌≤◌, ◌+◌, ◌*◌, ◌++◌, ◌==◌, ℕ, List, if◌then◌else◌, length, map, flat_map, sym, ◌∙◌, ap, subst, arith, append_assoc, append-nil}
+use Rattle.std.proofs.Common.{◌≡◌, ◌<◌, ◌≤◌, ◌+◌, ◌*◌, ◌++◌, ◌==◌, ℕ, List, if◌then◌else◌, length, map, flat_map, sym, ◌∙◌, ap, subst, arith, append_assoc}
+use Rattle.std.proofs.Common.{append-nil}
 use Rattle.std.specs.List.{range_with_len}
 use Rattle.bus_rules.specs.declared.delivery.Delivery.{Delivery}
 use Rattle.bus_rules.specs.States.{State}
@@ -15,7 +16,8 @@ use Rattle.bus_frames.proofs.rounds.run_rounds.Goals as goal
 pub run_round-requires-clause-ready : goal.run_round-requires-clause-ready
 run_round-requires-clause-ready c =
     let few = c.hosts_of-ranks.ensures.few in
-    ready_more c.args.s.now c.args.frame (1000000 + c.loop-rank.rank * 46) 1040000 c.loop-rank.net (omega (arith, few, c.loop-rank-test.true)) (c.loop-rank.invariant.ready 1000000 c.requires.ready)
+    ready_more c.args.s.now c.args.frame (1000000 + c.loop-rank.rank * 46) 1040000 c.loop-rank.net (omega (arith, few, c.loop-rank-test.true))
+    (c.loop-rank.invariant.ready 1000000 c.requires.ready)
 
 pub loop-rank-init : goal.loop-rank-init
 loop-rank-init c = record {
@@ -50,7 +52,8 @@ loop-rank-preserved c =
           ∙ ap (λ (l : List Delivery). first ++ l) (sym (flat_more said r)));
       costs_are = λ start cost olds costs.
           ran.costs start (run_below s f start r) (cost_below s f start r cost) (enter start olds) (inv.costs_are start cost olds costs)
-          ∙ ap (λ (k : ℕ). map (λ (v : ℕ). if ranks_in start v == k then with_round s k f start v (cost_below s f start r cost v) else cost_below s f start r cost v) (ids s.nodes)) own
+          ∙ ap (λ (k : ℕ). map (λ (v : ℕ). if ranks_in start v == k then with_round s k f start v (cost_below s f start r cost v) else cost_below s f start r
+          cost v) (ids s.nodes)) own
           ∙ costs_left s f start r cost;
     }
 

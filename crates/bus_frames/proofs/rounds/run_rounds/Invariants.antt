@@ -13,7 +13,8 @@ use Rattle.bus_frames.proofs.rounds.run_rounds.Given as goal
 abbrev pub invariant-loop-rank : goal.invariant-loop-rank
 invariant-loop-rank l = record {
   ready : (m : ℕ) → IsReady l.s l.frame m l.fn.net → IsReady l.s l.frame (m + l.rank * 46) l.net;
-  nodes_are : (start : ℕ → State) → l.fn.net.nodes ≡ nodes_with l.s (ranks_in start) start → l.net.nodes ≡ nodes_with l.s (ranks_in start) (run_below l.s l.frame start l.rank);
+  nodes_are : (start : ℕ → State) → l.fn.net.nodes ≡ nodes_with l.s (ranks_in start) start
+      → l.net.nodes ≡ nodes_with l.s (ranks_in start) (run_below l.s l.frame start l.rank);
   delivered : (start : ℕ → State) → l.fn.net.nodes ≡ nodes_with l.s (ranks_in start) start
       → l.net.deliveries ≡ l.fn.net.deliveries ++ flat_map (λ rank. round_deliveries l.s rank l.frame start) (range_with_len 0 l.rank);
   costs_are : (start : ℕ → State) (cost : ℕ → Cost) → l.fn.net.nodes ≡ nodes_with l.s (ranks_in start) start → l.fn.net.costs ≡ map cost (ids l.s.nodes)

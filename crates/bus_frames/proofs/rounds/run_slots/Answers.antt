@@ -1,4 +1,5 @@
-use Rattle.std.proofs.Common.{◌≡◌, ◌<◌, ◌≤◌, ◌+◌, ◌++◌, ◌==◌, ℕ, List, if◌then◌else◌, length, map, flat_map, get_or, sym, ◌∙◌, ap, subst, arith, append_assoc, append-nil}
+use Rattle.std.proofs.Common.{◌≡◌, ◌<◌, ◌≤◌, ◌+◌, ◌++◌, ◌==◌, ℕ, List, if◌then◌else◌, length, map, flat_map, get_or, sym, ◌∙◌, ap, subst, arith, append_assoc}
+use Rattle.std.proofs.Common.{append-nil}
 use Rattle.std.specs.List.{range_with_len}
 use Rattle.lwb_base.specs.Messages.{Plan}
 use Rattle.bus_rules.specs.declared.delivery.Delivery.{Delivery}
@@ -24,7 +25,8 @@ loop-slot-init c = record {
 pub run_slot-requires-clause-ready : goal.run_slot-requires-clause-ready
 run_slot-requires-clause-ready c =
     let few = c.requires.few in
-    ready_more c.args.s.now c.args.frame (1040000 + c.loop-slot.slot) 1048576 c.loop-slot.net (omega (arith, few, c.loop-slot-test.true)) (c.loop-slot.invariant.ready 1040000 c.requires.ready)
+    ready_more c.args.s.now c.args.frame (1040000 + c.loop-slot.slot) 1048576 c.loop-slot.net (omega (arith, few, c.loop-slot-test.true))
+    (c.loop-slot.invariant.ready 1040000 c.requires.ready)
 
 pub loop-slot-preserved : goal.loop-slot-preserved
 loop-slot-preserved c =
@@ -38,11 +40,13 @@ loop-slot-preserved c =
     record {
       ready = λ m is. ready_more s f (m + i + 1) (m + (i + 1)) c.run_slot.new.self (omega arith) (ran.ready (m + i) (inv.ready m is));
       nodes_are = λ p start others are olds.
-          ran.nodes p start others (inv.nodes_are p start others are olds) (part_at p c.args.parts.now i c.index-parts-slot.result are c.loop-slot-test.true c.index-parts-slot.is);
+          ran.nodes p start others (inv.nodes_are p start others are olds)
+          (part_at p c.args.parts.now i c.index-parts-slot.result are c.loop-slot-test.true c.index-parts-slot.is);
       delivered = λ p start others are olds.
           (let first = c.args.net.now.deliveries in
           let said = slot_deliveries s rank f p start in
-          ran.deliveries p start others (inv.nodes_are p start others are olds) (part_at p c.args.parts.now i c.index-parts-slot.result are c.loop-slot-test.true c.index-parts-slot.is)
+          ran.deliveries p start others (inv.nodes_are p start others are olds)
+          (part_at p c.args.parts.now i c.index-parts-slot.result are c.loop-slot-test.true c.index-parts-slot.is)
           ∙ ap (λ (l : List Delivery). l ++ said i) (inv.delivered p start others are olds)
           ∙ append_assoc first (flat_map said (range_with_len 0 i)) (said i)
           ∙ ap (λ (l : List Delivery). first ++ l) (sym (flat_more said i)));
@@ -68,10 +72,12 @@ pub returns-clause-deliveries : goal.returns-clause-deliveries
 returns-clause-deliveries c p start others are olds =
     let all : c.loop-slot.slot ≡ length c.args.parts.now = omega (arith, c.loop-slot-test.false, c.loop-slot.auto.slot-end) in
     c.loop-slot.invariant.delivered p start others are olds
-    ∙ ap (λ (n : ℕ). c.args.net.now.deliveries ++ flat_map (slot_deliveries c.args.s.now c.args.rank c.args.frame p start) (range_with_len 0 n)) (all ∙ parts_count p c.args.parts.now are)
+    ∙ ap (λ (n : ℕ). c.args.net.now.deliveries ++ flat_map (slot_deliveries c.args.s.now c.args.rank c.args.frame p start) (range_with_len 0 n))
+    (all ∙ parts_count p c.args.parts.now are)
 
 pub returns-clause-costs : goal.returns-clause-costs
 returns-clause-costs c p start others cost are olds costs =
     let all : c.loop-slot.slot ≡ length c.args.parts.now = omega (arith, c.loop-slot-test.false, c.loop-slot.auto.slot-end) in
     c.loop-slot.invariant.costs_are p start others cost are olds costs
-    ∙ ap (λ (n : ℕ). map (λ (v : ℕ). if ranks_in start v == c.args.rank then with_slots c.args.s.now c.args.rank c.args.frame p start n v (cost v) else cost v) (ids c.args.s.now.nodes)) (all ∙ parts_count p c.args.parts.now are)
+    ∙ ap (λ (n : ℕ). map (λ (v : ℕ). if ranks_in start v == c.args.rank then with_slots c.args.s.now c.args.rank c.args.frame p start n v
+    (cost v) else cost v) (ids c.args.s.now.nodes)) (all ∙ parts_count p c.args.parts.now are)

@@ -18,6 +18,7 @@ invariant-loop-slot l = record {
       → l.net.nodes ≡ nodes_before l.s l.rank l.frame p start others l.slot;
   delivered : (p : Plan) (start others : ℕ → State) → l.parts ≡ parts_of p → l.fn.net.nodes ≡ nodes_in l.s l.rank start start others
       → l.net.deliveries ≡ l.fn.net.deliveries ++ flat_map (slot_deliveries l.s l.rank l.frame p start) (range_with_len 0 l.slot);
-  costs_are : (p : Plan) (start others : ℕ → State) (cost : ℕ → Cost) → l.parts ≡ parts_of p → l.fn.net.nodes ≡ nodes_in l.s l.rank start start others → l.fn.net.costs ≡ map cost (ids l.s.nodes)
+  costs_are : (p : Plan) (start others : ℕ → State) (cost : ℕ → Cost) → l.parts ≡ parts_of p → l.fn.net.nodes ≡ nodes_in l.s l.rank start start others
+      → l.fn.net.costs ≡ map cost (ids l.s.nodes)
       → l.net.costs ≡ map (λ v. if ranks_in start v == l.rank then with_slots l.s l.rank l.frame p start l.slot v (cost v) else cost v) (ids l.s.nodes);
 }

@@ -1,4 +1,5 @@
-use Rattle.std.proofs.Common.{◌≡◌, ◌<◌, ◌≤◌, ◌+◌, ◌++◌, [], ℕ, List, All, false, inl, inr, length, take, get_or, set, option_to_list, subst, refl, sym, ◌∙◌, ap, arith}
+use Rattle.std.proofs.Common.{◌≡◌, ◌<◌, ◌≤◌, ◌+◌, ◌++◌, [], ℕ, List, All, false, inl, inr, length, take, get_or, set, option_to_list, subst, refl, sym, ◌∙◌, ap}
+use Rattle.std.proofs.Common.{arith}
 use Rattle.std.specs.List.{AllPairs}
 use Rattle.std.proofs.lemmas.Bool.{cases_lt}
 use Rattle.std.proofs.lemmas.List.{get_or-map, get_or_default, length-set}
@@ -48,7 +49,8 @@ module _ (c : goal.Then-line-frame) where
       let below : n < length s.script = omega (arith, c.loop-next-test.true, ap length c.script-script.ensures.value) in
       let at : l ≡ get_or s.script n l = c.index-script-next.is ∙ ap (λ (ls : List ScriptLine). get_or ls n l) c.script-script.ensures.value in
       let up = c.requires.cut.from n l c.loop-next.invariant.within below in
-      later_lines s (sound s c.script-script.ensures.said) n l below at c.args.frame (omega (arith, up, ap (λ (m : ScriptLine). m.frame) at)) c.if-line-frame.true
+      later_lines s (sound s c.script-script.ensures.said) n l below at c.args.frame (omega (arith, up, ap (λ (m : ScriptLine). m.frame) at))
+      c.if-line-frame.true
 
 pub returns-then-line-frame-clause-cut : goal.returns-then-line-frame-clause-cut
 returns-then-line-frame-clause-cut c = record {
@@ -65,7 +67,8 @@ returns-then-line-frame-clause-power c v = ap power (sym (all_told c.args.s.now 
 
 pub returns-then-line-frame-clause-nodes : goal.returns-then-line-frame-clause-nodes
 returns-then-line-frame-clause-nodes c =
-    c.loop-next.invariant.nodes_are ∙ ap (nodes_with c.args.s.now (prior_ranks c.args.s.now c.args.frame)) (λ i v. all_told c.args.s.now c.args.frame c.loop-next.next (later c) v i)
+    c.loop-next.invariant.nodes_are ∙ ap (nodes_with c.args.s.now (prior_ranks c.args.s.now c.args.frame))
+    (λ i v. all_told c.args.s.now c.args.frame c.loop-next.next (later c) v i)
 
 -- a line that is told
 pub tell_line-requires-clause-ascending : goal.tell_line-requires-clause-ascending
@@ -84,7 +87,8 @@ tell_line-requires-clause-known c =
     let l = c.index-script-next.result in
     let below : n < length s.script = omega (arith, c.loop-next-test.true, ap length c.script-script.ensures.value) in
     let at : l ≡ get_or s.script n l = c.index-script-next.is ∙ ap (λ (ls : List ScriptLine). get_or ls n l) c.script-script.ensures.value in
-    ap (λ (is : List ℕ). has is l.node) (c.loop-next.invariant.ready 1000000 c.requires.ready).ids_are ∙ line_known s (sound s c.script-script.ensures.said) n l below at
+    ap (λ (is : List ℕ). has is l.node) (c.loop-next.invariant.ready 1000000 c.requires.ready).ids_are
+    ∙ line_known s (sound s c.script-script.ensures.said) n l below at
 
 pub tell_line-requires-clause-may : goal.tell_line-requires-clause-may
 tell_line-requires-clause-may c i d near here =
@@ -99,9 +103,11 @@ tell_line-requires-clause-may c i d near here =
     let own : get_or (ids s.nodes) i 0 ≡ l.node = ap (λ (is : List ℕ). get_or is i 0) (sym ready.ids_are) ∙ here in
     let g = bus_node s (prior_ranks s f) (told_at s f n) in
     let node : get_or c.loop-next.net.nodes i d ≡ g l.node =
-    ap (λ (ns : List BusNode). get_or ns i d) inv.nodes_are ∙ get_or-map g (ids s.nodes) i 0 d (omega (arith, near, ready.nodes_each, ids_each s)) ∙ ap g own in (
+    ap (λ (ns : List BusNode). get_or ns i d) inv.nodes_are ∙ get_or-map g (ids s.nodes) i 0 d (omega (arith, near, ready.nodes_each, ids_each s))
+    ∙ ap g own in (
       subst (λ (x : BusNode). IsAct x.setup.profile l.act) (sym node) (line_act s (sound s c.script-script.ensures.said) n l below at),
-      subst (λ (x : BusNode). MayDo l.act x.state) (sym node) (may_do s (sound s c.script-script.ensures.said) n l below at (told_at s f n l.node) (inv.have l.node)),
+      subst (λ (x : BusNode). MayDo l.act x.state) (sym node)
+          (may_do s (sound s c.script-script.ensures.said) n l below at (told_at s f n l.node) (inv.have l.node)),
     )
 
 pub loop-next-preserved : goal.loop-next-preserved
@@ -122,7 +128,8 @@ loop-next-preserved c =
     let near : i < length (ids s.nodes) = subst (λ (is : List ℕ). i < length is) ready.ids_are ran.nodes.1 in
     let d : BusNode = g l.node in
     let here = ran.nodes.3 d in
-    let node : get_or c.loop-next.net.nodes i d ≡ g l.node = ap (λ (ns : List BusNode). get_or ns i d) inv.nodes_are ∙ get_or-map g (ids s.nodes) i 0 d near ∙ ap g own in
+    let node : get_or c.loop-next.net.nodes i d ≡ g l.node = ap (λ (ns : List BusNode). get_or ns i d) inv.nodes_are ∙ get_or-map g (ids s.nodes) i 0 d near
+    ∙ ap g own in
     record {
       within = (let low = inv.within in omega (arith, low));
       upto = omega (arith, below);
@@ -180,7 +187,8 @@ returns-clause-power c v =
 
 pub returns-clause-nodes : goal.returns-clause-nodes
 returns-clause-nodes c =
-    c.loop-next.invariant.nodes_are ∙ ap (nodes_with c.args.s.now (prior_ranks c.args.s.now c.args.frame)) (λ i v. all_told c.args.s.now c.args.frame c.loop-next.next (none_later c) v i)
+    c.loop-next.invariant.nodes_are ∙ ap (nodes_with c.args.s.now (prior_ranks c.args.s.now c.args.frame))
+    (λ i v. all_told c.args.s.now c.args.frame c.loop-next.next (none_later c) v i)
 
 pub returns-clause-drops : goal.returns-clause-drops
 returns-clause-drops c = c.loop-next.invariant.lost ∙ ap (λ (n : ℕ). drops_below c.args.s.now [] (take n c.args.s.now.script)) (sym (counted c))

@@ -16,7 +16,8 @@ returns c =
     c.as_slice-stations.ensures.value ∙ c.flooded-end.ensures.each (setting f) (c.flood_of.ensures t c.trace.ensures.value c.trace.ensures.sealed)
     ∙ ap (λ (ns : List ℕ). map (station_at (moment (setting f) STEPS)) ns) c.trace.ensures.sealed in
     let accepts : c.in_ok-accepts.accepts.items ≡ (outcome f).accepts =
-    c.in_ok-accepts.ensures ∙ ap (λ (v : ℕ). filter_map (accepted_from v) xs) c.start.ensures.value ∙ ap (λ (l : List Station). filter_map (accepted_from f.start) l) stations ∙ acceptances_read f in
+    c.in_ok-accepts.ensures ∙ ap (λ (v : ℕ). filter_map (accepted_from v) xs) c.start.ensures.value
+    ∙ ap (λ (l : List Station). filter_map (accepted_from f.start) l) stations ∙ acceptances_read f in
     let sent : c.sendings-sent.result ≡ (outcome f).sent =
     c.sendings-sent.ensures ∙ ap (λ (l : List Station). sum_by (λ (x : Station). x.times) l) stations ∙ sendings_read f in
     let of_accepts : List (ℕ × ℕ) → Outcome = λ a. record { accepts = a; sent = c.sendings-sent.result } in

@@ -9,7 +9,8 @@ use Rattle.plain_bus.proofs.accepting.flood_of.Goals as goal
 pub returns : goal.returns
 returns c t lines sealed =
     let f = c.args.f.now in
-    let made : ℕ → ℕ → Flood = λ n v. record { frame = 5; slot = 1; limit = n; initiators = c.mask_of.result; everyone = c.mask_of_all.result; lone = Some v } in
+    let made : ℕ → ℕ → Flood =
+    λ n v. record { frame = 5; slot = 1; limit = n; initiators = c.mask_of.result; everyone = c.mask_of_all.result; lone = Some v } in
     let start : IsMask (λ v. v == f.start) (ids f.nodes) c.mask_of.result =
     subst (λ (u : ℕ). IsMask (λ v. v == u) (ids f.nodes) c.mask_of.result) c.start-start.ensures.value
     (subst (λ (ns : List NodeLine). IsMask (λ v. v == c.start-start.result) (ids ns) c.mask_of.result) c.nodes.ensures.value c.mask_of.ensures) in

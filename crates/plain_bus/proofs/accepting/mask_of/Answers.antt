@@ -16,11 +16,14 @@ loop-i-preserved c =
     let size = length-map lines (λ (l : NodeLine). l.node) in
     let below : i < length (ids lines) = omega (arith, c.loop-i-test.true, size) in
     let few : length (ids lines) ≤ 64 = omega (arith, c.requires, size) in
-    let read : get_or (ids lines) i 0 ≡ n.node = get_or-map (λ (l : NodeLine). l.node) lines i n 0 c.loop-i-test.true ∙ ap (λ (l : NodeLine). l.node) (sym c.index-nodes-i.is) in
+    let read : get_or (ids lines) i 0 ≡ n.node = get_or-map (λ (l : NodeLine). l.node) lines i n 0 c.loop-i-test.true
+    ∙ ap (λ (l : NodeLine). l.node) (sym c.index-nodes-i.is) in
     let answer : test (get_or (ids lines) i 0) ≡ c.eq.result = ap test read ∙ sym c.eq.ensures in
     elim c.if-eq.branch [
       | then-eq w ↦
-          subst (λ (m : ℕ). IsMaskUpto test (ids lines) (i + 1) m) (sym w.mask-is) (one_set (ids lines) few test i c.loop-i.mask below c.loop-i.invariant (answer ∙ w.if-eq.true))
+          subst (λ (m : ℕ). IsMaskUpto test (ids lines) (i + 1) m) (sym w.mask-is)
+          (one_set (ids lines) few test i c.loop-i.mask below c.loop-i.invariant (answer ∙ w.if-eq.true))
       | else-eq w ↦
-          subst (λ (m : ℕ). IsMaskUpto test (ids lines) (i + 1) m) (sym w.mask-is) (one_unset (ids lines) few test i c.loop-i.mask below c.loop-i.invariant (answer ∙ w.if-eq.false))
+          subst (λ (m : ℕ). IsMaskUpto test (ids lines) (i + 1) m) (sym w.mask-is)
+          (one_unset (ids lines) few test i c.loop-i.mask below c.loop-i.invariant (answer ∙ w.if-eq.false))
     ]

@@ -34,7 +34,8 @@ returns-clause-cost c b sends behind are some =
     let of_masks : List ℕ → List ℕ = λ ms. steps_at ms place (length ms) in
     let steps : of_masks c.as_slice.result.now ≡ steps_in (sends v) = ap of_masks c.as_slice.ensures.value ∙ told in
     let with_bytes : ℕ → Cost = λ n. with_slot p limit w.is_open n (steps_in (sends v)) c.args.cost.now in
-    c.add_slot.ensures.value (steps_in (sends v)) (c.steps_of-steps.ensures.count ∙ ap length steps) (c.steps_of-steps.ensures.last ∙ ap (last_or None) steps) some
+    c.add_slot.ensures.value (steps_in (sends v)) (c.steps_of-steps.ensures.count ∙ ap length steps) (c.steps_of-steps.ensures.last ∙ ap (last_or None) steps)
+    some
     ∙ ap with_bytes bytes
     ∙ ap (λ (y : Seen). with_slot p limit y.is_open (bytes_of b v) (steps_in (sends v)) c.args.cost.now) window
     ∙ ap (λ (own : Bool). if own then charged p limit b sends v c.args.cost.now else c.args.cost.now) (sym c.if-not-is_own.false)

@@ -14,7 +14,8 @@ charge-requires-clause-room c =
     let d : Cost = get_or c.loop-cost.costs i c.cost-item.result in
     let size = c.loop-cost.auto.costs in
     let below : i < length olds = omega (arith, c.loop-cost-test.true, size) in
-    let at : d ≡ get_or olds i d = same_place c.loop-cost.costs olds i c.cost-item.result c.loop-cost.invariant.todo ∙ get_or_default olds i c.cost-item.result d below in
+    let at : d ≡ get_or olds i d = same_place c.loop-cost.costs olds i c.cost-item.result c.loop-cost.invariant.todo
+    ∙ get_or_default olds i c.cost-item.result d below in
     subst (λ (x : Cost). IsBelow 1048576 x) (sym at) (c.requires.room i d below)
 
 pub loop-cost-preserved : goal.loop-cost-preserved
@@ -50,7 +51,8 @@ loop-cost-preserved c =
           ∙ ap (λ (o : Bool). if o then charged p limit b sends v d else d) own
           ∙ ap (λ (z : Cost). if (n v).rank == rank then charged p limit b sends v z else z) cost_is in
           take_more_set now i y there
-          ∙ one_more_mapped (slot_charged p rank limit b sends n cost) ids i v (take i now) y in_ids (get_or_default ids i 0 v in_ids) (c.loop-cost.invariant.done b n cost sends behind are nodes costs some) made);
+          ∙ one_more_mapped (slot_charged p rank limit b sends n cost) ids i v (take i now) y in_ids (get_or_default ids i 0 v in_ids)
+          (c.loop-cost.invariant.done b n cost sends behind are nodes costs some) made);
       todo = rest_unchanged olds now i y c.loop-cost.invariant.todo;
       room = λ m fits. subst (λ (l : List Cost). All (IsBelow (m + 1)) l) (sym (take_more_set now i y there))
           (All-push (IsBelow (m + 1)) (take i now) y (c.loop-cost.invariant.room m fits)

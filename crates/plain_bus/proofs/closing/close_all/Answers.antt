@@ -1,4 +1,5 @@
-use Rattle.std.proofs.Common.{◌≡◌, ◌<◌, ◌++◌, ◌∷◌, [], ℕ, List, All, Option, length, map, take, get_or, set, filter_map, option_to_list, option_map, subst, sym, ◌∙◌, ap, arith, ◌+◌}
+use Rattle.std.proofs.Common.{◌≡◌, ◌<◌, ◌++◌, ◌∷◌, [], ℕ, List, All, Option, length, map, take, get_or, set, filter_map, option_to_list, option_map, subst, sym}
+use Rattle.std.proofs.Common.{◌∙◌, ap, arith, ◌+◌}
 use Rattle.std.proofs.lemmas.List.{take_all, length-map, get_or_default, take_more_set}
 use Rattle.std.proofs.lemmas.List.Elements.{All-push}
 use Rattle.bus_rules.specs.Slots.{Message}
@@ -16,7 +17,8 @@ close-delivery-requires-clause-early c =
     let n : BusNode = get_or c.loop-node.nodes i c.node-item.result in
     let size = c.loop-node.auto.nodes in
     let below : i < length olds = omega (arith, c.loop-node-test.true, size) in
-    let at : n ≡ get_or olds i n = same_place c.loop-node.nodes olds i c.node-item.result c.loop-node.invariant.todo ∙ get_or_default olds i c.node-item.result n below in
+    let at : n ≡ get_or olds i n = same_place c.loop-node.nodes olds i c.node-item.result c.loop-node.invariant.todo
+    ∙ get_or_default olds i c.node-item.result n below in
     subst (λ (x : BusNode). IsEarlyState c.args.frame x.state) (sym at) (c.requires.early i n below)
 
 pub loop-node-preserved : goal.loop-node-preserved
@@ -54,7 +56,8 @@ loop-node-preserved c =
       todo = rest_unchanged olds now i y c.loop-node.invariant.todo;
       log = λ b g behind are may.
           (let heard = c.heard_by-accepted.ensures.value b behind.windows (origin_here b ids ws xs behind same g olds are may i in_xs w w_at x x_at n at) in
-          delivered_more b ids ws xs behind same g olds are may i in_xs w w_at x x_at n at h heard c.args.rank f c.args.slot part c.args.log.now.items c.loop-node.log.items c.push_some.new.log.items c.close-delivery.result
+          delivered_more b ids ws xs behind same g olds are may i in_xs w w_at x x_at n at h heard c.args.rank f c.args.slot part c.args.log.now.items
+          c.loop-node.log.items c.push_some.new.log.items c.close-delivery.result
           (c.close-delivery.ensures.delivery (may_here b ids ws xs behind same g olds are may i in_xs w w_at x x_at n at h heard))
           (c.loop-node.invariant.log b g behind are may) c.in_ok-push_some.ensures);
       early = subst (λ (l : List BusNode). All (λ (z : BusNode). IsEarlyState f z.state) l) (sym (take_more_set now i y there))
@@ -73,4 +76,5 @@ returns-clause-log c b n behind are may =
     let g = delivers_node b c.args.rank c.args.frame c.args.slot c.args.part.now n in
     let size = c.loop-node.auto.nodes in
     c.loop-node.invariant.log b n behind are may
-    ∙ ap (λ (l : List ℕ). c.args.log.now.items ++ filter_map g l) (take_all c.loop-node.node-index ids (omega (arith, c.loop-node-test.false, size, ap length are, length-map ids n)))
+    ∙ ap (λ (l : List ℕ). c.args.log.now.items ++ filter_map g l)
+    (take_all c.loop-node.node-index ids (omega (arith, c.loop-node-test.false, size, ap length are, length-map ids n)))

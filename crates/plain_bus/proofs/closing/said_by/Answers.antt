@@ -9,7 +9,8 @@ returns-in-Some c =
     let place = c.in-Some.ensures.place in
     record {
       value = λ b are there. c.said_in.ensures.value ∙ ap (λ (w : Seen). w.message)
-          (seen_there b c.args.ids.now c.args.windows.now are c.in-Some.place c.args.origin c.index-windows-place.result (omega (arith, place.0, c.requires.windows)) place.0 place.1 c.index-windows-place.is);
+          (seen_there b c.args.ids.now c.args.windows.now are c.in-Some.place c.args.origin c.index-windows-place.result
+          (omega (arith, place.0, c.requires.windows)) place.0 place.1 c.index-windows-place.is);
       ranges = c.said_in.ensures.ranges;
     }
 

@@ -12,7 +12,8 @@ returns-in-Some-clause-value c ks size last some =
     ∙ ap (λ (n : ℕ). p.listen + (n + 1) * c.step.result - c.turn.result) c.from.ensures
     ∙ ap (λ (n : ℕ). p.listen + (c.in-Some.last + 1) * n - c.turn.result) c.step.ensures.value
     ∙ ap (λ (n : ℕ). p.listen + (c.in-Some.last + 1) * step p bytes - n) c.turn.ensures.value
-    ∙ sym (window_full p c.args.limit bytes c.args.steps.count c.args.is_open c.args.steps.last ks c.if-not-is_open.false size last c.in-Some.last c.in-Some.is c.if-steps-limit.true)
+    ∙ sym (window_full p c.args.limit bytes c.args.steps.count c.args.is_open c.args.steps.last ks c.if-not-is_open.false size last c.in-Some.last
+    c.in-Some.is c.if-steps-limit.true)
 
 pub returns-in-Some-clause-few : goal.returns-in-Some-clause-few
 returns-in-Some-clause-few c =
@@ -29,6 +30,8 @@ returns-in_default-clause-value c ks size last some =
     let p = c.args.profile.now in
     c.close.ensures.value ∙ sym (
     elim c.in_default.branch [
-      | in_default-via-in-Some+else-steps-limit w ↦ window_unfull p c.args.limit c.args.bytes c.args.steps.count c.args.is_open c.args.steps.last ks c.if-not-is_open.false size last w.if-steps-limit.false
-      | in_default-via-in_default w ↦ window_silent p c.args.limit c.args.bytes c.args.steps.count c.args.is_open c.args.steps.last ks c.if-not-is_open.false size last w.in_default.is
+      | in_default-via-in-Some+else-steps-limit w ↦ window_unfull p c.args.limit c.args.bytes c.args.steps.count c.args.is_open c.args.steps.last ks
+          c.if-not-is_open.false size last w.if-steps-limit.false
+      | in_default-via-in_default w ↦ window_silent p c.args.limit c.args.bytes c.args.steps.count c.args.is_open c.args.steps.last ks c.if-not-is_open.false
+          size last w.in_default.is
     ])

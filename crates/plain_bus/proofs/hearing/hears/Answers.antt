@@ -15,7 +15,8 @@ returns-then-not-may_hear c s m flood known at =
     let v = get_or nodes place 0 in
     let x = c.index-deref-from.result in
     let below : place < length nodes = subst (λ (n : ℕ). place < n) c.requires.sealed c.requires.place in
-    let read : x ≡ get_or c.args.now.now.each.items place x = c.index-deref-from.is ∙ ap (λ (l : List Station). get_or l c.from.result x) c.deref.ensures.0 ∙ ap (λ (n : ℕ). get_or c.args.now.now.each.items n x) c.from.ensures in
+    let read : x ≡ get_or c.args.now.now.each.items place x = c.index-deref-from.is ∙ ap (λ (l : List Station). get_or l c.from.result x) c.deref.ensures.0
+    ∙ ap (λ (n : ℕ). get_or c.args.now.now.each.items n x) c.from.ensures in
     let is : x ≡ station_at m v = station_read s m t f k flood known place below c.args.now.now.each.items x at.each read in
     sym (deaf s m t f k flood known place below x is (sym c.may_hear.ensures ∙ c.if-not-may_hear.true))
 
@@ -29,14 +30,16 @@ returns-in_default c s m flood known at =
     let v = get_or nodes place 0 in
     let x = c.index-deref-from.result in
     let below : place < length nodes = subst (λ (n : ℕ). place < n) c.requires.sealed c.requires.place in
-    let read : x ≡ get_or c.args.now.now.each.items place x = c.index-deref-from.is ∙ ap (λ (l : List Station). get_or l c.from.result x) c.deref.ensures.0 ∙ ap (λ (n : ℕ). get_or c.args.now.now.each.items n x) c.from.ensures in
+    let read : x ≡ get_or c.args.now.now.each.items place x = c.index-deref-from.is ∙ ap (λ (l : List Station). get_or l c.from.result x) c.deref.ensures.0
+    ∙ ap (λ (n : ℕ). get_or c.args.now.now.each.items n x) c.from.ensures in
     let is : x ≡ station_at m v = station_read s m t f k flood known place below c.args.now.now.each.items x at.each read in
     let node : x.node ≡ v = ap (λ (y : Station). y.node) is in
     let offers : AreOffers (offer s m k v) (map (station_at m) nodes) (bit_and c.from_mask-reaching.result c.args.now.now.senders) =
     offers_read s m t f k flood known v c.from_mask-reaching.result c.args.now.now.senders c.from_mask-reaching.ensures at.senders in
     let offered : AreOffers (offer s m k x.node) c.as_slice.result.now (bit_and c.from_mask-reaching.result c.args.now.now.senders) =
     subst (λ (n : ℕ). AreOffers (offer s m k n) c.as_slice.result.now (bit_and c.from_mask-reaching.result c.args.now.now.senders)) (sym node)
-    (subst (λ (l : List Station). AreOffers (offer s m k v) l (bit_and c.from_mask-reaching.result c.args.now.now.senders)) (sym (c.as_slice.ensures.value ∙ at.each)) offers) in
+    (subst (λ (l : List Station). AreOffers (offer s m k v) l (bit_and c.from_mask-reaching.result c.args.now.now.senders))
+    (sym (c.as_slice.ensures.value ∙ at.each)) offers) in
     let picked : pick s m k v ≡ c.picked.result = sym (c.picked.ensures s m flood known offered ∙ ap (λ (n : ℕ). pick s m k n) node) in
     sym (unreached s m t f k flood known place below (picked ∙ c.in_default.is))
 
@@ -50,16 +53,19 @@ returns-then-takes c s m flood known at =
     let v = get_or nodes place 0 in
     let x = c.index-deref-from.result in
     let below : place < length nodes = subst (λ (n : ℕ). place < n) c.requires.sealed c.requires.place in
-    let read : x ≡ get_or c.args.now.now.each.items place x = c.index-deref-from.is ∙ ap (λ (l : List Station). get_or l c.from.result x) c.deref.ensures.0 ∙ ap (λ (n : ℕ). get_or c.args.now.now.each.items n x) c.from.ensures in
+    let read : x ≡ get_or c.args.now.now.each.items place x = c.index-deref-from.is ∙ ap (λ (l : List Station). get_or l c.from.result x) c.deref.ensures.0
+    ∙ ap (λ (n : ℕ). get_or c.args.now.now.each.items n x) c.from.ensures in
     let is : x ≡ station_at m v = station_read s m t f k flood known place below c.args.now.now.each.items x at.each read in
     let node : x.node ≡ v = ap (λ (y : Station). y.node) is in
     let offers : AreOffers (offer s m k v) (map (station_at m) nodes) (bit_and c.from_mask-reaching.result c.args.now.now.senders) =
     offers_read s m t f k flood known v c.from_mask-reaching.result c.args.now.now.senders c.from_mask-reaching.ensures at.senders in
     let offered : AreOffers (offer s m k x.node) c.as_slice.result.now (bit_and c.from_mask-reaching.result c.args.now.now.senders) =
     subst (λ (n : ℕ). AreOffers (offer s m k n) c.as_slice.result.now (bit_and c.from_mask-reaching.result c.args.now.now.senders)) (sym node)
-    (subst (λ (l : List Station). AreOffers (offer s m k v) l (bit_and c.from_mask-reaching.result c.args.now.now.senders)) (sym (c.as_slice.ensures.value ∙ at.each)) offers) in
+    (subst (λ (l : List Station). AreOffers (offer s m k v) l (bit_and c.from_mask-reaching.result c.args.now.now.senders))
+    (sym (c.as_slice.ensures.value ∙ at.each)) offers) in
     let picked : pick s m k v ≡ c.picked.result = sym (c.picked.ensures s m flood known offered ∙ ap (λ (n : ℕ). pick s m k n) node) in
-    sym (heard s m t f k flood known place below x c.in-Some.origin is (sym c.may_hear.ensures ∙ c.if-not-may_hear.false) (picked ∙ c.in-Some.is) (sym c.takes.ensures ∙ c.if-takes.true))
+    sym (heard s m t f k flood known place below x c.in-Some.origin is (sym c.may_hear.ensures ∙ c.if-not-may_hear.false) (picked ∙ c.in-Some.is)
+    (sym c.takes.ensures ∙ c.if-takes.true))
 
 pub returns-else-takes : goal.returns-else-takes
 returns-else-takes c s m flood known at =
@@ -71,13 +77,15 @@ returns-else-takes c s m flood known at =
     let v = get_or nodes place 0 in
     let x = c.index-deref-from.result in
     let below : place < length nodes = subst (λ (n : ℕ). place < n) c.requires.sealed c.requires.place in
-    let read : x ≡ get_or c.args.now.now.each.items place x = c.index-deref-from.is ∙ ap (λ (l : List Station). get_or l c.from.result x) c.deref.ensures.0 ∙ ap (λ (n : ℕ). get_or c.args.now.now.each.items n x) c.from.ensures in
+    let read : x ≡ get_or c.args.now.now.each.items place x = c.index-deref-from.is ∙ ap (λ (l : List Station). get_or l c.from.result x) c.deref.ensures.0
+    ∙ ap (λ (n : ℕ). get_or c.args.now.now.each.items n x) c.from.ensures in
     let is : x ≡ station_at m v = station_read s m t f k flood known place below c.args.now.now.each.items x at.each read in
     let node : x.node ≡ v = ap (λ (y : Station). y.node) is in
     let offers : AreOffers (offer s m k v) (map (station_at m) nodes) (bit_and c.from_mask-reaching.result c.args.now.now.senders) =
     offers_read s m t f k flood known v c.from_mask-reaching.result c.args.now.now.senders c.from_mask-reaching.ensures at.senders in
     let offered : AreOffers (offer s m k x.node) c.as_slice.result.now (bit_and c.from_mask-reaching.result c.args.now.now.senders) =
     subst (λ (n : ℕ). AreOffers (offer s m k n) c.as_slice.result.now (bit_and c.from_mask-reaching.result c.args.now.now.senders)) (sym node)
-    (subst (λ (l : List Station). AreOffers (offer s m k v) l (bit_and c.from_mask-reaching.result c.args.now.now.senders)) (sym (c.as_slice.ensures.value ∙ at.each)) offers) in
+    (subst (λ (l : List Station). AreOffers (offer s m k v) l (bit_and c.from_mask-reaching.result c.args.now.now.senders))
+    (sym (c.as_slice.ensures.value ∙ at.each)) offers) in
     let picked : pick s m k v ≡ c.picked.result = sym (c.picked.ensures s m flood known offered ∙ ap (λ (n : ℕ). pick s m k n) node) in
     sym (refused s m t f k flood known place below x c.in-Some.origin is (picked ∙ c.in-Some.is) (sym c.takes.ensures ∙ c.if-takes.false))

@@ -17,12 +17,15 @@ items_of o = option_map {T = Vec Part Global} {U = List Part} (λ x. x.items) o
 pub returns-in-Some-clause-parts : goal.returns-in-Some-clause-parts
 returns-in-Some-clause-parts c s start others are =
     let held : Option (List Part) = option_map parts_at (find (holds c.args.rank c.args.frame) c.args.nodes.now) in
-    ap (λ (h : Option (List Part)). option_or h held) (ap items_of (sym c.in-Some.is) ∙ c.in_ok-parts.ensures.parts) ∙ led s c.args.rank c.args.frame start others c.args.nodes.now are
+    ap (λ (h : Option (List Part)). option_or h held) (ap items_of (sym c.in-Some.is) ∙ c.in_ok-parts.ensures.parts)
+    ∙ led s c.args.rank c.args.frame start others c.args.nodes.now are
 
 pub returns-in-None-clause-parts : goal.returns-in-None-clause-parts
 returns-in-None-clause-parts c =
     let held : Option (List Part) = option_map parts_at (find (holds c.args.rank c.args.frame) c.args.nodes.now) in
     IfOk-weaker c.parts_of_holder.result (λ o. items_of o ≡ held)
-    (λ o. (s : ScenarioParts) (start others : ℕ → State) → c.args.nodes.now ≡ nodes_in s c.args.rank start start others → items_of o ≡ option_map parts_of (round_plan s c.args.rank c.args.frame start))
-    (λ o is s start others are. is ∙ ap (λ (h : Option (List Part)). option_or h held) (ap items_of (sym c.in-None.is) ∙ c.in_ok-parts.ensures.parts) ∙ led s c.args.rank c.args.frame start others c.args.nodes.now are)
+    (λ o. (s : ScenarioParts) (start others : ℕ → State) → c.args.nodes.now ≡ nodes_in s c.args.rank start start others
+    → items_of o ≡ option_map parts_of (round_plan s c.args.rank c.args.frame start))
+    (λ o is s start others are. is ∙ ap (λ (h : Option (List Part)). option_or h held) (ap items_of (sym c.in-None.is) ∙ c.in_ok-parts.ensures.parts)
+    ∙ led s c.args.rank c.args.frame start others c.args.nodes.now are)
     c.parts_of_holder.ensures.parts

@@ -10,7 +10,8 @@ use Rattle.plain_bus.proofs.offers.picked.Goals.{then-is_some-via-then-is_some, 
 
 pub returns-in_default : goal.returns-in_default
 returns-in_default c s m flood known are =
-    sym (nothing_picked s m c.args.step c.args.at known (subst (IsOffer (offer s m c.args.step c.args.at)) c.in_default.is (c.first_sent.ensures (offer s m c.args.step c.args.at) are)))
+    sym (nothing_picked s m c.args.step c.args.at known
+    (subst (IsOffer (offer s m c.args.step c.args.at)) c.in_default.is (c.first_sent.ensures (offer s m c.args.step c.args.at) are)))
 
 pub returns-then-is_some : goal.returns-then-is_some
 returns-then-is_some c s m flood known are =

@@ -8,7 +8,14 @@ use Rattle.plain_bus.proofs.slot_flood.flood_in.Goals as goal
 pub returns : goal.returns
 returns c s t rank part states are lines sealed limit =
     let f = c.args.frame in
-    let made : ℕ → Flood = λ n. record { frame = f; slot = c.args.slot; limit = n; initiators = c.initiators_of.result; everyone = c.takers_of.result; lone = None } in
+    let made : ℕ → Flood = λ n. record {
+      frame = f;
+      slot = c.args.slot;
+      limit = n;
+      initiators = c.initiators_of.result;
+      everyone = c.takers_of.result;
+      lone = None;
+    } in
     flood_of_slot s t rank f c.args.slot part states (made c.args.limit) lines sealed (ap made limit)
     (c.initiators_of.ensures (ids s.nodes) (λ v. is_some (said_in (opened_at s rank f part v (states v)))) are.initiators)
     (c.takers_of.ensures (ids s.nodes) (λ v. takes_part rank part (states v) (opened_at s rank f part v (states v))) are.takers)

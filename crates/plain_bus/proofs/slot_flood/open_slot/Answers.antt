@@ -19,6 +19,7 @@ returns c =
       flood = λ s t p start others are part lines sealed limit.
           c.flood_in.ensures s t rank (part_of p j) (before_slot s rank f p start j)
           (subst (λ (ws : List Window). AreWindows s rank f (part_of p j) (before_slot s rank f p start j) ws) (sym c.deref.ensures.value)
-          (windows_seen s rank f (part_of p j) (before_slot s rank f p start j) c.open_all.new.windows.items (c.in_ok-open_all.ensures.windows ∙ seen_all s rank f p start others j c.args.nodes.now c.args.part.now are part)))
+          (windows_seen s rank f (part_of p j) (before_slot s rank f p start j) c.open_all.new.windows.items
+          (c.in_ok-open_all.ensures.windows ∙ seen_all s rank f p start others j c.args.nodes.now c.args.part.now are part)))
           lines sealed limit;
     }

@@ -21,13 +21,16 @@ loop-i-preserved c nodes test same =
     let few : length nodes ≤ 64 = omega (arith, c.requires, length-map ws flag, ap length same, length-map nodes test) in
     elim c.if-window.branch [
       | then-window b ↦
-          subst (λ (m : ℕ). IsMaskUpto test nodes (i + 1) m) (sym b.mask-is) (one_set nodes few test i c.loop-i.mask at.0 (c.loop-i.invariant nodes test same) (at.1 ∙ b.if-window.true))
+          subst (λ (m : ℕ). IsMaskUpto test nodes (i + 1) m) (sym b.mask-is)
+          (one_set nodes few test i c.loop-i.mask at.0 (c.loop-i.invariant nodes test same) (at.1 ∙ b.if-window.true))
       | else-window b ↦
-          subst (λ (m : ℕ). IsMaskUpto test nodes (i + 1) m) (sym b.mask-is) (one_unset nodes few test i c.loop-i.mask at.0 (c.loop-i.invariant nodes test same) (at.1 ∙ b.if-window.false))
+          subst (λ (m : ℕ). IsMaskUpto test nodes (i + 1) m) (sym b.mask-is)
+          (one_unset nodes few test i c.loop-i.mask at.0 (c.loop-i.invariant nodes test same) (at.1 ∙ b.if-window.false))
     ]
 
 pub returns : goal.returns
 returns c nodes test same =
     let flag : Window → Bool = λ x. x.takes_part in
-    let all : c.loop-i.i ≡ length nodes = omega (arith, c.loop-i-test.false, c.loop-i.auto.i-end, length-map c.args.windows.now flag, ap length same, length-map nodes test) in
+    let all : c.loop-i.i ≡ length nodes =
+    omega (arith, c.loop-i-test.false, c.loop-i.auto.i-end, length-map c.args.windows.now flag, ap length same, length-map nodes test) in
     subst (λ (n : ℕ). IsMaskUpto test nodes n c.loop-i.mask) all (c.loop-i.invariant nodes test same)

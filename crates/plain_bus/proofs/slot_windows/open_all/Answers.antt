@@ -20,13 +20,15 @@ loop-node-preserved c =
     let at : n ≡ get_or olds i n = same_place now olds i c.node-item.result c.loop-node.invariant.todo ∙ get_or_default olds i c.node-item.result n below in
     let pushed : c.push.new.self.items ≡ c.loop-node.windows.items ++ w ∷ [] = search rules in
     record {
-      done = one_more_changed (node_opened c.args.rank c.args.frame c.args.part.now) olds now i n c.open-window.new.self below there at c.loop-node.invariant.done told.state;
+      done = one_more_changed (node_opened c.args.rank c.args.frame c.args.part.now) olds now i n c.open-window.new.self below there at
+          c.loop-node.invariant.done told.state;
       todo = rest_unchanged olds now i c.open-window.new.self c.loop-node.invariant.todo;
       early = subst (λ (l : List BusNode). All (λ (z : BusNode). IsEarlyState c.args.frame z.state) l) (sym (take_more_set now i c.open-window.new.self there))
           (All-push (λ (z : BusNode). IsEarlyState c.args.frame z.state) (take i now) c.open-window.new.self c.loop-node.invariant.early told.early);
       seen =
           ap (map seen) pushed ∙ map_more seen c.loop-node.windows.items w
-          ∙ one_more_mapped (seen_of c.args.rank c.args.frame c.args.part.now) olds i n (map seen c.loop-node.windows.items) (seen w) below at c.loop-node.invariant.seen told.seen;
+          ∙ one_more_mapped (seen_of c.args.rank c.args.frame c.args.part.now) olds i n (map seen c.loop-node.windows.items)
+          (seen w) below at c.loop-node.invariant.seen told.seen;
     }
 
 pub open-window-requires-clause-early : goal.open-window-requires-clause-early
@@ -36,7 +38,8 @@ open-window-requires-clause-early c =
     let n : BusNode = get_or c.loop-node.nodes i c.node-item.result in
     let size = c.loop-node.auto.nodes in
     let below : i < length olds = omega (arith, c.loop-node-test.true, size) in
-    let at : n ≡ get_or olds i n = same_place c.loop-node.nodes olds i c.node-item.result c.loop-node.invariant.todo ∙ get_or_default olds i c.node-item.result n below in
+    let at : n ≡ get_or olds i n = same_place c.loop-node.nodes olds i c.node-item.result c.loop-node.invariant.todo
+    ∙ get_or_default olds i c.node-item.result n below in
     subst (λ (x : BusNode). IsEarlyState c.args.frame x.state) (sym at) (c.requires.early i n below)
 
 pub returns : goal.returns

@@ -9,8 +9,10 @@ use Rattle.plain_bus.proofs.stepping.first.Given as goal
 
 abbrev pub invariant-loop-i : goal.invariant-loop-i
 invariant-loop-i l = record {
-  each : (s : Setting) (t : Traced) → t.nodes ≡ map (λ (n : NodeLine). n.node) l.nodes → IsFlood s t l.flood → l.first.each.items ≡ take l.i (map (station_at (beginning s)) t.nodes);
-  senders : (s : Setting) (t : Traced) → t.nodes ≡ map (λ (n : NodeLine). n.node) l.nodes → IsFlood s t l.flood → IsMaskUpto (λ v. is_some ((beginning s).sends v)) t.nodes l.i l.first.senders;
+  each : (s : Setting) (t : Traced) → t.nodes ≡ map (λ (n : NodeLine). n.node) l.nodes → IsFlood s t l.flood
+      → l.first.each.items ≡ take l.i (map (station_at (beginning s)) t.nodes);
+  senders : (s : Setting) (t : Traced) → t.nodes ≡ map (λ (n : NodeLine). n.node) l.nodes → IsFlood s t l.flood
+      → IsMaskUpto (λ v. is_some ((beginning s).sends v)) t.nodes l.i l.first.senders;
   length : length l.first.each.items ≡ l.i;
   times : All (λ (x : Station). x.times ≤ 0) l.first.each.items;
 }

@@ -10,7 +10,8 @@ use Rattle.plain_bus.proofs.stepping.flooded.Goals as goal
 
 pub loop-step-init : goal.loop-step-init
 loop-step-init c = record {
-  at = λ s flood. subst (λ (m : Moment). AreAt m c.args.trace.now.nodes c.first-now.result) (sym (moment_first s)) (c.first-now.ensures.at s c.args.trace.now c.requires.sealed flood);
+  at = λ s flood. subst (λ (m : Moment). AreAt m c.args.trace.now.nodes c.first-now.result) (sym (moment_first s))
+      (c.first-now.ensures.at s c.args.trace.now c.requires.sealed flood);
   senders = λ s flood k below. (let none : c.new-senders.result.items ≡ [] = search rules in absurd (omega (arith, below, ap length none)));
   steps = (let none : c.new-senders.result.items ≡ [] = search rules in ap length none);
   length = c.first-now.ensures.length ∙ sym (ap length c.requires.sealed ∙ length-map c.args.nodes.now (λ (n : NodeLine). n.node));
@@ -24,7 +25,8 @@ loop-step-preserved c = record {
       (c.behind-now.ensures.at s (moment s c.loop-step.step) flood (known_at s flood.inside c.loop-step.step) (c.loop-step.invariant.at s flood));
   senders = λ s flood. senders_more s c.args.trace.now.nodes c.loop-step.senders.items c.push.new.self.items c.loop-step.now.senders
       c.loop-step.step (c.loop-step.invariant.senders s flood) c.loop-step.invariant.steps (c.loop-step.invariant.at s flood).senders (search rules);
-  steps = (let pushed : c.push.new.self.items ≡ c.loop-step.senders.items ++ c.loop-step.now.senders ∷ [] = search rules in ap length pushed ∙ omega (arith, length-append c.loop-step.senders.items (c.loop-step.now.senders ∷ []), c.loop-step.invariant.steps));
+  steps = (let pushed : c.push.new.self.items ≡ c.loop-step.senders.items ++ c.loop-step.now.senders ∷ [] = search rules in
+      ap length pushed ∙ omega (arith, length-append c.loop-step.senders.items (c.loop-step.now.senders ∷ []), c.loop-step.invariant.steps));
   length = c.behind-now.ensures.length;
   times = c.behind-now.ensures.times;
 }

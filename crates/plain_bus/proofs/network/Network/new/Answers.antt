@@ -15,7 +15,8 @@ loop-line-preserved c =
     let lines = c.nodes-lines.result.now in
     let i = c.loop-line.line-index in
     let line : NodeLine = get_or lines i c.line-item.result in
-    let more : ids (take (i + 1) lines) ≡ ids (take i lines) ++ c.line-item.result.node ∷ [] = ids_more lines i c.line-item.result c.loop-line-test.true c.line-item.is in
+    let more : ids (take (i + 1) lines) ≡ ids (take i lines) ++ c.line-item.result.node ∷ [] =
+    ids_more lines i c.line-item.result c.loop-line-test.true c.line-item.is in
     let ids_pushed : c.push.new.self.items ≡ c.loop-line.ids.items ++ c.line-item.result.node ∷ [] = search rules in
     let nodes_pushed : c.push-in-loop-line.new.self.items ≡ c.loop-line.nodes.items ++ c.in_ok-node.node ∷ [] = search rules in
     let costs_pushed : c.push-in-loop-line-2.new.self.items ≡ c.loop-line.costs.items ++ no_cost ∷ [] = search rules in
@@ -31,11 +32,16 @@ loop-line-preserved c =
 pub returns : goal.returns
 returns c =
     let all : take c.loop-line.line-index c.nodes-lines.result.now ≡ c.args.s.now.nodes =
-    take_all c.loop-line.line-index c.nodes-lines.result.now (omega (arith, c.loop-line-test.false, c.loop-line.auto.line-index-end)) ∙ c.nodes-lines.ensures.value in
+    take_all c.loop-line.line-index c.nodes-lines.result.now (omega (arith, c.loop-line-test.false, c.loop-line.auto.line-index-end))
+    ∙ c.nodes-lines.ensures.value in
     let of_parts : List ℕ → List BusNode → List Cost → List Delivery → Network = λ a b cs ds. record { ids = a; nodes = b; costs = cs; deliveries = ds } in
     let of_lines : List NodeLine → Network = λ ls. of_parts (ids ls) (map (off_at c.args.s.now) (ids ls)) (map (λ (v : ℕ). no_cost) (ids ls)) [] in
     ap (λ (l : List ℕ). of_parts l c.loop-line.nodes.items c.loop-line.costs.items c.new.result.items) c.loop-line.invariant.ids_are
-    ∙ ap (λ (l : List BusNode). of_parts (ids (take c.loop-line.line-index c.nodes-lines.result.now)) l c.loop-line.costs.items c.new.result.items) c.loop-line.invariant.nodes_are
-    ∙ ap (λ (l : List Cost). of_parts (ids (take c.loop-line.line-index c.nodes-lines.result.now)) (map (off_at c.args.s.now) (ids (take c.loop-line.line-index c.nodes-lines.result.now))) l c.new.result.items) c.loop-line.invariant.costs_are
-    ∙ ap (λ (l : List Delivery). of_parts (ids (take c.loop-line.line-index c.nodes-lines.result.now)) (map (off_at c.args.s.now) (ids (take c.loop-line.line-index c.nodes-lines.result.now))) (map (λ (v : ℕ). no_cost) (ids (take c.loop-line.line-index c.nodes-lines.result.now))) l) c.new.ensures.items
+    ∙ ap (λ (l : List BusNode). of_parts (ids (take c.loop-line.line-index c.nodes-lines.result.now)) l c.loop-line.costs.items c.new.result.items)
+    c.loop-line.invariant.nodes_are
+    ∙ ap (λ (l : List Cost). of_parts (ids (take c.loop-line.line-index c.nodes-lines.result.now))
+    (map (off_at c.args.s.now) (ids (take c.loop-line.line-index c.nodes-lines.result.now))) l c.new.result.items) c.loop-line.invariant.costs_are
+    ∙ ap (λ (l : List Delivery). of_parts (ids (take c.loop-line.line-index c.nodes-lines.result.now))
+    (map (off_at c.args.s.now) (ids (take c.loop-line.line-index c.nodes-lines.result.now)))
+    (map (λ (v : ℕ). no_cost) (ids (take c.loop-line.line-index c.nodes-lines.result.now))) l) c.new.ensures.items
     ∙ ap of_lines all

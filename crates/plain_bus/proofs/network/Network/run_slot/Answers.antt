@@ -1,4 +1,5 @@
-use Rattle.std.proofs.Common.{◌≡◌, ◌<◌, ◌≤◌, ◌+◌, ◌++◌, ◌==◌, ℕ, List, All, length, map, take, drop, filter_map, refl, if◌then◌else◌, subst, sym, ◌∙◌, ap, arith}
+use Rattle.std.proofs.Common.{◌≡◌, ◌<◌, ◌≤◌, ◌+◌, ◌++◌, ◌==◌, ℕ, List, All, length, map, take, drop, filter_map, refl, if◌then◌else◌, subst, sym, ◌∙◌, ap}
+use Rattle.std.proofs.Common.{arith}
 use Rattle.std.specs.List.{AllPairs}
 use Rattle.std.proofs.lemmas.List.{length-map}
 use Rattle.std.proofs.lemmas.Result.{on_ok_weaker}
@@ -58,7 +59,8 @@ size c = ap length (sym c.deref_mut.ensures.value) ∙ c.deref_mut.ensures.len
 
 opened_size : (c : goal.After-self-3-1) → length c.open_slot.new.nodes ≡ length c.self.inside.nodes.items
 opened_size c =
-    ap length c.in_ok-flood.ensures.nodes ∙ length-map c.deref_mut.result.now (node_opened c.args.rank c.args.frame c.args.part.now) ∙ ap length c.deref_mut.ensures.value
+    ap length c.in_ok-flood.ensures.nodes ∙ length-map c.deref_mut.result.now (node_opened c.args.rank c.args.frame c.args.part.now)
+    ∙ ap length c.deref_mut.ensures.value
 
 stored : (c : goal.After-self-3-1) → c.deref_mut-3.result.now ≡ c.open_slot.new.nodes
 stored c = c.deref_mut-3.ensures.value ∙ put_back c.self.inside.nodes.len c.open_slot.new.nodes c.self.inside.nodes.items (size c) (opened_size c)
@@ -67,18 +69,22 @@ stored_first : (c : goal.After-self-3-1) → c.deref.result.now ≡ c.open_slot.
 stored_first c = c.deref.ensures.value ∙ put_back c.self.inside.nodes.len c.open_slot.new.nodes c.self.inside.nodes.items (size c) (opened_size c)
 
 ended : (c : goal.After-self-3-1) → (let n = c.self.inside.nodes.len in
-    take n (c.close_all.new.nodes ++ drop (length c.close_all.new.nodes) (take n (c.open_slot.new.nodes ++ drop (length c.open_slot.new.nodes) c.self.inside.nodes.items)))) ≡ c.close_all.new.nodes
+    take n (c.close_all.new.nodes ++ drop (length c.close_all.new.nodes)
+    (take n (c.open_slot.new.nodes ++ drop (length c.open_slot.new.nodes) c.self.inside.nodes.items)))) ≡ c.close_all.new.nodes
 ended c =
     let n = c.self.inside.nodes.len in
-    ap (λ (l : List BusNode). take n (c.close_all.new.nodes ++ drop (length c.close_all.new.nodes) l)) (put_back n c.open_slot.new.nodes c.self.inside.nodes.items (size c) (opened_size c))
+    ap (λ (l : List BusNode). take n (c.close_all.new.nodes ++ drop (length c.close_all.new.nodes) l))
+    (put_back n c.open_slot.new.nodes c.self.inside.nodes.items (size c) (opened_size c))
     ∙ put_back n c.close_all.new.nodes c.open_slot.new.nodes (opened_size c ∙ size c) (omega (arith, c.close_all.auto.nodes, ap length (stored c)))
 
 -- and the costs
 costs_size : (c : goal.After-self-3-1) → length c.self.inside.costs.items ≡ c.self.inside.costs.len
 costs_size c = ap length (sym c.deref_mut-2.ensures.value) ∙ c.deref_mut-2.ensures.len
 
-charged : (c : goal.After-self-3-1) → take c.self.inside.costs.len (c.charge_all.new.costs ++ drop (length c.charge_all.new.costs) c.self.inside.costs.items) ≡ c.charge_all.new.costs
-charged c = put_back c.self.inside.costs.len c.charge_all.new.costs c.self.inside.costs.items (costs_size c) (omega (arith, c.charge_all.auto.costs, ap length c.deref_mut-2.ensures.value))
+charged : (c : goal.After-self-3-1) → take c.self.inside.costs.len (c.charge_all.new.costs ++ drop (length c.charge_all.new.costs) c.self.inside.costs.items)
+    ≡ c.charge_all.new.costs
+charged c = put_back c.self.inside.costs.len c.charge_all.new.costs c.self.inside.costs.items (costs_size c)
+    (omega (arith, c.charge_all.auto.costs, ap length c.deref_mut-2.ensures.value))
 
 old_costs : (c : goal.After-self-3-1) → c.deref_mut-2.result.now ≡ c.args.self.now.costs
 old_costs c = c.deref_mut-2.ensures.value ∙ ap (λ (n : Network). n.costs) c.self.view_is
@@ -90,18 +96,23 @@ first_ids_are : (c : goal.After-self-3-1) → c.deref-3.result.now ≡ ids c.arg
 first_ids_are c = c.deref-3.ensures.value ∙ ap (λ (n : Network). n.ids) c.self.view_is ∙ c.requires.ready.ids_are
 
 module _ (c : goal.After-self-3-1) (p : Plan) (start others : ℕ → State)
-    (are : c.args.self.now.nodes ≡ nodes_before c.args.s.now c.args.rank c.args.frame p start others c.args.slot) (is : c.args.part.now ≡ part_of p c.args.slot) where
+    (are : c.args.self.now.nodes ≡ nodes_before c.args.s.now c.args.rank c.args.frame p start others c.args.slot)
+    (is : c.args.part.now ≡ part_of p c.args.slot) where
   before : c.deref_mut.result.now ≡ nodes_before c.args.s.now c.args.rank c.args.frame p start others c.args.slot
   before = olds c ∙ are
 
   flood_is : IsFlood (slot_at c.args.s.now c.args.rank c.args.frame p start c.args.slot).flood c.trace.result.now c.in_ok-flood.flood
-  flood_is = c.in_ok-flood.ensures.flood c.args.s.now c.trace.result.now p start others before is c.trace.ensures.value c.trace.ensures.sealed c.sends-limit.ensures
+  flood_is = c.in_ok-flood.ensures.flood c.args.s.now c.trace.result.now p start others before is c.trace.ensures.value c.trace.ensures.sealed
+      c.sends-limit.ensures
 
-  windows_are : map seen c.open_slot.new.windows.items ≡ map (window_seen c.args.s.now c.args.rank c.args.frame p start others c.args.slot) (ids c.args.s.now.nodes)
-  windows_are = c.in_ok-flood.ensures.windows ∙ seen_all c.args.s.now c.args.rank c.args.frame p start others c.args.slot c.deref_mut.result.now c.args.part.now before is
+  windows_are : map seen c.open_slot.new.windows.items ≡ map (window_seen c.args.s.now c.args.rank c.args.frame p start others c.args.slot)
+      (ids c.args.s.now.nodes)
+  windows_are = c.in_ok-flood.ensures.windows ∙ seen_all c.args.s.now c.args.rank c.args.frame p start others c.args.slot c.deref_mut.result.now
+      c.args.part.now before is
 
   opened : c.open_slot.new.nodes ≡ map (node_at c.args.s.now c.args.rank c.args.frame p start others c.args.slot) (ids c.args.s.now.nodes)
-  opened = c.in_ok-flood.ensures.nodes ∙ opened_all c.args.s.now c.args.rank c.args.frame p start others c.args.slot c.deref_mut.result.now c.args.part.now before is
+  opened = c.in_ok-flood.ensures.nodes ∙ opened_all c.args.s.now c.args.rank c.args.frame p start others c.args.slot c.deref_mut.result.now c.args.part.now
+      before is
 
   stations_are : c.flooded-end.result.stations.each.items
       ≡ map (station_at (moment (slot_at c.args.s.now c.args.rank c.args.frame p start c.args.slot).flood STEPS)) (ids c.args.s.now.nodes)
@@ -109,14 +120,18 @@ module _ (c : goal.After-self-3-1) (p : Plan) (start others : ℕ → State)
       c.flooded-end.ensures.each (slot_at c.args.s.now c.args.rank c.args.frame p start c.args.slot).flood flood_is
       ∙ ap (map (station_at (moment (slot_at c.args.s.now c.args.rank c.args.frame p start c.args.slot).flood STEPS))) c.trace.ensures.sealed
 
-  met : (ws : List Window) (xs : List Station) (is : List ℕ) → ws ≡ c.open_slot.new.windows.items → xs ≡ c.flooded-end.result.stations.each.items → is ≡ ids c.args.s.now.nodes
+  met : (ws : List Window) (xs : List Station) (is : List ℕ) → ws ≡ c.open_slot.new.windows.items → xs ≡ c.flooded-end.result.stations.each.items
+      → is ≡ ids c.args.s.now.nodes
       → IsBehind (behind c.args.s.now c.args.rank c.args.frame p start others c.args.slot) is ws xs
   met ws xs is windows stations same =
       subst (λ (l : List ℕ). IsBehind (behind c.args.s.now c.args.rank c.args.frame p start others c.args.slot) l ws xs) (sym same)
-      (behind_slot c.args.s.now c.args.rank c.args.frame p start others c.args.slot ws xs flood_is.inside (ap (map seen) windows ∙ windows_are) (stations ∙ stations_are))
+      (behind_slot c.args.s.now c.args.rank c.args.frame p start others c.args.slot ws xs flood_is.inside (ap (map seen) windows ∙ windows_are)
+      (stations ∙ stations_are))
 
   -- the closing, with the part and the ids as the round has them
-  closes : c.close_all.new.nodes ≡ map (closed_node (behind c.args.s.now c.args.rank c.args.frame p start others c.args.slot) c.args.frame c.args.part.now (node_at c.args.s.now c.args.rank c.args.frame p start others c.args.slot)) c.deref-5.result.now
+  closes : c.close_all.new.nodes
+      ≡ map (closed_node (behind c.args.s.now c.args.rank c.args.frame p start others c.args.slot) c.args.frame c.args.part.now
+      (node_at c.args.s.now c.args.rank c.args.frame p start others c.args.slot)) c.deref-5.result.now
       → c.close_all.new.nodes ≡ nodes_before c.args.s.now c.args.rank c.args.frame p start others (c.args.slot + 1)
   closes made =
       let b = behind c.args.s.now c.args.rank c.args.frame p start others c.args.slot in
@@ -125,7 +140,9 @@ module _ (c : goal.After-self-3-1) (p : Plan) (start others : ℕ → State)
       ∙ ap (λ (q : Part). map (closed_node b c.args.frame q n) (ids c.args.s.now.nodes)) is
       ∙ nodes_closed c.args.s.now c.args.rank c.args.frame p start others c.args.slot
 
-  delivers : c.close_all.new.log.items ≡ c.self.inside.deliveries.items ++ filter_map (delivers_node (behind c.args.s.now c.args.rank c.args.frame p start others c.args.slot) c.args.rank c.args.frame c.args.slot c.args.part.now (node_at c.args.s.now c.args.rank c.args.frame p start others c.args.slot)) c.deref-5.result.now
+  delivers : c.close_all.new.log.items ≡ c.self.inside.deliveries.items ++ filter_map
+      (delivers_node (behind c.args.s.now c.args.rank c.args.frame p start others c.args.slot) c.args.rank c.args.frame c.args.slot c.args.part.now
+      (node_at c.args.s.now c.args.rank c.args.frame p start others c.args.slot)) c.deref-5.result.now
       → c.close_all.new.log.items ≡ c.args.self.now.deliveries ++ slot_deliveries c.args.s.now c.args.rank c.args.frame p start c.args.slot
   delivers made =
       let b = behind c.args.s.now c.args.rank c.args.frame p start others c.args.slot in
@@ -139,8 +156,10 @@ module _ (c : goal.After-self-3-1) (p : Plan) (start others : ℕ → State)
   nodes_now : c.deref_mut-3.result.now ≡ map (node_at c.args.s.now c.args.rank c.args.frame p start others c.args.slot) c.deref-5.result.now
   nodes_now = stored c ∙ opened ∙ ap (map (node_at c.args.s.now c.args.rank c.args.frame p start others c.args.slot)) (sym (ids_are c))
 
-  none_refuses : AllMay (behind c.args.s.now c.args.rank c.args.frame p start others c.args.slot) c.deref-5.result.now (node_at c.args.s.now c.args.rank c.args.frame p start others c.args.slot)
-  none_refuses = subst (λ (l : List ℕ). AllMay (behind c.args.s.now c.args.rank c.args.frame p start others c.args.slot) l (node_at c.args.s.now c.args.rank c.args.frame p start others c.args.slot))
+  none_refuses : AllMay (behind c.args.s.now c.args.rank c.args.frame p start others c.args.slot) c.deref-5.result.now
+      (node_at c.args.s.now c.args.rank c.args.frame p start others c.args.slot)
+  none_refuses = subst (λ (l : List ℕ). AllMay (behind c.args.s.now c.args.rank c.args.frame p start others c.args.slot) l
+      (node_at c.args.s.now c.args.rank c.args.frame p start others c.args.slot))
       (sym (ids_are c)) (all_may c.args.s.now c.args.rank c.args.frame p start others c.args.slot)
 
 pub returns-clause-nodes : goal.returns-clause-nodes
@@ -175,7 +194,8 @@ returns-clause-costs c = on_ok_weaker c.close_all.result (λ early p start other
     let of_list : List ℕ → List Cost = λ l. map (slot_charged s.profile rank s.sends b (sends_in flood) n cost) l in
     charged c
     ∙ c.charge_all.ensures.costs b n cost (sends_in flood)
-    (met c p start others are is c.deref-2.result.now c.flooded-end.result.stations.each.items c.deref-3.result.now c.deref-2.ensures.value refl (first_ids_are c))
+    (met c p start others are is c.deref-2.result.now c.flooded-end.result.stations.each.items c.deref-3.result.now c.deref-2.ensures.value refl
+    (first_ids_are c))
     sending
     (stored_first c ∙ opened c p start others are is ∙ ap (map n) (sym (first_ids_are c)))
     (old_costs c ∙ costs ∙ ap (map cost) (sym (first_ids_are c)))
@@ -189,9 +209,18 @@ pub returns-clause-ready : goal.returns-clause-ready
 returns-clause-ready c = on_ok_weaker c.close_all.result (λ early m ready.
     record {
       ids_are = ap (λ (n : Network). n.ids) c.self.view_is ∙ c.requires.ready.ids_are;
-      nodes_each = ap length (ended c) ∙ omega (arith, c.close_all.auto.nodes, ap length (stored c), opened_size c, ap (λ (n : Network). length n.nodes) c.self.view_is, c.requires.ready.nodes_each);
+      nodes_each = ap length (ended c)
+          ∙ omega (
+            arith,
+            c.close_all.auto.nodes,
+            ap length (stored c),
+            opened_size c,
+            ap (λ (n : Network). length n.nodes) c.self.view_is,
+            c.requires.ready.nodes_each,
+          );
       costs_each = ap length (charged c) ∙ omega (arith, c.charge_all.auto.costs, ap length (old_costs c), c.requires.ready.costs_each);
       early = subst (λ (l : List BusNode). All (λ (x : BusNode). IsEarlyState c.args.frame x.state) l) (sym (ended c)) early;
-      room = subst (λ (l : List Cost). All (IsBelow (m + 1)) l) (sym (charged c)) (c.charge_all.ensures.room m (subst (λ (l : List Cost). All (IsBelow m) l) (sym (old_costs c)) ready.room));
+      room = subst (λ (l : List Cost). All (IsBelow (m + 1)) l) (sym (charged c))
+          (c.charge_all.ensures.room m (subst (λ (l : List Cost). All (IsBelow m) l) (sym (old_costs c)) ready.room));
     })
     c.close_all.ensures.early

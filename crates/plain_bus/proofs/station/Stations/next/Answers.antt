@@ -31,15 +31,22 @@ loop-place-preserved c =
     let y = c.after.result in
     let inside : place < length xs = omega (arith, c.loop-place-test.true, c.len-place-end.ensures.value) in
     let below : place < length nodes = subst (λ (n : ℕ). place < n) c.requires.sealed inside in
-    let read : x ≡ get_or xs place x = c.index-deref-from.is ∙ ap (λ (l : List Station). get_or l c.from.result x) c.deref.ensures.0 ∙ ap (λ (n : ℕ). get_or xs n x) c.from.ensures in
+    let read : x ≡ get_or xs place x = c.index-deref-from.is ∙ ap (λ (l : List Station). get_or l c.from.result x) c.deref.ensures.0
+    ∙ ap (λ (n : ℕ). get_or xs n x) c.from.ensures in
     record {
       each = λ s m flood known at.
-          one_more_station (station_at (next s k m)) nodes place y c.loop-place.next.each.items c.push.new.self.each.items below (c.loop-place.invariant.each s m flood known at)
-          (c.after.ensures ∙ stepped s k m (get_or nodes place 0) x c.hears-heard.result (station_read s m t f k flood known place below xs x at.each read) (c.hears-heard.ensures s m flood known at)) c.push.ensures.each;
+          one_more_station (station_at (next s k m)) nodes place y c.loop-place.next.each.items c.push.new.self.each.items below
+          (c.loop-place.invariant.each s m flood known at)
+          (c.after.ensures ∙ stepped s k m (get_or nodes place 0) x c.hears-heard.result (station_read s m t f k flood known place below xs x at.each read)
+          (c.hears-heard.ensures s m flood known at)) c.push.ensures.each;
       senders = λ s m flood known at.
-          subst (λ (n : ℕ). IsMaskUpto (λ v. is_some ((next s k m).sends v)) nodes (place + 1) n) (sym (c.push.ensures.senders ∙ ap (λ (n : ℕ). with_sender c.loop-place.next.senders n y) c.loop-place.invariant.length))
-          (one_more_sender (λ v. is_some ((next s k m).sends v)) nodes place y c.loop-place.next.senders c.requires.few below (c.loop-place.invariant.senders s m flood known at)
-          (ap (λ (z : Station). is_some z.sends) (c.after.ensures ∙ stepped s k m (get_or nodes place 0) x c.hears-heard.result (station_read s m t f k flood known place below xs x at.each read) (c.hears-heard.ensures s m flood known at))));
+          subst (λ (n : ℕ). IsMaskUpto (λ v. is_some ((next s k m).sends v)) nodes (place + 1) n)
+          (sym (c.push.ensures.senders ∙ ap (λ (n : ℕ). with_sender c.loop-place.next.senders n y) c.loop-place.invariant.length))
+          (one_more_sender (λ v. is_some ((next s k m).sends v)) nodes place y c.loop-place.next.senders c.requires.few below
+          (c.loop-place.invariant.senders s m flood known at)
+          (ap (λ (z : Station). is_some z.sends)
+          (c.after.ensures ∙ stepped s k m (get_or nodes place 0) x c.hears-heard.result
+          (station_read s m t f k flood known place below xs x at.each read) (c.hears-heard.ensures s m flood known at))));
       length = omega (arith, ap length c.push.ensures.each, length-append c.loop-place.next.each.items (y ∷ []), c.loop-place.invariant.length);
       times =
           subst (λ (l : List Station). All (λ (z : Station). z.times ≤ k + 1) l) (sym c.push.ensures.each)
@@ -52,12 +59,14 @@ pub returns : goal.returns
 returns c =
     let nodes = c.args.trace.now.nodes in
     let k = c.args.step in
-    let all : c.loop-place.place ≡ length nodes = omega (arith, c.loop-place-test.false, c.loop-place.auto.place-end, c.len-place-end.ensures.value, c.requires.sealed) in
+    let all : c.loop-place.place ≡ length nodes =
+    omega (arith, c.loop-place-test.false, c.loop-place.auto.place-end, c.len-place-end.ensures.value, c.requires.sealed) in
     record {
       at = λ s m flood known at. record {
         each = c.loop-place.invariant.each s m flood known at
             ∙ take_all c.loop-place.place (map (station_at (next s k m)) nodes) (omega (arith, all, length-map nodes (station_at (next s k m))));
-        senders = subst (λ (n : ℕ). IsMaskUpto (λ v. is_some ((next s k m).sends v)) nodes n c.loop-place.next.senders) all (c.loop-place.invariant.senders s m flood known at);
+        senders = subst (λ (n : ℕ). IsMaskUpto (λ v. is_some ((next s k m).sends v)) nodes n c.loop-place.next.senders) all
+            (c.loop-place.invariant.senders s m flood known at);
       };
       length = c.loop-place.invariant.length ∙ all;
       times = c.loop-place.invariant.times;
