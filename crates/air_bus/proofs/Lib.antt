@@ -7,6 +7,8 @@ pub mod TimedWindows
 pub mod WindowFacts
 pub mod ScannedHearings
 pub mod HeardThroughout
+pub mod TunedByDevices
+pub mod CountedEnds
 -- for this crate alone
 mod OpenedByRows
 mod OwnSchedules
@@ -17,7 +19,6 @@ mod OneWindow
 mod AcceptedRanks
 mod ChainedWindows
 mod ChainWalk
-mod TunedByDevices
 mod WindowsSince
 mod WindowRadios
 mod DistinctHearings
@@ -36,5 +37,4 @@ mod SlotParts
 mod SlotFloods
 mod WindowEvents
 mod EventOccasions
-mod CountedEnds
 mod WorkedWindows

@@ -2,11 +2,11 @@
 pub mod Courses
 pub mod FramePlaces
 pub mod Strangers
+pub mod LinkedWindows
+pub mod CourseWalk
 -- the crate's own
 mod AcceptedRanks
-mod LinkedWindows
 mod CourseSteps
-mod CourseWalk
 mod FrameEnds
 mod FoundWindows
 mod WorkedCourses

@@ -46,10 +46,10 @@ use Rattle.bus_induction.proofs.RunsOfLogs.{run}
 use Rattle.slot_runs.proofs.KeptOpen.{IsStill, since_hearings}
 
 module _ (s : ScenarioParts) (clocks : ℕ → ℕ → ℕ) (air : List Entry) (lawful : IsLawfulRun s clocks air) (v : ℕ) where
-  abbrev Opened : ℕ → ℕ → WindowLog → Type 0
+  abbrev pub Opened : ℕ → ℕ → WindowLog → Type 0
   Opened now taken w = w.opened ≤ now
 
-  opened_steps : (t : ℕ) → KeepsWindows s clocks air v Opened t
+  pub opened_steps : (t : ℕ) → KeepsWindows s clocks air v Opened t
   opened_steps t = record {
     begun = λ d n j fine due on stage. omega arith;
     joined = λ d h n y fine next now on stage says rank. omega arith;
@@ -154,6 +154,8 @@ module _ (s : ScenarioParts) (clocks : ℕ → ℕ → ℕ) (air : List Entry) (
           window = first;
           there = in_it;
           frame = refl;
+          rank = refl;
+          slot = refl;
           opened = refl;
           closed = subst (λ (c : Option Closing). IfSome c (λ c. t ≤ c.tick)) (sym open_) tt;
         }) in

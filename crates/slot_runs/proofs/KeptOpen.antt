@@ -1,4 +1,4 @@
--- A window that is open at some tick is among those of the trail.
+-- A window that is there at some tick is among those of the trail, and one that is open then closes later.
 use Rattle.std.proofs.Common.{◌≡◌, ℕ, zero, suc, ◌<◌, ◌≤◌, inl, inr, List, [], ◌∷◌, ◌==◌, Some, None, Option, Contains, sym, ◌∙◌, ap, subst, arith}
 use Rattle.std.specs.Option.{IfSome}
 use Rattle.std.proofs.lemmas.Bool.{cases_lt, cond_both}
@@ -27,6 +27,8 @@ module _ (t : ℕ) (first : WindowLog) where
     pub window : WindowLog
     pub there : Contains logs window
     pub frame : window.frame ≡ first.frame
+    pub rank : window.rank ≡ first.rank
+    pub slot : window.slot ≡ first.slot
     pub opened : window.opened ≡ first.opened
     pub closed : IfSome window.closed (λ c. t ≤ c.tick)
 
@@ -35,6 +37,19 @@ module _ (t : ℕ) (first : WindowLog) where
     window = is.window;
     there = contains_tail y logs is.window is.there;
     frame = is.frame;
+    rank = is.rank;
+    slot = is.slot;
+    opened = is.opened;
+    closed = is.closed;
+  }
+
+  older : {all : List WindowLog} (logs : List WindowLog) (is : IsStill all) → Contains logs is.window → IsStill logs
+  older logs is old = record {
+    window = is.window;
+    there = old;
+    frame = is.frame;
+    rank = is.rank;
+    slot = is.slot;
     opened = is.opened;
     closed = is.closed;
   }
@@ -46,10 +61,12 @@ module _ (t : ℕ) (first : WindowLog) where
       window = _;
       there = contains_head _ logs;
       frame = ap (λ (z : WindowLog). z.frame) same ∙ is.frame;
+      rank = ap (λ (z : WindowLog). z.rank) same ∙ is.rank;
+      slot = ap (λ (z : WindowLog). z.slot) same ∙ is.slot;
       opened = ap (λ (z : WindowLog). z.opened) same ∙ is.opened;
       closed = subst (λ (z : WindowLog). IfSome z.closed (λ c. t ≤ c.tick)) (sym same) is.closed;
     }
-    | inr old ↦ one_more _ logs (record { window = is.window; there = old; frame = is.frame; opened = is.opened; closed = is.closed })
+    | inr old ↦ one_more _ logs (older logs is old)
   ]
 
   closes : (k : ℕ) → t ≤ k → (m : Node) (logs : List WindowLog) → IsStill logs → IsStill (closed_log k m logs)
@@ -59,10 +76,12 @@ module _ (t : ℕ) (first : WindowLog) where
       window = _;
       there = contains_head _ logs;
       frame = ap (λ (z : WindowLog). z.frame) same ∙ is.frame;
+      rank = ap (λ (z : WindowLog). z.rank) same ∙ is.rank;
+      slot = ap (λ (z : WindowLog). z.slot) same ∙ is.slot;
       opened = ap (λ (z : WindowLog). z.opened) same ∙ is.opened;
       closed = late;
     }
-    | inr old ↦ one_more _ logs (record { window = is.window; there = old; frame = is.frame; opened = is.opened; closed = is.closed })
+    | inr old ↦ one_more _ logs (older logs is old)
   ]
 
   by_stages : (k : ℕ) → t ≤ k → (e : Event) (x : Option Sending) (n m : Node) (from to : Stage) (logs : List WindowLog) → IsStill logs
@@ -130,25 +149,35 @@ module _ (t : ℕ) (first : WindowLog) where
         cond_both (o.tick == k) (starts (setup_of s v) k o.packet d d.listening d.sending) d (λ (x : Device). IsStill x.made.windows)
         (λ a. by_start k o.packet d d.listening d.sending is) (λ a. is)
 
-    -- from the end of the hearings of the tick on
-    pub since_hearings : (u : ℕ) → t < u → IsStill (device_at s v clock hs t End).made.windows → IsStill (before_tick s v clock hs u).made.windows
+    -- from a tick on
+    pub since_tick : (k : ℕ) → t ≤ k → (u : ℕ) → k ≤ u → IsStill (before_tick s v clock hs k).made.windows → IsStill (before_tick s v clock hs u).made.windows
     unfolding before_tick
-    since_hearings zero later is = absurd (omega (arith, later))
-    since_hearings (suc u) later is = elim (cases_lt t u) [
-      | inl past ↦ (
+    since_tick k late zero order is =
+        let first : k ≡ zero = omega (arith, order) in
+        subst (λ (m : ℕ). IsStill (before_tick s v clock hs m).made.windows) first is
+    since_tick k late (suc u) order is = elim (cases_lt u k) [
+      | inl at ↦ (
+          let next : k ≡ suc u = omega (arith, order, at) in
+          subst (λ (m : ℕ). IsStill (before_tick s v clock hs m).made.windows) next is
+          )
+      | inr before ↦ (
           let d = before_tick s v clock hs u in
           let x = before_start s v clock hs u d in
-          by_begun u x x.ordered (in_tick (λ y. IsStill y.made.windows) s v clock hs u d (kept_still clock (setup_of s v) u (omega (arith, past)))
-          (since_hearings u past is))
+          by_begun u x x.ordered (in_tick (λ y. IsStill y.made.windows) s v clock hs u d (kept_still clock (setup_of s v) u (omega (arith, late, before)))
+          (since_tick k late u before is))
           )
-      | inr by ↦ subst (λ (k : ℕ). IsStill (before_tick s v clock hs (suc k)).made.windows) (omega (arith, by, later)) next
     ]
-      where
-        next : IsStill (before_tick s v clock hs (suc t)).made.windows
-        next =
-            let kept = kept_still clock (setup_of s v) t (omega arith) in
-            let d = device_at s v clock hs t End in
-            let e = ended clock (setup_of s v) t d in
-            let x = alarmed clock (setup_of s v) t e in
-            by_begun t x x.ordered (in_alarms (λ y. IsStill y.made.windows) clock (setup_of s v) t e kept
-            (in_end (λ y. IsStill y.made.windows) clock (setup_of s v) t d kept is))
+
+    behind_hearings : IsStill (device_at s v clock hs t End).made.windows → IsStill (before_tick s v clock hs (suc t)).made.windows
+    unfolding before_tick
+    behind_hearings is =
+        let kept = kept_still clock (setup_of s v) t (omega arith) in
+        let d = device_at s v clock hs t End in
+        let e = ended clock (setup_of s v) t d in
+        let x = alarmed clock (setup_of s v) t e in
+        by_begun t x x.ordered (in_alarms (λ y. IsStill y.made.windows) clock (setup_of s v) t e kept
+        (in_end (λ y. IsStill y.made.windows) clock (setup_of s v) t d kept is))
+
+    -- and from the end of the hearings of one
+    pub since_hearings : (u : ℕ) → t < u → IsStill (device_at s v clock hs t End).made.windows → IsStill (before_tick s v clock hs u).made.windows
+    since_hearings u later is = since_tick (suc t) (omega arith) u later (behind_hearings is)

@@ -1,5 +1,6 @@
 -- kept for the crates above
 pub mod SlotsAreFloods
+pub mod ScannersListen
 -- for this crate alone
 mod SlotSendings
 mod KeptOpen
@@ -17,3 +18,6 @@ mod RelayedInSlots
 mod SlotPackets
 mod SlotRecords
 mod ListeningInSlots
+mod FoundScanning
+mod OtherSlots
+mod TunedScanners

@@ -30,7 +30,7 @@ same_ids [] v = refl
 same_ids (n ∷ ns) v = rw (same_ids ns v) refl
 
 -- who scans a rank is of it
-scans_rank : (rank : ℕ) (t : Tune) → scans rank t ≡ true → rank_of t ≡ rank
+pub scans_rank : (rank : ℕ) (t : Tune) → scans rank t ≡ true → rank_of t ≡ rank
 scans_rank rank (Scan r w) is = eqb-true r rank is
 scans_rank rank (Hold r d) is = absurd (true≢false (sym is))
 scans_rank rank (Host r d) is = absurd (true≢false (sym is))

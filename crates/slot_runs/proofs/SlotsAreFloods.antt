@@ -21,9 +21,10 @@ use Rattle.lwb_flood.proofs.Slots.{slot_run}
 use Rattle.lwb_flood.proofs.WholeFlood.{flood_by_steps}
 use Rattle.bus_alignment.specs.LawfulRuns.{IsLawfulRun}
 use Rattle.bus_alignment.specs.SlotLaws.{IsRound, bus_slot}
+use Rattle.bus_alignment.specs.SlotRuns.{RunsLaw}
 use Rattle.bus_alignment.specs.SlotSteps.{IsSlotStart}
 use Rattle.bus_induction.proofs.RunsOfLogs.{whole}
-use Rattle.slot_runs.specs.ScannerLaws.{ScannersListen, RunsByScanners}
+use Rattle.slot_runs.specs.ScannerLaws.{ScannersListen, ScannersLaw}
 use Rattle.slot_runs.specs.SlotRun.{AreEvents, run_of_slot, size_by}
 use Rattle.slot_runs.proofs.ListeningInSlots.{has_events, listens, origin_times}
 use Rattle.slot_runs.proofs.RelayedInSlots.{has_sendings}
@@ -116,7 +117,7 @@ module _ (s : ScenarioParts) (clocks : ℕ → ℕ → ℕ) (air : List Entry) (
   by_steps scanners = flood_by_steps r (TunedThrough a)
       (slot_run s.profile (budget_of s.profile) (run_fits s lawful.sound) size clocks r (TunedThrough a) (is_slot scanners))
 
-pub runs_by_scanners : RunsByScanners
+pub runs_by_scanners : ScannersLaw → RunsLaw
 runs_by_scanners scanners s clocks air lawful f rank j p round within start =
     let some = all_events s clocks air lawful f rank j round.in_run in
     let listen = scanners s clocks air lawful f rank j p round within start some.0 some.1 in (

@@ -1,4 +1,4 @@
--- What is asked of the nodes of a slot that have no window by an alarm: they scan.
+-- The nodes of a slot that have no window by an alarm: they scan.
 use Rattle.std.specs.Prelude.{ℕ, List}
 use Rattle.scenario_text.specs.ScenarioParts.{ScenarioParts}
 use Rattle.radio_model.specs.Hearing.{TunedThrough}
@@ -7,7 +7,6 @@ use Rattle.air_log.specs.HearsAir.{scene_of}
 use Rattle.lwb_flood.specs.FloodRun.{Run, takes_part}
 use Rattle.lwb_flood.specs.Windows.{HasWindow as ListensIn}
 use Rattle.bus_alignment.specs.SlotLaws.{HasWindow}
-use Rattle.bus_alignment.specs.SlotRuns.{RunsLaw}
 use Rattle.slot_runs.specs.SlotRun.{AreEvents, run_of_slot}
 use Rattle.slot_runs.specs.RunLaws.{OfSlots}
 
@@ -19,7 +18,3 @@ pub record ScannersListen (s : ScenarioParts) (clocks : ℕ → ℕ → ℕ) (ai
 abbrev pub ScannersLaw : Type 0
 ScannersLaw = OfSlots (λ s clocks air f rank p j events. AreEvents s clocks air f rank j events
     → ScannersListen s clocks air f rank j (run_of_slot s clocks air f rank p j events))
-
--- all else that a run of each slot asks for is known
-abbrev pub RunsByScanners : Type 0
-RunsByScanners = ScannersLaw → RunsLaw

@@ -7,6 +7,6 @@
 mod run_laws;
 
 pub use run_laws::{
-    slots_are_a_part_of_the_air, slots_are_of_the_bus, slots_are_of_their_rank,
-    slots_are_runs_by_their_scanners, slots_are_sent_as_floods, slots_have_events,
+    scanners_are_tuned, slots_are_a_part_of_the_air, slots_are_of_the_bus, slots_are_of_their_rank,
+    slots_are_runs, slots_are_sent_as_floods, slots_have_events,
 };

@@ -2,7 +2,8 @@
 
 ghost use Rattle.slot_runs.specs.RunLaws.{BusLaw, EventsLaw, HappenedLaw, InitiatorsLaw, PartLaw, PartiesLaw};
 ghost use Rattle.slot_runs.specs.RunLaws.{RecordsLaw, RuleLaw, SendingsLaw, WindowsTakePartLaw};
-ghost use Rattle.slot_runs.specs.ScannerLaws.{RunsByScanners};
+ghost use Rattle.slot_runs.specs.ScannerLaws.{ScannersLaw};
+ghost use Rattle.bus_alignment.specs.SlotRuns.{RunsLaw};
 
 /// Its setting is the flood of the bus, its packets say what is said there, and its sendings and hearings are all of
 /// this frame, channel and slot (`bus`). With the events of its nodes, their floods end as their windows do, and who has
@@ -40,8 +41,14 @@ pub fn slots_are_sent_as_floods()
     ensures sendings { SendingsLaw }
 {}
 
-/// Each slot is such a run, and its flood is the flood by steps, if its scanners listen: if a node that takes part
-/// without a window by an alarm listens in a window that covers the flood.
-pub fn slots_are_runs_by_their_scanners()
-    ensures { RunsByScanners }
+/// A node that takes part without a window by an alarm listens in a window that covers the flood: it scans the rank as the
+/// frame found it, and so is tuned through all that is sent in the slot, or in the window of the slot that it joined up
+/// to the end of its last own sending.
+pub fn scanners_are_tuned()
+    ensures { ScannersLaw }
+{}
+
+/// Each slot is such a run, and its flood is the flood by steps.
+pub fn slots_are_runs()
+    ensures { RunsLaw }
 {}
