@@ -7,13 +7,13 @@ pub mod RoundsInTurn
 pub mod MembersByTune
 pub mod WindowsOfRounds
 pub mod SameDeliveries
+pub mod CoresOfWindows
+pub mod SameScans
 -- for this crate alone
 pub mod StartingNodes
 pub mod BusLeaders
 pub mod LedRounds
 pub mod FramesInTurn
-pub mod CoresOfWindows
 pub mod DeliveryOrder
 pub mod DeliveredInSlots
 pub mod DeliveriesInTurn
-pub mod SameScans

@@ -1,2 +1,4 @@
+-- kept for the crates above
+pub mod BusRuns
 -- for this crate alone
-mod BusRuns
+mod BusLaws

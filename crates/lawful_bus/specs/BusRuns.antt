@@ -12,7 +12,6 @@ use Rattle.air_log.specs.Safe.{Safe}
 use Rattle.air_log.specs.Deliveries.{deliveries_of}
 use Rattle.air_log.specs.Drops.{drops_of}
 use Rattle.bus_alignment.specs.LawfulRuns.{IsLawfulRun}
-use Rattle.slot_runs.specs.ScannerLaws.{ScannersLaw}
 
 -- no two steps meet, what is delivered and lost is the bus's, each stream comes in order, and data is received by relay paths
 pub record IsBusRun (s : ScenarioParts) (clocks : ℕ → ℕ → ℕ) (air : List Entry) : Type 0 where
@@ -26,7 +25,3 @@ pub record IsBusRun (s : ScenarioParts) (clocks : ℕ → ℕ → ℕ) (air : Li
 -- each lawful run is
 abbrev pub LawfulRunsAreTheBus : Type 0
 LawfulRunsAreTheBus = (s : ScenarioParts) (clocks : ℕ → ℕ → ℕ) (air : List Entry) → IsLawfulRun s clocks air → IsBusRun s clocks air
-
--- if the scanners of each slot are tuned through it
-abbrev pub BusByScanners : Type 0
-BusByScanners = ScannersLaw → LawfulRunsAreTheBus
