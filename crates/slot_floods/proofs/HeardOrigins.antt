@@ -14,12 +14,12 @@ module _ (s : Setting) where
         | inr other ↦ (let u = named_parts (offer s m k v) (s.captured k v) o other in sent u.0 o (sends_parts (s.passes k u.0 v) (m.sends u.0) o u.2).1)
       ]
 
-  sent_by : (k u o : ℕ) → (moment s k).sends u ≡ Some o → has s.initiators o ≡ true
+  pub sent_origin : (k u o : ℕ) → (moment s k).sends u ≡ Some o → has s.initiators o ≡ true
   unfolding moment
-  sent_by zero u o is =
+  sent_origin zero u o is =
       let begun = sends_parts (has s.initiators u) (Some u) o is in
       subst (λ (w : ℕ). has s.initiators w ≡ true) (some_injective u o begun.1) begun.0
-  sent_by (suc k) u o is = heard_of k (sent_by k) u o (sends_parts (nat_lt (k + 1) STEPS) (hears s (moment s k) k u) o is).1
+  sent_origin (suc k) u o is = heard_of k (sent_origin k) u o (sends_parts (nat_lt (k + 1) STEPS) (hears s (moment s k) k u) o is).1
 
   pub heard_origin : (k v o : ℕ) → hears s (moment s k) k v ≡ Some o → has s.initiators o ≡ true
-  heard_origin k v o is = heard_of k (sent_by k) v o is
+  heard_origin k v o is = heard_of k (sent_origin k) v o is

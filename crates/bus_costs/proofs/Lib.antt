@@ -1,0 +1,10 @@
+mod KeyedSums
+mod AscendingLists
+mod SumsOverRounds
+mod StepsInTurn
+mod SentBySteps
+mod SentPackets
+mod PlacedWindows
+mod WindowCharges
+mod SentTimes
+pub mod BusCosts

@@ -1,0 +1,2 @@
+pub mod WindowSendings
+pub mod RunEnergies
