@@ -1,3 +1,6 @@
+-- kept for the crates above
+pub mod BusCosts
+-- for this crate alone
 mod KeyedSums
 mod AscendingLists
 mod SumsOverRounds
@@ -7,4 +10,3 @@ mod SentPackets
 mod PlacedWindows
 mod WindowCharges
 mod SentTimes
-pub mod BusCosts

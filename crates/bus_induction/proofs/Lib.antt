@@ -6,8 +6,8 @@ pub mod PlannedRounds
 pub mod RoundsInTurn
 pub mod MembersByTune
 pub mod WindowsOfRounds
-pub mod CoresOfWindows
 pub mod SameDeliveries
+pub mod CoresOfWindows
 pub mod SameScans
 -- for this crate alone
 pub mod StartingNodes
