@@ -9,23 +9,21 @@ use Rattle.air_bus.proofs.WindowParts.{nodes_take_part}
 use Rattle.energy_account.specs.Energies.{energy_of, sending_time}
 use Rattle.bus_model.specs.Bus.{Cost}
 use Rattle.bus_alignment.specs.RunLaws.{CostLaw}
-use Rattle.bus_alignment.specs.SlotRuns.{RunsLaw}
 use Rattle.bus_induction.proofs.CoresOfWindows.{all_slots}
 use Rattle.bus_induction.proofs.RunsOfLogs.{known_by}
 use Rattle.bus_induction.proofs.SameScans.{scans_law}
 use Rattle.slot_floods.proofs.HeardSlots.{slots_heard}
-use Rattle.slot_runs.specs.ScannerLaws.{ScannersLaw}
-use Rattle.slot_runs.proofs.SlotsAreFloods.{runs_by_scanners}
+use Rattle.slot_runs.proofs.SlotsAreFloods.{slots_are_runs}
 use Rattle.bus_costs.specs.RunEnergies.{EnergyLaw, cost_in}
 use Rattle.bus_costs.specs.WindowSendings.{WindowSendingsLaw}
 use Rattle.bus_costs.proofs.SentPackets.{packets_same}
 use Rattle.bus_costs.proofs.SentTimes.{sent_same}
 use Rattle.bus_costs.proofs.WindowCharges.{windows_same}
 
-pub window_sendings : RunsLaw → WindowSendingsLaw
-window_sendings runs s clocks air lawful f rank j v p round within w here =
-    let start = (all_slots (slots_heard runs) s clocks air lawful f rank j p round within).0 in
-    let found = runs s clocks air lawful f rank j p round within start in
+pub window_sendings : WindowSendingsLaw
+window_sendings s clocks air lawful f rank j v p round within w here =
+    let start = (all_slots (slots_heard slots_are_runs) s clocks air lawful f rank j p round within).0 in
+    let found = slots_are_runs s clocks air lawful f rank j p round within start in
     let part = nodes_take_part s clocks air (record { sound = lawful.sound; drift = lawful.drift }) lawful.lawful v
     (known_by s clocks air lawful v w here.there) w here.there in
     packets_same s clocks air lawful f rank p j found.0 found.1 found.2 v w here part.has
@@ -36,22 +34,16 @@ same_cost a b sent windows scanned =
     ∙ ap (λ (n : ℕ). record a { sent = b.sent; windows = n }) windows
     ∙ ap (λ (n : ℕ). record b { scanned = n }) scanned
 
-pub costs : RunsLaw → CostLaw
-costs runs s clocks air lawful v known =
-    same_cost _ _ (sent_same runs s clocks air lawful v known) (windows_same runs s clocks air lawful v known)
-    (scans_law (slots_heard runs) s clocks air lawful v known)
-
-pub costs_by_scanners : ScannersLaw → CostLaw
-costs_by_scanners scanners = costs (runs_by_scanners scanners)
+pub costs : CostLaw
+costs s clocks air lawful v known =
+    same_cost _ _ (sent_same slots_are_runs s clocks air lawful v known) (windows_same slots_are_runs s clocks air lawful v known)
+    (scans_law (slots_heard slots_are_runs) s clocks air lawful v known)
 
 -- the log has the sendings of each trail
-pub energies : RunsLaw → EnergyLaw
-energies runs s clocks air lawful v known =
+pub energies : EnergyLaw
+energies s clocks air lawful v known =
     let in_log : sum_by sending_time (sent_by air v) ≡ sum_by sending_time (trail_in s clocks air v).made.sent =
     sum_by-IsPermutation sending_time (trail_sent s clocks air v) (sent_by air v) (lawful.lawful.trails.sent v)
     ∙ ap (λ (xs : List Sending). sum_by sending_time xs) (cond-true (knows s.nodes v) (trail_in s clocks air v).made.sent [] known) in
     ap (λ (n : ℕ). record (cost_in (energy_of s clocks air v)) { sent = n }) in_log
-    ∙ sym (costs runs s clocks air lawful v known)
-
-pub energies_by_scanners : ScannersLaw → EnergyLaw
-energies_by_scanners scanners = energies (runs_by_scanners scanners)
+    ∙ sym (costs s clocks air lawful v known)

@@ -1,27 +1,22 @@
 //! What a node sends in its windows, and what it costs, each law a function that does nothing and has the law as its
-//! contract. They stand on that each slot of a lawful run is a run of the flood theorem.
+//! contract.
 
 ghost use Rattle.bus_alignment.specs.RunLaws.{CostLaw};
-ghost use Rattle.bus_alignment.specs.SlotRuns.{RunsLaw};
 ghost use Rattle.bus_costs.specs.RunEnergies.{EnergyLaw};
 ghost use Rattle.bus_costs.specs.WindowSendings.{WindowSendingsLaw};
-ghost use Rattle.slot_runs.specs.ScannerLaws.{ScannersLaw};
 
 /// What is sent in a window is, by step and length and in its order, what its node sends in the flood of the slot on the
 /// bus.
 pub fn windows_send_as_on_the_bus()
-    ensures { RunsLaw → WindowSendingsLaw }
+    ensures { WindowSendingsLaw }
 {}
 
-/// How long a node sends in a run, what its windows count, and in how many frames it scans, are the numbers of the bus
-/// (`runs`). It is enough that the scanners of each slot are tuned through it (`scanners`).
+/// How long a node sends in a run, what its windows count, and in how many frames it scans, are the numbers of the bus.
 pub fn costs_are_those_of_the_bus()
-    ensures runs { RunsLaw → CostLaw }
-    ensures scanners { ScannersLaw → CostLaw }
+    ensures { CostLaw }
 {}
 
-/// So the first three numbers of a node's account are those that the bus has for it, by the same premises.
+/// So the first three numbers of a node's account are those that the bus has for it.
 pub fn accounts_begin_with_the_costs_of_the_bus()
-    ensures runs { RunsLaw → EnergyLaw }
-    ensures scanners { ScannersLaw → EnergyLaw }
+    ensures { EnergyLaw }
 {}

@@ -3,8 +3,7 @@ use Rattle.bus_alignment.specs.RunLaws.{AnyClocksLaw, DeliveriesLaw, DropsLaw, R
 use Rattle.bus_alignment.specs.SlotLaws.{CoresLaw, SlotLaw, WindowsLaw}
 use Rattle.bus_alignment.specs.SlotRuns.{RunsLaw}
 use Rattle.bus_alignment.specs.SlotSteps.{SlotHeardLaw}
-use Rattle.slot_runs.proofs.ScannersListen.{scanners_listen}
-use Rattle.slot_runs.proofs.SlotsAreFloods.{runs_by_scanners}
+use Rattle.slot_runs.proofs.SlotsAreFloods.{slots_are_runs}
 use Rattle.slot_floods.proofs.HeardSlots.{slots_heard, slots_started}
 use Rattle.bus_induction.specs.AllSlots.{AllSlotsLaw}
 use Rattle.bus_induction.specs.ScannedFrames.{ScansLaw}
@@ -12,13 +11,9 @@ use Rattle.bus_induction.proofs.CoresOfWindows.{all_slots, cores_law, run_law, w
 use Rattle.bus_induction.proofs.SameDeliveries.{any_clocks_law, deliveries_law, drops_law}
 use Rattle.bus_induction.proofs.SameScans.{scans_law}
 
--- each slot is a run of the theorem on floods
-runs : RunsLaw
-runs = runs_by_scanners scanners_listen
-
--- so it gives on the air what it gives on the bus
+-- each slot is a run of the theorem on floods, so it gives on the air what it gives on the bus
 pub heard : SlotHeardLaw
-heard = slots_heard runs
+heard = slots_heard slots_are_runs
 
 -- before each slot the nodes are the bus's, so its flood is the bus's
 slots_flooded : RunsLaw → SlotLaw
@@ -26,7 +21,7 @@ slots_flooded known s clocks air lawful f rank j p round within =
     slots_started known s clocks air lawful f rank j p round within (all_slots (slots_heard known) s clocks air lawful f rank j p round within).0
 
 pub slots_are_floods : SlotLaw
-slots_are_floods = slots_flooded runs
+slots_are_floods = slots_flooded slots_are_runs
 
 pub frames_begin : RunLaw
 frames_begin = run_law heard

@@ -1,6 +1,5 @@
 -- kept for the crates above
 pub mod SlotsAreFloods
-pub mod ScannersListen
 -- for this crate alone
 mod SlotSendings
 mod KeptOpen
@@ -14,10 +13,11 @@ mod SlotStarts
 mod SentInSlots
 mod SlotWindows
 mod DeafScanners
+mod OtherSlots
 mod RelayedInSlots
 mod SlotPackets
 mod SlotRecords
 mod ListeningInSlots
 mod FoundScanning
-mod OtherSlots
 mod TunedScanners
+mod ScannersListen

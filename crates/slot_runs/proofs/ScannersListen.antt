@@ -1,4 +1,4 @@
--- The scanners of each slot listen in windows that cover its flood, so each slot is a run of the theorem on floods.
+-- The scanners of each slot listen in windows that cover its flood.
 use Rattle.std.proofs.Common.{◌≡◌, ℕ, zero, suc, ◌+◌, ◌-◌, ◌*◌, ◌<◌, ◌≤◌, inl, inr, List, [], ◌∷◌, true, Contains, get_or, sym, ◌∙◌}
 use Rattle.std.proofs.Common.{subst, arith}
 use Rattle.std.proofs.Math.Nat.{mul-le-mul_right}

@@ -28,6 +28,7 @@ use Rattle.slot_runs.specs.ScannerLaws.{ScannersListen, ScannersLaw}
 use Rattle.slot_runs.specs.SlotRun.{AreEvents, run_of_slot, size_by}
 use Rattle.slot_runs.proofs.ListeningInSlots.{has_events, listens, origin_times}
 use Rattle.slot_runs.proofs.RelayedInSlots.{has_sendings}
+use Rattle.slot_runs.proofs.ScannersListen.{scanners_listen}
 use Rattle.slot_runs.proofs.SlotEvents.{all_events}
 use Rattle.slot_runs.proofs.SlotPackets.{has_initiators, first_of, first_packet}
 use Rattle.slot_runs.proofs.SlotParties.{known_party}
@@ -117,7 +118,7 @@ module _ (s : ScenarioParts) (clocks : ℕ → ℕ → ℕ) (air : List Entry) (
   by_steps scanners = flood_by_steps r (TunedThrough a)
       (slot_run s.profile (budget_of s.profile) (run_fits s lawful.sound) size clocks r (TunedThrough a) (is_slot scanners))
 
-pub runs_by_scanners : ScannersLaw → RunsLaw
+runs_by_scanners : ScannersLaw → RunsLaw
 runs_by_scanners scanners s clocks air lawful f rank j p round within start =
     let some = all_events s clocks air lawful f rank j round.in_run in
     let listen = scanners s clocks air lawful f rank j p round within start some.0 some.1 in (
@@ -125,3 +126,6 @@ runs_by_scanners scanners s clocks air lawful f rank j p round within start =
       is_run_of s clocks air lawful f rank j p round start some.0 some.1,
       by_steps s clocks air lawful f rank j p round start some.0 some.1 listen,
     )
+
+pub slots_are_runs : RunsLaw
+slots_are_runs = runs_by_scanners scanners_listen
