@@ -1,0 +1,3 @@
+pub mod RadioTimes
+pub mod ChargeLaws
+pub mod WorkedCharges
