@@ -14,3 +14,6 @@ pub mod station;
 
 pub use hearers::Hearers;
 pub use medium::Medium;
+
+#[cfg(test)]
+mod tests;
