@@ -1,5 +1,6 @@
 -- Times that lie one after another: what they last together is over by the start of the next.
-use Rattle.std.proofs.Common.{◌≡◌, ℕ, zero, suc, ◌+◌, ◌-◌, ◌<◌, ◌≤◌, List, [], ◌∷◌, ◌++◌, reverse, length, get_or, take, sum_by, All, AllPairs, refl, sym, subst, arith}
+use Rattle.std.proofs.Common.{◌≡◌, ℕ, zero, suc, ◌+◌, ◌-◌, ◌<◌, ◌≤◌, List, [], ◌∷◌, ◌++◌, reverse, length, get_or, take, sum_by, All, AllPairs, refl, sym}
+use Rattle.std.proofs.Common.{subst, arith}
 use Rattle.std.proofs.lemmas.List.{reverse-append}
 use Rattle.std.proofs.lemmas.List.Elements.{All-head, All-tail, All-push}
 use Rattle.std.proofs.lemmas.List.Sums.{sum_by-cons}
@@ -26,16 +27,19 @@ module _ {X : Type 0} (start end : X → ℕ) where
   abbrev time : X → ℕ
   time x = end x - start x
 
-  pub in_turn : (since : ℕ) (xs : List X) → All (λ x. since ≤ start x) xs → All (λ x. start x ≤ end x) xs → AllPairs (λ x y. end x ≤ start y) xs → AreApart start end since xs
+  pub in_turn : (since : ℕ) (xs : List X) → All (λ x. since ≤ start x) xs → All (λ x. start x ≤ end x) xs → AllPairs (λ x y. end x ≤ start y) xs
+      → AreApart start end since xs
   in_turn since [] from lasts apart = tt
   in_turn since (x ∷ xs) from lasts apart = (
     All-head (λ y. since ≤ start y) x xs from,
     All-head (λ y. start y ≤ end y) x xs lasts,
-    in_turn (end x) xs (pairs_head (λ x y. end x ≤ start y) x xs apart) (All-tail (λ y. start y ≤ end y) x xs lasts) (pairs_tail (λ x y. end x ≤ start y) x xs apart),
+    in_turn (end x) xs (pairs_head (λ x y. end x ≤ start y) x xs apart) (All-tail (λ y. start y ≤ end y) x xs lasts)
+        (pairs_tail (λ x y. end x ≤ start y) x xs apart),
   )
 
   -- one more, after all
-  one_more : (since : ℕ) (xs : List X) (y : X) → since ≤ start y → start y ≤ end y → All (λ x. end x ≤ start y) xs → AreApart start end since xs → AreApart start end since (xs ++ y ∷ [])
+  one_more : (since : ℕ) (xs : List X) (y : X) → since ≤ start y → start y ≤ end y → All (λ x. end x ≤ start y) xs → AreApart start end since xs
+      → AreApart start end since (xs ++ y ∷ [])
   one_more since [] y after lasts over apart = (after, lasts, tt)
   one_more since (x ∷ xs) y after lasts over apart = (
     apart.0,
@@ -48,7 +52,8 @@ module _ {X : Type 0} (start end : X → ℕ) where
   turned [] lasts apart = tt
   turned (y ∷ xs) lasts apart =
       subst (λ (l : List X). AreApart start end 0 l) (sym (reversed y xs))
-      (one_more 0 (reverse xs) y (omega arith) (All-head (λ x. start x ≤ end x) y xs lasts) (all_reverse (λ x. end x ≤ start y) xs (pairs_head (λ y x. end x ≤ start y) y xs apart))
+      (one_more 0 (reverse xs) y (omega arith) (All-head (λ x. start x ≤ end x) y xs lasts)
+      (all_reverse (λ x. end x ≤ start y) xs (pairs_head (λ y x. end x ≤ start y) y xs apart))
       (turned xs (All-tail (λ x. start x ≤ end x) y xs lasts) (pairs_tail (λ y x. end x ≤ start y) y xs apart)))
 
   over_from : (since : ℕ) (xs : List X) (i : ℕ) (d : X) → AreApart start end since xs → i < length xs
@@ -68,5 +73,6 @@ module _ {X : Type 0} (start end : X → ℕ) where
       → (sum_by time (take i xs) ≤ start (slice_index_or xs i d)) × (start (slice_index_or xs i d) ≤ end (slice_index_or xs i d))
   over_before xs i d apart less = let over = over_from 0 xs i d apart less in (omega (arith, over.0), over.1)
 
-  pub over_at : (xs : List X) (i : ℕ) (x : X) → AreApart start end 0 xs → i < length xs → x ≡ get_or xs i x → (sum_by time (take i xs) ≤ start x) × (start x ≤ end x)
+  pub over_at : (xs : List X) (i : ℕ) (x : X) → AreApart start end 0 xs → i < length xs → x ≡ get_or xs i x → (sum_by time (take i xs) ≤ start x)
+      × (start x ≤ end x)
   over_at xs i x apart less is = subst (λ (z : X). (sum_by time (take i xs) ≤ start z) × (start z ≤ end z)) (sym is) (over_before xs i x apart less)

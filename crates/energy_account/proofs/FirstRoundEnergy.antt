@@ -24,15 +24,18 @@ scanning_ticks = 0 ∷ 204800000 ∷ 460800000 ∷ 716800000 ∷ 972800000 ∷ 1
 abbrev device_at : ℕ → List Reception → ℕ → List ℕ → Device
 device_at v hs f ticks = scripted first_round v (true_time v) (frame_start first_round f) (after_ticks (λ x. x) (λ t. t) first_round v hs ticks at_rest)
 
-scans_at : (v : ℕ) (hs : List Reception) (f : ℕ) (ticks : List ℕ) (scans : Bool) → goes_through (λ x. x) (λ t. t) first_round v hs (frame_start first_round f) 0 ticks at_rest ≡ true
+scans_at : (v : ℕ) (hs : List Reception) (f : ℕ) (ticks : List ℕ) (scans : Bool)
+    → goes_through (λ x. x) (λ t. t) first_round v hs (frame_start first_round f) 0 ticks at_rest ≡ true
     → scans_with (tune_of (device_at v hs f ticks).power) ≡ scans
-    → scans_with (tune_of (scripted first_round v (true_time v) (frame_start first_round f) (before_tick first_round v (true_time v) hs (frame_start first_round f))).power) ≡ scans
+    → scans_with (tune_of (scripted first_round v (true_time v) (frame_start first_round f)
+    (before_tick first_round v (true_time v) hs (frame_start first_round f))).power) ≡ scans
 scans_at v hs f ticks scans goes is =
     ap (λ (d : Device). scans_with (tune_of (scripted first_round v (true_time v) (frame_start first_round f) d).power))
     (computed (λ t. t) (λ x. x) true_due first_round v hs (frame_start first_round f) ticks goes)
     ∙ is
 
-counted : (p : ℕ → Bool) (last : Bool) → p 0 ≡ true → p 1 ≡ true → p 2 ≡ true → p 3 ≡ true → p 4 ≡ true → p 5 ≡ last → count_by p (range_with_len 0 6) ≡ cond last 6 5
+counted : (p : ℕ → Bool) (last : Bool) → p 0 ≡ true → p 1 ≡ true → p 2 ≡ true → p 3 ≡ true → p 4 ≡ true → p 5 ≡ last → count_by p (range_with_len 0 6)
+    ≡ cond last 6 5
 counted p true at_0 at_1 at_2 at_3 at_4 at_5 = rw (at_0, at_1, at_2, at_3, at_4, at_5) refl
 counted p false at_0 at_1 at_2 at_3 at_4 at_5 = rw (at_0, at_1, at_2, at_3, at_4, at_5) refl
 
@@ -60,7 +63,9 @@ other_scans =
     (scans_at 2 heard_by_other 5 scanning_ticks true refl refl)
 
 pub host_energy : energy_of first_round true_time first_round_log 1 ≡ costs 147456 2494336 5 1231294336
-host_energy = ap (λ (w : ℕ). costs 147456 w (scanned_frames first_round 1 (true_time 1) heard_by_host) 1231294336) host_trail.charge ∙ ap (λ (n : ℕ). costs 147456 2494336 n 1231294336) host_scans
+host_energy = ap (λ (w : ℕ). costs 147456 w (scanned_frames first_round 1 (true_time 1) heard_by_host) 1231294336) host_trail.charge
+    ∙ ap (λ (n : ℕ). costs 147456 2494336 n 1231294336) host_scans
 
 pub other_energy : energy_of first_round true_time first_round_log 2 ≡ costs 147456 2344320 6 1346592640
-other_energy = ap (λ (w : ℕ). costs 147456 w (scanned_frames first_round 2 (true_time 2) heard_by_other) 1346592640) other_trail.charge ∙ ap (λ (n : ℕ). costs 147456 2344320 n 1346592640) other_scans
+other_energy = ap (λ (w : ℕ). costs 147456 w (scanned_frames first_round 2 (true_time 2) heard_by_other) 1346592640) other_trail.charge
+    ∙ ap (λ (n : ℕ). costs 147456 2344320 n 1346592640) other_scans

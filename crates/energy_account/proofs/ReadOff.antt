@@ -21,7 +21,8 @@ use Rattle.energy_account.proofs.Apart.{in_turn, turned}
 use Rattle.energy_account.proofs.SendingsApart.{sendings_apart}
 
 -- under a function
-pub apart_under : {X Y : Type 0} (g : Y → X) (start end : X → ℕ) (since : ℕ) (ys : List Y) → AreApart start end since (map g ys) → AreApart (λ y. start (g y)) (λ y. end (g y)) since ys
+pub apart_under : {X Y : Type 0} (g : Y → X) (start end : X → ℕ) (since : ℕ) (ys : List Y) → AreApart start end since (map g ys)
+    → AreApart (λ y. start (g y)) (λ y. end (g y)) since ys
 apart_under g start end since [] apart = tt
 apart_under g start end since (y ∷ ys) apart = (apart.0, apart.1, apart_under g start end (end (g y)) ys apart.2)
 
@@ -65,6 +66,7 @@ module _ (s : ScenarioParts) (clocks : ℕ → ℕ → ℕ) (air : List Entry) (
 
   pub read_off : told_energy (trail_told s v (clocks v) (heard_by air v)) ≡ energy_of s clocks air v
   read_off =
-      let told : ℕ → ℕ → Energy = λ a b. record { sent = a; windows = (energy_of s clocks air v).windows; scanned = (energy_of s clocks air v).scanned; on = b } in
+      let told : ℕ → ℕ → Energy =
+      λ a b. record { sent = a; windows = (energy_of s clocks air v).windows; scanned = (energy_of s clocks air v).scanned; on = b } in
       ap (λ (n : ℕ). told n (sum_by tuning_time (trail_in s clocks air v).made.tuned)) sent_is
       ∙ ap (told (sum_by sending_time (sent_by air v))) on_is

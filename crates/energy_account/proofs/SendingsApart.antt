@@ -10,7 +10,8 @@ use Rattle.scenario_text.specs.declared.script.ScriptLine.{ScriptLine}
 use Rattle.bus_rules.specs.Cores.{Setup}
 use Rattle.air_log.specs.Devices.{Device, Listening, Ordered, event}
 use Rattle.air_log.specs.ScriptedDevices.{after_line}
-use Rattle.air_log.specs.Trails.{Reception, setup_of, lines_at, scripted, ending_at, hears, heard, ended_by, ended, begun_by, starts, sending_from, before_start, before_tick, run_end, trail}
+use Rattle.air_log.specs.Trails.{Reception, setup_of, lines_at, scripted, ending_at, hears, heard, ended_by, ended, begun_by, starts, sending_from}
+use Rattle.air_log.specs.Trails.{before_start, before_tick, run_end, trail}
 use Rattle.air_log.proofs.KeptByEvents.{in_tick}
 use Rattle.air_log.proofs.SendingsKept.{event_sending, line_sending, alarmed_sending}
 use Rattle.air_log.proofs.TrailSendings.{kept_sent}
@@ -61,7 +62,8 @@ module _ (clock : ℕ → ℕ) (s : Setup) (t : ℕ) where
   by_start packet d (Some l) None is all =
       one_more t d.made.sent (sending_from s t packet l) (subst (λ (o : Option Sending). EndedBy (end_of t o) d.made.sent) is all) (omega arith) (omega arith)
 
-  by_begun : (d : Device) (o : Option Ordered) → EndedBy (end_of t d.sending) d.made.sent → EndedBy (end_of t (begun_by s t d o).sending) (begun_by s t d o).made.sent
+  by_begun : (d : Device) (o : Option Ordered) → EndedBy (end_of t d.sending) d.made.sent
+      → EndedBy (end_of t (begun_by s t d o).sending) (begun_by s t d o).made.sent
   by_begun d None all = all
   by_begun d (Some o) all =
       cond_both (o.tick == t) (starts s t o.packet d d.listening d.sending) d (λ (e : Device). EndedBy (end_of t e.sending) e.made.sent)
@@ -69,7 +71,8 @@ module _ (clock : ℕ → ℕ) (s : Setup) (t : ℕ) where
       (λ is. all)
 
 module _ (s : ScenarioParts) (v : ℕ) (clock : ℕ → ℕ) (hs : List Reception) where
-  before_starts : (t : ℕ) (d : Device) → EndedBy (end_of t d.sending) d.made.sent → (let e = before_start s v clock hs t d in EndedBy (end_of t e.sending) e.made.sent)
+  before_starts : (t : ℕ) (d : Device) → EndedBy (end_of t d.sending) d.made.sent
+      → (let e = before_start s v clock hs t d in EndedBy (end_of t e.sending) e.made.sent)
   before_starts t d all =
       let x = setup_of s v in
       let lines = scripted s v clock t d in

@@ -11,7 +11,8 @@ use Rattle.scenario_clocks.specs.StatedClocks.{stated_by, scenario_clock}
 use Rattle.scenario_clocks.proofs.ListedClocks.{clock_at_place}
 
 module _ (s : ScenarioParts) (ns : List NodeLine) (rates : List RateLine) (cs : List SegmentClock) where
-  pub stated_place : IsSoundScenario s → ns ≡ s.nodes → rates ≡ s.rates → length cs ≡ length ns → ((v : ℕ) → clocks_by segment_clock_reads ns cs v ≡ stated_by ns rates v)
+  pub stated_place : IsSoundScenario s → ns ≡ s.nodes → rates ≡ s.rates → length cs ≡ length ns
+      → ((v : ℕ) → clocks_by segment_clock_reads ns cs v ≡ stated_by ns rates v)
       → (i : ℕ) (n : NodeLine) (c : SegmentClock) → i < length ns → c ≡ get_or cs i c → segment_clock_reads c ≡ scenario_clock s (get_or ns i n).node
   stated_place sound same_nodes same_rates long stated i n c less at =
       let v : ℕ = (get_or ns i n).node in

@@ -24,5 +24,6 @@ returns c =
     let sent : c.sent_time.result ≡ sum_by sending_time told.sent =
     c.sent_time.ensures ∙ sum_under sending_of sending_time c.sent.result.now ∙ ap (λ (xs : List Sending). sum_by sending_time xs) c.sent.ensures in
     let on : c.tuned_time.result ≡ sum_by tuning_time told.tuned =
-    c.tuned_time.ensures ∙ sum_under tuning_of tuning_time c.tuned.result.now ∙ ap (λ (ts : List Tuning). sum_by tuning_time ts) c.tuned.ensures ∙ sum_turned tuning_time told.tuned in
+    c.tuned_time.ensures ∙ sum_under tuning_of tuning_time c.tuned.result.now ∙ ap (λ (ts : List Tuning). sum_by tuning_time ts) c.tuned.ensures
+    ∙ sum_turned tuning_time told.tuned in
     rw (sent, c.windows.ensures, c.scanned.ensures, on) refl

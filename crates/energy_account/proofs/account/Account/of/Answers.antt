@@ -19,7 +19,8 @@ pub energy_of_node-requires-clause-clock : goal.energy_of_node-requires-clause-c
 energy_of_node-requires-clause-clock c =
     let s = c.args.s.now in
     let clocks = c.in_ok-clocks.ensures in
-    stated_place s c.nodes-nodes.result.now c.rates.result.now c.in_ok-clocks.clocks.items (sound s c.requires.scenario) c.nodes-nodes.ensures.value c.rates.ensures clocks.count clocks.stated
+    stated_place s c.nodes-nodes.result.now c.rates.result.now c.in_ok-clocks.clocks.items (sound s c.requires.scenario) c.nodes-nodes.ensures.value
+    c.rates.ensures clocks.count clocks.stated
     c.loop-i.i c.index-nodes-i.result c.index.result.now (omega arith) c.index.ensures
 
 pub loop-i-preserved : goal.loop-i-preserved
@@ -32,7 +33,8 @@ loop-i-preserved c =
     let line : AccountLine = record { node = n.node; energy = c.in_ok-energy.energy } in
     let is : line ≡ says n = ap (λ (e : Energy). record { node = n.node; energy = e }) c.in_ok-energy.ensures in
     let pushed : c.push.new.self.items ≡ c.loop-i.lines.items ++ line ∷ [] = search rules in
-    pushed ∙ map_pushed says nodes i n c.loop-i.lines.items line (omega arith) (ap (λ (d : NodeLine). get_or nodes i d) c.index-nodes-i.is) c.loop-i.invariant is
+    pushed ∙ map_pushed says nodes i n c.loop-i.lines.items line (omega arith) (ap (λ (d : NodeLine). get_or nodes i d) c.index-nodes-i.is) c.loop-i.invariant
+    is
 
 pub returns : goal.returns
 returns c =

@@ -12,7 +12,13 @@ use Rattle.energy_account.proofs.CountedLines.{line_counted}
 use Rattle.energy_account.proofs.account.Account.of_run.Goals as goal
 
 pub charge_at-charge-requires : goal.charge_at-charge-requires
-charge_at-charge-requires c = omega (arith, ap length c.requires.charges, length-map c.args.s.now.nodes (charge_in c.args.s.now (scenario_clock c.args.s.now) c.args.a.now), ap length c.nodes-nodes.ensures.value)
+charge_at-charge-requires c =
+    omega (
+      arith,
+      ap length c.requires.charges,
+      length-map c.args.s.now.nodes (charge_in c.args.s.now (scenario_clock c.args.s.now) c.args.a.now),
+      ap length c.nodes-nodes.ensures.value,
+    )
 
 pub loop-place-preserved : goal.loop-place-preserved
 loop-place-preserved c =
@@ -20,11 +26,19 @@ loop-place-preserved c =
     let nodes = c.nodes-nodes.result.now in
     let i = c.loop-place.place in
     let n : NodeLine = get_or nodes i c.index-nodes-place.result in
-    let line : AccountLine = record { node = n.node; energy = record { sent = c.sent.result; windows = c.charge_at-charge.result.windows; scanned = c.charge_at-charge.result.scanned; on = c.on.result } } in
-    let is = line_counted s (scenario_clock s) c.args.a.now (sound s c.requires.scenario) c.requires.lawful nodes c.args.charges.now i n c.charge_at-charge.result c.nodes-nodes.ensures.value c.requires.charges (omega arith) (ap (λ (d : NodeLine). get_or nodes i d) c.index-nodes-place.is) c.charge_at-charge.ensures
+    let line : AccountLine =
+    record {
+      node = n.node;
+      energy =
+          record { sent = c.sent.result; windows = c.charge_at-charge.result.windows; scanned = c.charge_at-charge.result.scanned; on = c.on.result };
+    } in
+    let is = line_counted s (scenario_clock s) c.args.a.now (sound s c.requires.scenario) c.requires.lawful nodes c.args.charges.now i n
+    c.charge_at-charge.result c.nodes-nodes.ensures.value c.requires.charges (omega arith)
+    (ap (λ (d : NodeLine). get_or nodes i d) c.index-nodes-place.is) c.charge_at-charge.ensures
     c.in_ok-times.times c.in_ok-times.ensures.times c.in_ok-times.ensures.early c.sent.result c.on.result c.sent.ensures c.on.ensures in
     let pushed : c.push.new.self.items ≡ c.loop-place.lines.items ++ line ∷ [] = search rules in
-    pushed ∙ map_pushed (line_for s (scenario_clock s) c.args.a.now) nodes i n c.loop-place.lines.items line (omega arith) (ap (λ (d : NodeLine). get_or nodes i d) c.index-nodes-place.is) c.loop-place.invariant is
+    pushed ∙ map_pushed (line_for s (scenario_clock s) c.args.a.now) nodes i n c.loop-place.lines.items line (omega arith)
+    (ap (λ (d : NodeLine). get_or nodes i d) c.index-nodes-place.is) c.loop-place.invariant is
 
 pub returns : goal.returns
 returns c =

@@ -17,7 +17,9 @@ loop-i-preserved c =
     let air = c.args.air.now in
     let i = c.loop-i.i in
     let e = c.entry_at-entry.result.now in
-    let more : take i air ++ e ∷ [] ≡ take (i + 1) air = sym (take_more air i e (omega (arith, c.loop-i-test.true, c.len-i-end.ensures)) ∙ ap (λ (x : Entry). take i air ++ x ∷ []) (sym c.entry_at-entry.ensures)) in
+    let more : take i air ++ e ∷ [] ≡ take (i + 1) air =
+    sym (take_more air i e (omega (arith, c.loop-i-test.true, c.len-i-end.ensures))
+    ∙ ap (λ (x : Entry). take i air ++ x ∷ []) (sym c.entry_at-entry.ensures)) in
     record {
       times = subst (λ (l : List Entry). HasTimes l c.add.new.self) more (c.add.ensures.times (take i air) c.loop-i.invariant.times);
       early = subst (λ (l : List Entry). All EndsEarly l) more (All-push EndsEarly (take i air) e c.loop-i.invariant.early c.add.ensures.early);
