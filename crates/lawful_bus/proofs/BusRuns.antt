@@ -10,6 +10,7 @@ use Rattle.safe_air.proofs.SafeRuns.{lawful_logs_are_safe}
 use Rattle.bus_alignment.specs.LawfulRuns.{IsLawfulRun}
 use Rattle.bus_alignment.specs.SlotSteps.{SlotHeardLaw}
 use Rattle.bus_induction.proofs.SameDeliveries.{deliveries_law, drops_law}
+use Rattle.bus_costs.proofs.BusCosts.{energies}
 use Rattle.lawful_bus.specs.BusRuns.{IsBusRun, LawfulRunsAreTheBus}
 use Rattle.lawful_bus.proofs.BusLaws.{heard}
 
@@ -22,6 +23,7 @@ runs_are_the_bus known s clocks air lawful =
       lost = drops_law known s clocks air lawful;
       in_order = subst (λ (ds : List Delivery). Ordered ds) (sym delivered) (deliveries_in_order s lawful.sound);
       received = received s lawful.sound;
+      costs = energies s clocks air lawful;
     }
 
 pub lawful_runs : LawfulRunsAreTheBus
