@@ -14,6 +14,3 @@ pub mod station;
 
 pub use hearers::Hearers;
 pub use medium::Medium;
-
-#[cfg(test)]
-mod tests;
