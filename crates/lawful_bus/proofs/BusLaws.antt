@@ -1,7 +1,6 @@
 -- The laws of the bus from those of slots, floods and rounds.
 use Rattle.bus_alignment.specs.RunLaws.{AnyClocksLaw, DeliveriesLaw, DropsLaw, RunLaw}
 use Rattle.bus_alignment.specs.SlotLaws.{CoresLaw, SlotLaw, WindowsLaw}
-use Rattle.bus_alignment.specs.SlotRuns.{RunsLaw}
 use Rattle.bus_alignment.specs.SlotSteps.{SlotHeardLaw}
 use Rattle.slot_runs.proofs.SlotsAreFloods.{slots_are_runs}
 use Rattle.slot_floods.proofs.HeardSlots.{slots_heard, slots_started}
@@ -12,22 +11,19 @@ use Rattle.bus_induction.proofs.SameDeliveries.{any_clocks_law, deliveries_law, 
 use Rattle.bus_induction.proofs.SameScans.{scans_law}
 
 -- each slot is a run of the theorem on floods, so it gives on the air what it gives on the bus
-pub heard : SlotHeardLaw
+heard : SlotHeardLaw
 heard = slots_heard slots_are_runs
-
--- before each slot the nodes are the bus's, so its flood is the bus's
-slots_flooded : RunsLaw → SlotLaw
-slots_flooded known s clocks air lawful f rank j p round within =
-    slots_started known s clocks air lawful f rank j p round within (all_slots (slots_heard known) s clocks air lawful f rank j p round within).0
-
-pub slots_are_floods : SlotLaw
-slots_are_floods = slots_flooded slots_are_runs
 
 pub frames_begin : RunLaw
 frames_begin = run_law heard
 
 pub slots_go : AllSlotsLaw
 slots_go = all_slots heard
+
+-- before each slot the nodes are the bus's, so its flood is the bus's
+pub slots_are_floods : SlotLaw
+slots_are_floods s clocks air lawful f rank j p round within =
+    slots_started slots_are_runs s clocks air lawful f rank j p round within (slots_go s clocks air lawful f rank j p round within).0
 
 pub windows_open : WindowsLaw
 windows_open = windows_law heard

@@ -37,6 +37,7 @@ mod KnownAtPlaces
 mod LineSteps
 mod LinesInCode
 mod LinesTold
+mod ListsOfTheBus
 mod LoggedSendings
 mod NextMoments
 mod NodePlaces

@@ -9,13 +9,14 @@ use Rattle.radio_model.specs.declared.sending.Sending.{Sending}
 use Rattle.event_calendar.specs.Orders.{Due}
 use Rattle.bus_rules.specs.declared.delivery.Delivery.{Delivery}
 use Rattle.bus_rules.specs.declared.delivery.DropLine.{DropLine}
+use Rattle.bus_model.specs.Bus.{bus_drops}
 use Rattle.node_core.specs.Nodes.{NodeState}
 use Rattle.air_log.specs.declared.entry.Entry.{Entry}
 use Rattle.air_log.specs.Devices.{Device, Power, PowerOff, PowerOn, Ordered}
 use Rattle.air_log.specs.Lawful.{Lawful, trail_in}
 use Rattle.air_log.specs.Safe.{Safe}
 use Rattle.air_log.specs.Deliveries.{deliveries_of}
-use Rattle.air_log.specs.Drops.{drops_of}
+use Rattle.lawful_bus.specs.BusRuns.{IsBusRun}
 
 -- the core of each node of the scenario that is on at the end is in the state in which its trail leaves it
 abbrev pub IsCoreOf : Option NodeState → Power → Type 0
@@ -40,10 +41,12 @@ standing_at s clocks air n = standing (trail_in s clocks air n.node)
 abbrev pub orders_left : ScenarioParts → (ℕ → ℕ → ℕ) → List Entry → List Due
 orders_left s clocks air = map (standing_at s clocks air) s.nodes
 
--- a log that is lawful and safe, the deliveries and drops of its trails, and the cores where the trails leave them
+-- a log that is lawful and safe, the deliveries of its trails and the drops of the bus, and the cores where the trails leave
+-- them. The run is the single-hop bus's: its trails deliver what that does, in order, and received by relay paths
 pub record IsRun (s : ScenarioParts) (clocks : ℕ → ℕ → ℕ) (air : List Entry) (made : List Delivery) (lost : List DropLine) (core : ℕ → Option NodeState) : Type 0 where
   pub lawful : Lawful s clocks air
   pub safe : Safe s clocks air
   pub deliveries : made ≡ deliveries_of s clocks air
-  pub drops : lost ≡ drops_of s clocks air
+  pub drops : lost ≡ bus_drops s
+  pub bus : IsBusRun s clocks air
   pub cores : (v : ℕ) → knows s.nodes v ≡ true → IsCoreOf (core v) (trail_in s clocks air v).power

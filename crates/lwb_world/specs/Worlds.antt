@@ -49,3 +49,7 @@ pub record HasRun (clocks : ℕ → ℕ → ℕ) (old new : WorldState) : Type 0
   pub charges : new.charges ≡ charges_in old.scenario clocks new.air
   -- each node of the scenario has a core, and no other
   pub nodes : map core_id new.cores ≡ map line_id old.scenario.nodes
+
+-- a run that ended has left it so
+abbrev pub IsLeftByRun : WorldState → Type 0
+IsLeftByRun w = (clocks : ℕ → ℕ → ℕ) × (old : WorldState) × HasRun clocks old w

@@ -1,10 +1,11 @@
 //! The world: the nodes of a scenario in true time.
 
 ghost use Rattle.std.specs.Prelude.{◌≡◌, false, IfOk, OnOk, length, replicate, option_copied};
+ghost use Rattle.bus_model.specs.Bus.{bus_deliveries, bus_drops};
 ghost use Rattle.event_calendar.specs.Orders.{nothing_due};
 ghost use Rattle.air_log.specs.ClockLists.{clocks_by};
 ghost use Rattle.lwb_world.specs.Runs.{orders_left};
-ghost use Rattle.lwb_world.specs.Worlds.{new_world, core_of, HasRun};
+ghost use Rattle.lwb_world.specs.Worlds.{new_world, core_of, HasRun, IsLeftByRun};
 
 use crate::field::Field;
 use air_log::{Air, NodeCharge};
@@ -100,16 +101,20 @@ impl<'a, C: DriftClock> World<'a, C> {
         &self.field.air
     }
 
-    /// What the nodes delivered, by frame, rank, slot and node. There are none before the run.
+    /// What the nodes delivered, by frame, rank, slot and node: after a run that ended with Ok what the single-hop bus
+    /// delivers, whatever the clocks. There are none before the run.
     pub fn deliveries(&self) -> &[Delivery]
-        ensures { result.now ≡ self.now.0.deliveries }
+        ensures value { result.now ≡ self.now.0.deliveries }
+        ensures bus { IsLeftByRun self.now.0 → result.now ≡ bus_deliveries self.now.0.scenario }
     {
         &self.deliveries
     }
 
-    /// The packets that were lost before they were queued, in the order of the text. There are none before the run.
+    /// The packets that were lost before they were queued, in the order of the text: after a run that ended with Ok those of
+    /// the single-hop bus. There are none before the run.
     pub fn drops(&self) -> &[DropLine]
-        ensures { result.now ≡ self.now.0.drops }
+        ensures value { result.now ≡ self.now.0.drops }
+        ensures bus { IsLeftByRun self.now.0 → result.now ≡ bus_drops self.now.0.scenario }
     {
         &self.field.drops
     }

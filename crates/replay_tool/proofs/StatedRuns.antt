@@ -1,5 +1,5 @@
 -- Runs over the clocks that a scenario states.
-use Rattle.std.proofs.Common.{◌≡◌, ◌++◌, ℕ, List, Option, length, ap, subst, ◌∙◌}
+use Rattle.std.proofs.Common.{◌≡◌, ℕ, List, Option, subst}
 use Rattle.std.proofs.Math.Path.{fun_ext}
 use Rattle.tick_clock.specs.ClockReadings.{segment_clock_reads}
 use Rattle.tick_clock.specs.declared.segment_clock.SegmentClock.{SegmentClock}
@@ -10,12 +10,9 @@ use Rattle.bus_rules.specs.declared.delivery.Delivery.{Delivery}
 use Rattle.bus_rules.specs.declared.delivery.DropLine.{DropLine}
 use Rattle.node_core.specs.Nodes.{NodeState}
 use Rattle.air_log.specs.declared.entry.Entry.{Entry}
-use Rattle.air_log.specs.Deliveries.{deliveries_of}
 use Rattle.air_log.specs.NodeCharges.{charges_in}
 use Rattle.lwb_world.specs.Runs.{IsRun}
 use Rattle.lwb_world.specs.Worlds.{WorldState, new_world, core_of, HasRun}
-use Rattle.replay_tool.specs.RunReport.{report_lines, run_report, energy_lines}
-use Rattle.replay_tool.specs.Summary.{summary_lines, summary}
 
 -- a run over clocks is one over any that read the same
 same_run : (s : ScenarioParts) (clocks others : ℕ → ℕ → ℕ) (air : List Entry) (made : List Delivery) (lost : List DropLine) (core : ℕ → Option NodeState) → ((v : ℕ) → clocks v ≡ others v)
@@ -35,16 +32,3 @@ pub stated_charges : (s : ScenarioParts) (cs : List SegmentClock) (old new : Wor
 stated_charges s cs old new is same has =
     let over : WorldState → Type 0 = λ w. new.charges ≡ charges_in w.scenario (clocks_by segment_clock_reads w.scenario.nodes cs) new.air in
     subst (λ (c : ℕ → ℕ → ℕ). new.charges ≡ charges_in s c new.air) (fun_ext same) (subst over is has.charges)
-
--- what the first lines of the report of a run say
-pub stated_report : (s : ScenarioParts) (air : List Entry) (made : List Delivery) (lost : List DropLine) (core : ℕ → Option NodeState) → IsRun s (scenario_clock s) air made lost core
-    → report_lines made lost ++ energy_lines s (scenario_clock s) air ≡ run_report s (scenario_clock s) air
-stated_report s air made lost core run =
-    ap (λ (ds : List Delivery). report_lines ds lost ++ energy_lines s (scenario_clock s) air) run.deliveries
-    ∙ ap (λ (ls : List DropLine). report_lines (deliveries_of s (scenario_clock s) air) ls ++ energy_lines s (scenario_clock s) air) run.drops
-
--- and its summary
-pub stated_summary : (s : ScenarioParts) (air : List Entry) (made : List Delivery) (lost : List DropLine) (core : ℕ → Option NodeState) → IsRun s (scenario_clock s) air made lost core
-    → summary_lines (length made) (length lost) air ≡ summary s (scenario_clock s) air
-stated_summary s air made lost core run =
-    ap (λ (ds : List Delivery). summary_lines (length ds) (length lost) air) run.deliveries ∙ ap (λ (ls : List DropLine). summary_lines (length (deliveries_of s (scenario_clock s) air)) (length ls) air) run.drops

@@ -8,12 +8,16 @@ use Rattle.scenario_maker.specs.Made.{made}
 use Rattle.deadline_plan.specs.Admission.{Plan}
 use Rattle.deadline_plan.specs.DeadlineText.{plan_of}
 use Rattle.scenario_clocks.specs.StatedClocks.{stated_clock, scenario_clock}
+use Rattle.bus_rules.specs.declared.delivery.Delivery.{Delivery}
+use Rattle.bus_rules.specs.declared.delivery.DropLine.{DropLine}
+use Rattle.bus_model.specs.Bus.{bus_deliveries, bus_drops}
 use Rattle.bus_model.specs.FloodOfText.{outcome}
 use Rattle.air_log.specs.declared.entry.Entry.{Entry}
 use Rattle.air_log.specs.FloodLaw.{FloodLaw}
 use Rattle.air_log.specs.Lawful.{Lawful}
 use Rattle.air_log.specs.Safe.{Safe}
 use Rattle.air_log.specs.LogText.{log_text}
+use Rattle.lawful_bus.specs.BusRuns.{IsBusRun}
 use Rattle.replay_tool.specs.FloodReport.{flood_report}
 use Rattle.replay_tool.specs.RunReport.{run_report}
 use Rattle.replay_tool.specs.BusReport.{bus_report}
@@ -37,15 +41,23 @@ pub record IsFloodReport (f : FloodParts) (air : List Entry) (text : List ℕ) :
   pub is : text ≡ flood_report (outcome f)
   pub law : FloodLaw f (stated_clock f) air
 
--- what is told of a run of a scenario, and the log of this run, which is safe. All is over the clocks that the scenario states
-pub record IsOfRun (told : ScenarioParts → (ℕ → ℕ → ℕ) → List Entry → List ℕ) (s : ScenarioParts) (air : List Entry) (text : List ℕ) : Type 0 where
-  pub is : text ≡ told s (scenario_clock s) air
+-- how a run of a scenario over some clocks is told: by what is delivered and lost in it, and by its log
+abbrev pub Telling : Type 0
+Telling = List Delivery → List DropLine → ScenarioParts → (ℕ → ℕ → ℕ) → List Entry → List ℕ
+
+-- The headline, of the text that tells of a run and of the log of this run. All is over the clocks that the scenario states
+pub record IsOfRun (told : Telling) (s : ScenarioParts) (air : List Entry) (text : List ℕ) : Type 0 where
   pub law : Lawful s (scenario_clock s) air
+  -- one node at most initiates in a data slot, different steps never overlap, relays of one flood differ only by counter
   pub safe : Safe s (scenario_clock s) air
+  -- the printed deliveries, and the printed drops, are the single-hop bus's
+  pub is : text ≡ told (bus_deliveries s) (bus_drops s) s (scenario_clock s) air
+  -- the trails of the log deliver and lose these, received by relay paths, each stream in order and no packet twice
+  pub bus : IsBusRun s (scenario_clock s) air
 
 -- the report, with the text of the log behind it
-abbrev pub log_report : ScenarioParts → (ℕ → ℕ → ℕ) → List Entry → List ℕ
-log_report s clocks air = run_report s clocks air ++ log_text air
+abbrev pub log_report : List Delivery → List DropLine → ScenarioParts → (ℕ → ℕ → ℕ) → List Entry → List ℕ
+log_report made lost s clocks air = run_report made lost s clocks air ++ log_text air
 
 abbrev pub IsReport : Command → List ℕ → List Entry → List ℕ → Type 0
 IsReport Flood b air text = OfFlood b (λ f. IsFloodReport f air text)

@@ -7,8 +7,6 @@ use Rattle.scenario_text.specs.declared.lines.NodeLine.{NodeLine}
 use Rattle.bus_rules.specs.declared.delivery.Delivery.{Delivery}
 use Rattle.bus_rules.specs.declared.delivery.DropLine.{DropLine}
 use Rattle.air_log.specs.declared.entry.Entry.{Entry}
-use Rattle.air_log.specs.Deliveries.{deliveries_of}
-use Rattle.air_log.specs.Drops.{drops_of}
 use Rattle.energy_account.specs.Energies.{energy_of}
 use Rattle.energy_account.specs.declared.energy.Energy.{Energy}
 
@@ -35,7 +33,7 @@ node_energy s clocks air n = energy_line n.node (energy_of s clocks air n.node)
 abbrev pub energy_lines : ScenarioParts → (ℕ → ℕ → ℕ) → List Entry → List ℕ
 energy_lines s clocks air = flat_map (node_energy s clocks air) s.nodes
 
--- of a scenario over these clocks, by its log: the deliveries by frame, rank, slot and node, the drops in the order of the
--- text, and what each node costs, by its id
-abbrev pub run_report : ScenarioParts → (ℕ → ℕ → ℕ) → List Entry → List ℕ
-run_report s clocks air = report_lines (deliveries_of s clocks air) (drops_of s clocks air) ++ energy_lines s clocks air
+-- of a scenario over these clocks, by what was delivered and lost, and by its log: the deliveries by frame, rank, slot and node,
+-- the drops in the order of the text, and what each node costs, by its id
+abbrev pub run_report : List Delivery → List DropLine → ScenarioParts → (ℕ → ℕ → ℕ) → List Entry → List ℕ
+run_report made lost s clocks air = report_lines made lost ++ energy_lines s clocks air

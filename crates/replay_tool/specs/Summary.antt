@@ -4,8 +4,8 @@ use Rattle.scenario_text.specs.Canonical.{line_text, numbered}
 use Rattle.scenario_text.specs.ScenarioParts.{ScenarioParts}
 use Rattle.air_log.specs.declared.entry.Entry.{Entry}
 use Rattle.air_log.specs.declared.entry.Entry.TheVariants.{Sent, Heard, Tuned}
-use Rattle.air_log.specs.Deliveries.{deliveries_of}
-use Rattle.air_log.specs.Drops.{drops_of}
+use Rattle.bus_rules.specs.declared.delivery.Delivery.{Delivery}
+use Rattle.bus_rules.specs.declared.delivery.DropLine.{DropLine}
 
 -- in ticks, for how long a sending lasted, and for how long a radio was on
 abbrev pub sent_ticks : Entry → ℕ
@@ -27,6 +27,6 @@ summary_lines made lost air =
     number_line (codes "deliveries") made ++ number_line (codes "drops") lost ++ number_line (codes "sent") (sum_by sent_ticks air)
     ++ number_line (codes "on") (sum_by on_ticks air)
 
--- of a scenario over these clocks, by its log
-abbrev pub summary : ScenarioParts → (ℕ → ℕ → ℕ) → List Entry → List ℕ
-summary s clocks air = summary_lines (length (deliveries_of s clocks air)) (length (drops_of s clocks air)) air
+-- of a scenario over these clocks, by what was delivered and lost, and by its log
+abbrev pub summary : List Delivery → List DropLine → ScenarioParts → (ℕ → ℕ → ℕ) → List Entry → List ℕ
+summary made lost s clocks air = summary_lines (length made) (length lost) air
