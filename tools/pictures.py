@@ -2,9 +2,9 @@
 """Draws the pictures of the documents from what the program writes.
 
 Usage: tools/pictures.py PROGRAM [FOLDER]. PROGRAM is the built program, FOLDER is docs/pictures if none is given. Each
-picture but one shows a run of an example, or of a text that stands in docs/TUTORIAL.md: the program's `log` says what was
-sent and heard, and when each radio was on. The picture of the guard time is drawn from the numbers of the profiles. Only
-Python's standard library is used.
+picture but two shows a run of an example, or of a text that stands in docs/TUTORIAL.md: the program's `log` says what was
+sent and heard, and when each radio was on. The picture of the guard time is drawn from the numbers of the profiles, that of
+the crates from a list. Only Python's standard library is used.
 """
 
 import pathlib
@@ -388,6 +388,69 @@ def guard_picture():
     return picture.written(y + 10)
 
 
+# The crates by what flows from one to the next: columns from left to right, each with its crates from top to bottom.
+RUNNING = [
+    ["scenario_text", "scenario_maker", "deadline_plan"],
+    ["lwb_world", "lwb_flood", "bus_frames"],
+    ["node_core", "radio_model", "event_calendar", "scenario_clocks", "plain_bus"],
+    ["lwb_member", "round_runner", "glossy_relay", "time_reference"],
+    ["stream_source", "host_failover", "host_scheduler", "stream_table", "schedule_codec", "lwb_packets"],
+    ["bus_rules", "code_order", "link_trace", "tick_clock", "lwb_base"],
+]
+REPORTING = ["air_log", "energy_account", "replay_tool", "foldcairn"]
+PROVING = [
+    ["air_log", "lwb_flood", "bus_model"],
+    ["air_safety", "bus_alignment"],
+    ["air_invariant"],
+    ["safe_air", "air_bus"],
+    ["frame_courses", "window_charges"],
+    ["bus_induction", "slot_floods"],
+    ["slot_runs", "bus_costs"],
+    ["lawful_bus"],
+]
+
+
+def crates_picture():
+    """What flows through the crates while a command runs, and the order of the proof that a run is the bus."""
+    title = "The crates: what a command goes through, and the way to the proof that a run is the bus"
+    picture = Picture(title)
+    picture.text(24, 24, title)
+    step, down, tall = 122, 34, 24
+
+    def column(crates, x, y, kind):
+        for index, crate in enumerate(crates):
+            row = y + down * index
+            picture.box(kind, x, row, step - 14, tall)
+            picture.text(x + (step - 14) / 2, row + 16, crate, "small", "middle")
+
+    def arrow(x, y, x2):
+        picture.line("box", x, y, x2, y)
+        picture.line("box", x2 - 5, y - 4, x2, y)
+        picture.line("box", x2 - 5, y + 4, x2, y)
+
+    picture.text(24, 58, "A text is read, becomes a scenario, and is run; what runs is made of what stands to the right of it:", "small")
+    for index, crates in enumerate(RUNNING):
+        x = 24 + step * index
+        column(crates, x, 72, "box")
+        if index:
+            arrow(x - 14, 84, x - 2)
+    y = 72 + down * 6 + 22
+    picture.text(24, y, "What ran is logged, counted and written:", "small")
+    for index, crate in enumerate(REPORTING):
+        x = 24 + step * index
+        column([crate], x, y + 14, "box")
+        if index:
+            arrow(x - 14, y + 26, x - 2)
+    y += 82
+    picture.text(24, y, "What is known of a run, from its log to the bus; each column stands on those to its left:", "small")
+    for index, crates in enumerate(PROVING):
+        x = 24 + step * index
+        column(crates, x, y + 14, "slot")
+        if index:
+            arrow(x - 14, y + 26, x - 2)
+    return picture.written(int(y + 14 + down * 3 + 6))
+
+
 def example(name):
     return (TOP / "examples" / name).read_text()
 
@@ -402,6 +465,7 @@ def from_page(page, name):
 
 def pictures(program):
     yield "guard", guard_picture()
+    yield "crates", crates_picture()
     line = Run(program, example("packets-along-a-line.scenario"))
     plain = ["opening", "data, node 4", "contention", "closing"]
     yield "frame", frame_picture(line, 9, plain)
