@@ -19,18 +19,3 @@ mod top_call;
 
 pub use scenario_clocks::scenario_clocks_keep_the_drift_law;
 pub use top_call::{Outcome, top};
-
-#[cfg(test)]
-mod bus_tests;
-#[cfg(test)]
-mod cases;
-#[cfg(test)]
-mod core_tests;
-#[cfg(test)]
-mod limit_tests;
-#[cfg(test)]
-mod queue_tests;
-#[cfg(test)]
-mod run_tests;
-#[cfg(test)]
-mod tests;

@@ -1,7 +1,7 @@
 //! The command `bus` on worked texts, beside what `run` writes of them.
 
+use crate::calls::{answer, joined};
 use crate::cases::{BASE, BYTES_32, CASES, ONE_PACKET, TWO_CONTENTION_SLOTS, TWO_ON};
-use crate::tests::{answer, joined};
 use std::alloc::{AllocError, Global};
 use std::test::Fail;
 

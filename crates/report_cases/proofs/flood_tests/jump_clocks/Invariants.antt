@@ -1,5 +1,5 @@
 use Rattle.std.proofs.Common.{◌≡◌, length}
-use Rattle.replay_tool.proofs.tests.jump_clocks.Given as goal
+use Rattle.report_cases.proofs.flood_tests.jump_clocks.Given as goal
 
 abbrev pub invariant-loop : goal.invariant-loop
 invariant-loop l = length l.clocks.items ≡ l.counter

@@ -1,6 +1,6 @@
 //! Calls at their greatest sizes, with ample memory. That memory suffices is said by no clause.
 
-use crate::tests::answer;
+use crate::calls::answer;
 use air_log::{Air, Entry, SentEntry, text as log_text};
 use event_calendar::{Calendar, Class};
 use lwb_base::{NodeId, Packet, Rank};

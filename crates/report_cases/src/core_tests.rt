@@ -4,8 +4,7 @@ ghost use Rattle.std.specs.Prelude.{◌≡◌, IfOk, OnOk};
 ghost use Rattle.lwb_base.specs.Profile.{one};
 
 use crate::cases::ONE_PACKET;
-use crate::run_answer::stated_world;
-use crate::run_tests::scenario;
+use crate::worlds::{scenario, stated_world};
 use air_log::{Air, Entry, HeardEntry, SentEntry};
 use lwb_base::{Event, NodeId, Order, Packet, Payload, Profile, Rank, RecordingRadio};
 use node_core::Node;

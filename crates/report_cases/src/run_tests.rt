@@ -1,29 +1,13 @@
 //! Worked runs, by their logs and the nodes at the end.
 
-ghost use Rattle.std.specs.Prelude.{IfOk};
-ghost use Rattle.scenario_text.specs.ScenarioGrammar.{IsScenario};
-
+use crate::calls::{answer, joined};
 use crate::cases::{BASE, FIRST_ROUND, ONE_PACKET, ONE_STREAM, TWO_CONTENTION_SLOTS, TWO_ON};
-use crate::run_answer::stated_world;
-use crate::tests::{answer, joined};
+use crate::worlds::{scenario, stated_world};
 use air_log::{Air, Entry};
 use bus_rules::Tune;
-use lwb_base::{INPUT_LIMIT, NodeId, Rank};
+use lwb_base::{NodeId, Rank};
 use node_core::{Node, Place};
-use scenario_text::{Scenario, parse};
-use std::alloc::Global;
 use std::test::Fail;
-
-pub fn scenario(alloc: Global, parts: &[&str]) -> Result<Scenario, Fail>
-    ensures { IfOk result IsScenario }
-{
-    let text = joined(alloc, parts)?;
-    let bytes = text.as_bytes();
-    if bytes.len() > INPUT_LIMIT {
-        return Err("length")?;
-    }
-    Ok(parse(alloc, bytes)?)
-}
 
 // A name, a text, how what `log` writes of it begins, and a line that it has.
 const LOGS: &[(&str, &[&str], &str, &str)] = &[

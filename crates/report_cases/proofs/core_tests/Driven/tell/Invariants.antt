@@ -1,5 +1,5 @@
 use Rattle.std.proofs.Common.{◌≡◌}
-use Rattle.replay_tool.proofs.core_tests.Driven.tell.Given as goal
+use Rattle.report_cases.proofs.core_tests.Driven.tell.Given as goal
 
 abbrev pub invariant-loop : goal.invariant-loop
 invariant-loop l = l.self.core.setup ≡ l.fn.self.core.setup

@@ -1,12 +1,10 @@
 //! A run over a queue of orders that is not the world's own.
 
 ghost use Rattle.std.specs.Prelude.{◌≡◌, IfOk, length, replicate};
-ghost use Rattle.scenario_text.specs.ScenarioGrammar.{IsScenario};
 ghost use Rattle.event_calendar.specs.Orders.{nothing_due};
 
 use crate::cases::ONE_PACKET;
-use crate::run_answer::stated_world;
-use crate::run_tests::scenario;
+use crate::worlds::{scenario, stated_world};
 use air_log::{Air, Entry};
 use event_calendar::{Calendar, Class, Orders};
 use lwb_base::Memory;
@@ -43,7 +41,6 @@ impl Orders for Noting {
 
 // One in which nothing stands, with a place for each node.
 fn empty_queue(alloc: Global, s: &Scenario) -> Result<Noting, Memory>
-    requires { IsScenario s.now }
     ensures { IfOk result (λ q. q.calendar ≡ replicate (length s.now.nodes) nothing_due) }
 {
     Ok(Noting {
