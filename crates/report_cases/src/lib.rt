@@ -11,6 +11,8 @@ mod cases;
 #[cfg(test)]
 mod core_tests;
 #[cfg(test)]
+mod end_tests;
+#[cfg(test)]
 mod flood_tests;
 #[cfg(test)]
 mod limit_tests;
