@@ -35,6 +35,11 @@ const TOO_LONG: &[u8; 15] = b"fault too long\n";
 
 /// Does what the words of the command line ask for: it reads the source to its end, or nothing for `demo`, and writes the
 /// text that is due. The words do not contain the program's name.
+///
+/// With status 0, and with 4 where the text is a report, of `run`, `log` and `demo`: the log is lawful; one node at most
+/// initiates in a data slot of a channel, transmissions of different steps never overlap there, relays of one data or
+/// schedule flood differ only by counter; and the printed deliveries and drops are the single-hop bus's, received by relay
+/// paths, each stream in order and no packet twice (`IsOfRun`).
 pub fn top<S: Source, K: Sink>(
     alloc: Global,
     words: &[String],
