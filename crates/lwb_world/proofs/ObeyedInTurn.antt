@@ -1,5 +1,5 @@
 -- The orders of a device, obeyed one after another.
-use Rattle.std.proofs.Common.{◌≡◌, ℕ, List, [], ◌∷◌, ◌++◌, drop, fold, length, ◌<◌, Some, None, refl, sym, ◌∙◌, ap, subst, arith}
+use Rattle.std.proofs.Common.{◌≡◌, ℕ, zero, suc, ◌+◌, List, [], ◌∷◌, ◌++◌, drop, fold, Some, None, refl, sym, ◌∙◌, ap, subst, arith}
 use Rattle.std.specs.Prelude.{All}
 use Rattle.std.specs.List.{slice_get}
 use Rattle.std.proofs.lemmas.List.{append_assoc, append-nil}
@@ -58,6 +58,16 @@ module _ (clock : ℕ → ℕ) (t p : ℕ) (all : List Order) where
       (λ s d shows. ap (fold (obeyed clock s.id t) d) (sym (append-nil so.front) ∙ ap (λ (l : List Order). so.front ++ l) (sym (none_in rest is)) ∙ so.split))
       so.acts
 
-pub one_less : {X : Type 0} (xs : List X) (x : X) → slice_get xs 0 ≡ Some x → length (drop 1 xs) < length xs
-one_less [] x is = cc
-one_less (y ∷ xs) x is = omega arith
+-- the orders that are left behind so many
+pub first_left : {X : Type 0} (xs : List X) (k : ℕ) → slice_get (drop k xs) 0 ≡ slice_get xs k
+first_left xs zero = refl
+first_left [] (suc k) = refl
+first_left (x ∷ xs) (suc k) = first_left xs k
+
+drop_one : {X : Type 0} (xs : List X) (k : ℕ) → drop 1 (drop k xs) ≡ drop (suc k) xs
+drop_one xs zero = refl
+drop_one [] (suc k) = refl
+drop_one (x ∷ xs) (suc k) = drop_one xs k
+
+pub next_left : {X : Type 0} (xs : List X) (k : ℕ) → drop 1 (drop k xs) ≡ drop (k + 1) xs
+next_left xs k = let same : suc k ≡ k + 1 = omega arith in drop_one xs k ∙ ap (λ (n : ℕ). drop n xs) same

@@ -8,6 +8,7 @@ pub mod Counting
 pub mod Worlds
 pub mod WorldShapes
 pub mod Frames
+pub mod EventOrders
 -- what the clauses of the floods cite
 pub use Rattle.air_log.specs.FloodLaw
 pub use Rattle.air_log.specs.ClockLists

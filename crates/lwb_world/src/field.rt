@@ -15,10 +15,11 @@ ghost use Rattle.air_log.specs.WindowSums.{sent_with};
 ghost use Rattle.lwb_world.specs.Fields.{Shows, IsShown, entries_of};
 ghost use Rattle.lwb_world.specs.FieldSteps.{Acts, IsFirst, IsClosed};
 
+use crate::event_radio::EventRadio;
 use air_log::{Air, Device, Entry, SentEntry, TunedEntry, WindowSum};
 use bus_rules::{Delivery, DropLine};
 use event_calendar::{Class, Orders};
-use lwb_base::{Event, Memory, NodeId, Order, Packet, RecordingRadio};
+use lwb_base::{Event, Memory, NodeId, Order, Packet};
 use radio_model::Medium;
 use scenario_text::Scenario;
 use std::alloc::Global;
@@ -66,7 +67,7 @@ impl Field {
         ensures { (ended : Option SendingOf) → sent ≡ sent_with event ended → OnOk result (Acts t place (λ s d. event_at (C.readings clock.now) s t event ended d) [] [] self.old (Q.map orders.old) self.new (Q.map orders.new)) }
     {
         let by_alarm = is_alarm(&event);
-        let mut radio = RecordingRadio::new();
+        let mut radio = EventRadio::new();
         let device = &mut self.devices[usize::from(place)];
         let before = device.is_in_window();
         device.react(clock, t, event, &mut radio);
@@ -75,7 +76,7 @@ impl Field {
         let windows = &mut self.sums[usize::from(place)];
         windows.note(before, after, by_alarm, sent);
         self.log_delivery(delivery)?;
-        self.obey_all(orders, clock, place, t, radio)
+        self.obey_all(orders, clock, place, t, &radio)
     }
 
     // The orders that the device at the place gave to its radio, at tick t.
@@ -85,15 +86,17 @@ impl Field {
         clock: &C,
         place: u8,
         t: u64,
-        mut radio: RecordingRadio,
+        radio: &EventRadio,
     ) -> Result<(), Memory>
         requires shown { IsShown t self.old (Q.map orders.old) place }
         requires time { IsTime self.old.medium t }
-        requires timely { All IsTimely radio }
-        ensures { OnOk result (Acts t place (λ s d. fold (obeyed (C.readings clock.now) s.id t) d radio) [] [] self.old (Q.map orders.old) self.new (Q.map orders.new)) }
+        requires timely { All IsTimely radio.now.given }
+        ensures { OnOk result (Acts t place (λ s d. fold (obeyed (C.readings clock.now) s.id t) d radio.now.given) [] [] self.old (Q.map orders.old) self.new (Q.map orders.new)) }
     {
-        while let Some(order) = radio.take() {
+        let mut told = 0;
+        while let Some(order) = radio.at(told) {
             self.obey(orders, clock, place, t, order)?;
+            told += 1;
         }
         Ok(())
     }
@@ -105,19 +108,19 @@ impl Field {
         clock: &C,
         place: u8,
         t: u64,
-        order: Order,
+        order: &Order,
     ) -> Result<(), Memory>
         requires shown { IsShown t self.old (Q.map orders.old) place }
         requires time { IsTime self.old.medium t }
-        requires timely { IsTimely order }
-        ensures { OnOk result (Acts t place (λ s d. obeyed (C.readings clock.now) s.id t d order) [] [] self.old (Q.map orders.old) self.new (Q.map orders.new)) }
+        requires timely { IsTimely order.now }
+        ensures { OnOk result (Acts t place (λ s d. obeyed (C.readings clock.now) s.id t d order.now) [] [] self.old (Q.map orders.old) self.new (Q.map orders.new)) }
     {
         let device = &mut self.devices[usize::from(place)];
         let node = device.node();
         match order {
             Order::Listen(rank) => {
-                let closed = device.listen(rank, t);
-                self.medium.tune(node, Some(rank), t);
+                let closed = device.listen(*rank, t);
+                self.medium.tune(node, Some(*rank), t);
                 self.log_tuning(closed)
             }
             Order::Off => {
@@ -126,12 +129,12 @@ impl Field {
                 self.log_tuning(closed)
             }
             Order::SendAt(local, packet) => {
-                let tick = device.order_sending(clock, t, local, packet);
+                let tick = device.order_sending(clock, t, *local, packet.copy());
                 orders.set(place, Class::SendingStart, tick);
                 Ok(())
             }
             Order::Alarm(local) => {
-                let tick = device.set_alarm(clock, t, local);
+                let tick = device.set_alarm(clock, t, *local);
                 orders.set(place, Class::Alarm, tick);
                 Ok(())
             }

@@ -86,6 +86,10 @@ impl Field {
         requires { Contains (ids_of self.now) node }
         ensures { slice_get (ids_of self.now) result ≡ Some node }
     {
+        let first = usize::from(node.number()) - 1;
+        if first < self.devices.as_slice().len() && self.devices[first].node() == node {
+            return first as u8;
+        }
         for (place, device) in self.devices.iter().enumerate() {
             if device.node() == node {
                 return place as u8;

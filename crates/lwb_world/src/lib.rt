@@ -2,6 +2,7 @@
 #![tactic(auto)]
 
 mod deliveries;
+mod event_radio;
 mod field;
 mod field_bounds;
 mod field_counts;

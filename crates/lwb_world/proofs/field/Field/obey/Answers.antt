@@ -2,6 +2,7 @@ use Rattle.std.proofs.Common.{◌≡◌, ℕ, Option, Some, None, option_map, sy
 use Rattle.std.proofs.lemmas.Result.{on_ok_weaker}
 use Rattle.std.specs.Prelude.{Contains}
 use Rattle.radio_model.specs.Stations.{IsTime, nodes_of}
+use Rattle.lwb_base.specs.declared.order.Order.TheVariants.{SendAt}
 use Rattle.air_log.specs.Devices.{Listening, obeyed}
 use Rattle.air_log.specs.DeviceStates.{DeviceState, whole, with_tuned}
 use Rattle.lwb_world.specs.Fields.{FieldState, IsShown, channel_of}
@@ -94,7 +95,7 @@ returns-in-Listen g c =
     (λ is. acts_seen c.self.view_is (
     retuned_acts t p old orders shown c.from.result c.from.ensures c.index_mut-device.result.now c.index_mut-device.ensures.value c.self.invariant time after closed (Some c.in-Listen.rank) c.node-node.result c.tune.new.self c.log_tuning.new.self
     id c.tune.ensures.state c.tune.ensures.holds is c.listen-closed.ensures.node c.listen-closed.ensures.own c.listen-closed.ensures.before c.listen-closed.ensures.time on.0 on.1
-    (λ s d. obeyed clock s.id t d c.args.order)
+    (λ s d. obeyed clock s.id t d c.args.order.now)
     (λ made ended. ap (obeyed clock state.setup.id t (whole state made)) c.in-Listen.is ∙ c.listen-closed.ensures.whole clock made ended)))
     c.log_tuning.ensures
 
@@ -118,7 +119,7 @@ returns-in-Off g c =
     (λ is. acts_seen c.self.view_is (
     retuned_acts t p old orders shown c.from.result c.from.ensures c.index_mut-device.result.now c.index_mut-device.ensures.value c.self.invariant time after closed None c.node-node.result c.tune-in-Off.new.self c.log_tuning-in-Off.new.self
     id c.tune-in-Off.ensures.state c.tune-in-Off.ensures.holds is c.silence-closed.ensures.node c.silence-closed.ensures.own c.silence-closed.ensures.before happened off (ap (λ (l : Option Listening). option_map channel_of l) c.silence-closed.ensures.off)
-    (λ s d. obeyed clock s.id t d c.args.order)
+    (λ s d. obeyed clock s.id t d c.args.order.now)
     (λ made ended. ap (obeyed clock state.setup.id t (whole state made)) c.in-Off.is ∙ c.silence-closed.ensures.whole made)))
     c.log_tuning-in-Off.ensures
 
@@ -131,8 +132,8 @@ returns-in-SendAt g c =
     let shown : IsShown t old orders p = subst (λ (w : FieldState). IsShown t w orders p) (sym c.self.view_is) c.requires.shown in
     let time : IsTime old.medium t = subst (λ (w : FieldState). IsTime w.medium t) (sym c.self.view_is) c.requires.time in
     acts_seen c.self.view_is (
-    ordered_acts t p old orders shown c.from.result c.from.ensures c.index_mut-device.result.now c.index_mut-device.ensures.value c.self.invariant time (g.C.DriftClock.readings c.args.clock.now) c.order_sending-tick.new.self c.order_sending-tick.result c.in-SendAt.local c.in-SendAt.packet c.args.order (g.Q.Orders.map c.set.new.self)
-    c.order_sending-tick.ensures.tick c.order_sending-tick.ensures.after c.set.ensures c.in-SendAt.is)
+    ordered_acts t p old orders shown c.from.result c.from.ensures c.index_mut-device.result.now c.index_mut-device.ensures.value c.self.invariant time (g.C.DriftClock.readings c.args.clock.now) c.order_sending-tick.new.self c.order_sending-tick.result c.in-SendAt.local c.copy.result c.args.order.now (g.Q.Orders.map c.set.new.self)
+    c.order_sending-tick.ensures.tick c.order_sending-tick.ensures.after c.set.ensures (c.in-SendAt.is ∙ ap (SendAt c.in-SendAt.local) (sym c.copy.ensures)))
 
 pub returns-in-Alarm : goal.returns-in-Alarm
 returns-in-Alarm g c =
@@ -143,5 +144,5 @@ returns-in-Alarm g c =
     let shown : IsShown t old orders p = subst (λ (w : FieldState). IsShown t w orders p) (sym c.self.view_is) c.requires.shown in
     let time : IsTime old.medium t = subst (λ (w : FieldState). IsTime w.medium t) (sym c.self.view_is) c.requires.time in
     acts_seen c.self.view_is (
-    alarm_acts t p old orders shown c.from.result c.from.ensures c.index_mut-device.result.now c.index_mut-device.ensures.value c.self.invariant time (g.C.DriftClock.readings c.args.clock.now) c.set_alarm-tick.new.self c.set_alarm-tick.result c.in-Alarm.local c.args.order (g.Q.Orders.map c.set-in-Alarm.new.self)
+    alarm_acts t p old orders shown c.from.result c.from.ensures c.index_mut-device.result.now c.index_mut-device.ensures.value c.self.invariant time (g.C.DriftClock.readings c.args.clock.now) c.set_alarm-tick.new.self c.set_alarm-tick.result c.in-Alarm.local c.args.order.now (g.Q.Orders.map c.set-in-Alarm.new.self)
     c.set_alarm-tick.ensures.tick c.set_alarm-tick.ensures.after c.set-in-Alarm.ensures c.in-Alarm.is)

@@ -1,6 +1,6 @@
-use Rattle.std.proofs.Common.{◌≡◌, List, ◌++◌, set, None, fold, sym, ◌∙◌, ap, subst}
+use Rattle.std.proofs.Common.{◌≡◌, ◌++◌, set, None, fold, sym, ◌∙◌, ap, subst}
 use Rattle.std.proofs.lemmas.Result.{on_ok_weaker}
-use Rattle.lwb_base.specs.declared.order.Order.{Order}
+use Rattle.lwb_base.specs.Orders.{Told}
 use Rattle.radio_model.specs.Stations.{IsTime}
 use Rattle.node_core.specs.Runs.{orders_by}
 use Rattle.air_log.specs.Devices.{obeyed}
@@ -71,10 +71,10 @@ returns g c = λ ended is_sent.
     let own = noted_own t p old orders shown c.from.result c.from.ensures state c.index_mut-device.ensures.value clock c.args.event ended c.from-2.result c.from-2.ensures sum c.note.new.self c.index_mut-windows.ensures.value goes c.note.ensures.small in
     let acts = moves_acts t p old orders shown c.from.result c.from.ensures state c.index_mut-device.ensures.value clock c.args.event c.self.invariant time ended
     c.delivered-delivery.new.self c.delivered-delivery.result c.log_delivery.new.self is_after (c.delivered-delivery.ensures.delivery ∙ ap (λ (d : DeviceState). d.delivery) c.react.ensures.after) sums others own c.in_ok-log_delivery.ensures in
-    let ordered : c.react.new.radio ≡ orders_by row = c.react.ensures.orders.given ∙ ap (λ (l : List Order). l ++ orders_by row) c.new-radio.ensures in
+    let ordered : c.react.new.radio.given ≡ orders_by row = c.react.ensures.orders.given ∙ ap (λ (r : Told). r.given ++ orders_by row) c.new-radio.ensures in
     on_ok_weaker c.obey_all.result
     (λ all. acts_seen c.self.view_is (
-    event_acts t p old orders shown c.from.result c.from.ensures state c.index_mut-device.ensures.value clock c.args.event ended c.react.new.radio c.log_delivery.new.self c.obey_all.new.self (g.Q.Orders.map c.obey_all.new.orders) ordered
+    event_acts t p old orders shown c.from.result c.from.ensures state c.index_mut-device.ensures.value clock c.args.event ended c.react.new.radio.given c.log_delivery.new.self c.obey_all.new.self (g.Q.Orders.map c.obey_all.new.orders) ordered
     (λ made. c.react.ensures.whole made ended ∙ ap (λ (d : DeviceState). fold (obeyed clock state.setup.id t) (whole d (made_by t c.args.event ended state.power row made)) (orders_by row)) c.react.ensures.after)
     acts all))
     c.obey_all.ensures
