@@ -86,6 +86,7 @@ impl Field {
         requires { Contains (ids_of self.now) node }
         ensures { slice_get (ids_of self.now) result ≡ Some node }
     {
+        // Mostly the ids count from 1, and this is the place.
         let first = usize::from(node.number()) - 1;
         if first < self.devices.as_slice().len() && self.devices[first].node() == node {
             return first as u8;
