@@ -9,6 +9,7 @@ pub mod ScannedHearings
 pub mod HeardThroughout
 pub mod TunedByDevices
 pub mod CountedEnds
+pub mod ClosedByFrame
 -- for this crate alone
 mod OpenedByRows
 mod OwnSchedules
@@ -32,7 +33,6 @@ mod CallsInWindows
 mod FirstWindows
 mod ScannerWalk
 mod SlotHearings
-mod ClosedByFrame
 mod SlotParts
 mod SlotFloods
 mod WindowEvents

@@ -1,5 +1,6 @@
 -- kept for the crates above
 pub mod AlignedSlots
-pub mod ScriptedCores
 pub mod SameDrops
 pub mod SlotSends
+-- for this crate alone
+mod ScriptedCores

@@ -17,7 +17,7 @@ use Rattle.air_invariant.specs.Invariant.{IsRun}
 use Rattle.air_invariant.proofs.RunFacts.{frame_is, frame_lasts}
 use Rattle.bus_rules.specs.Charges.{last_of}
 use Rattle.air_bus.specs.OpenWindows.{AreClosed}
-use Rattle.air_bus.specs.WindowLaws.{WindowsCloseInTheirFrames}
+use Rattle.air_bus.proofs.ClosedByFrame.{closed_in_frames}
 use Rattle.window_charges.specs.ChargeLaws.{on_in, on_until, WindowsTogether}
 use Rattle.window_charges.specs.RadioTimes.{on_within}
 use Rattle.window_charges.proofs.WindowsNearCharge.{near_charge_by_budget}
@@ -65,16 +65,16 @@ module _ (s : ScenarioParts) (air : List Entry) (v : ℕ) (w : WindowLog) (e : �
           omega (arith, time, on, most)
 
 -- each has closed when the run ends, as a frame would start then
-closed_at_end : WindowsCloseInTheirFrames → (s : ScenarioParts) (clocks : ℕ → ℕ → ℕ) (air : List Entry) → IsRun s clocks air → (v : ℕ) → knows s.nodes v ≡ true
+closed_at_end : (s : ScenarioParts) (clocks : ℕ → ℕ → ℕ) (air : List Entry) → IsRun s clocks air → (v : ℕ) → knows s.nodes v ≡ true
     → AreClosed (trail_in s clocks air v).made.windows
-closed_at_end close s clocks air run v known =
+closed_at_end s clocks air run v known =
     let lasts = frame_lasts s run.driven.sound in
-    close s clocks air run v known (run_end s) (omega arith)
+    closed_in_frames s clocks air run v known (run_end s) (omega arith)
     (ap (λ (f : ℕ). frame_start s f) (frame_is s s.frames (run_end s) (omega arith) (omega (arith, lasts))))
 
-pub together : WindowsCloseInTheirFrames → WindowsTogether
-together close s clocks air driven lawful v known =
+pub together : WindowsTogether
+together s clocks air driven lawful v known =
     let run : IsRun s clocks air = record { driven = driven; heedful = lawful_is_heedful s clocks air lawful } in
     near_sum (budget_of s.profile).zeros (on_in air v) (charge s) (trail_in s clocks air v).made.windows
-    (λ w there. each_window s air v w (budget_of s.profile).zeros (closed_at_end close s clocks air run v known w there)
+    (λ w there. each_window s air v w (budget_of s.profile).zeros (closed_at_end s clocks air run v known w there)
     (near_charge_by_budget s clocks air driven lawful v known w there))
