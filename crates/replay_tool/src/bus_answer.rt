@@ -3,7 +3,7 @@ ghost use Rattle.replay_tool.specs.Answers.{Answers};
 ghost use Rattle.replay_tool.specs.declared.command.Command.TheVariants as asked;
 
 use crate::answer::{Answer, fault_answer};
-use crate::bus_costs::write_costs;
+use crate::cost_lines::write_costs;
 use crate::run_report::run_report;
 use air_log::Air;
 use bus_frames::Bus;

@@ -3,8 +3,8 @@
 
 mod answer;
 mod bus_answer;
-mod bus_costs;
 mod command;
+mod cost_lines;
 mod deadline_answer;
 mod deadline_report;
 mod demo_answer;

@@ -2,7 +2,7 @@ use Rattle.std.proofs.Common.{◌≡◌, ℕ, List, ◌++◌, IsSome, sym, ◌�
 use Rattle.bus_model.specs.Bus.{Cost, bus_cost}
 use Rattle.replay_tool.specs.BusReport.{cost_line}
 use Rattle.replay_tool.proofs.CostLines.{cost_at, same_cost, cost_more}
-use Rattle.replay_tool.proofs.bus_costs.write_costs.Goals as goal
+use Rattle.replay_tool.proofs.cost_lines.write_costs.Goals as goal
 
 pub unwrap-cost-requires : goal.unwrap-cost-requires
 unwrap-cost-requires c =
