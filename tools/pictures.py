@@ -402,10 +402,12 @@ PROVING = [
     ["air_log", "lwb_flood", "bus_model"],
     ["air_safety", "bus_alignment"],
     ["air_invariant"],
-    ["safe_air", "air_bus"],
-    ["frame_courses", "window_charges"],
-    ["bus_induction", "slot_floods"],
-    ["slot_runs", "bus_costs"],
+    ["safe_air"],
+    ["air_bus"],
+    ["frame_courses", "window_charges", "slot_floods"],
+    ["bus_induction"],
+    ["slot_runs"],
+    ["bus_costs"],
     ["lawful_bus"],
 ]
 
@@ -417,11 +419,11 @@ def crates_picture():
     picture.text(24, 24, title)
     step, down, tall = 122, 34, 24
 
-    def column(crates, x, y, kind):
+    def column(crates, x, y, kind, wide=step - 14):
         for index, crate in enumerate(crates):
             row = y + down * index
-            picture.box(kind, x, row, step - 14, tall)
-            picture.text(x + (step - 14) / 2, row + 16, crate, "small", "middle")
+            picture.box(kind, x, row, wide, tall)
+            picture.text(x + wide / 2, row + 16, crate, "small", "middle")
 
     def arrow(x, y, x2):
         picture.line("box", x, y, x2, y)
@@ -443,11 +445,12 @@ def crates_picture():
             arrow(x - 14, y + 26, x - 2)
     y += 82
     picture.text(24, y, "What is known of a run, from its log to the bus; each column stands on those to its left:", "small")
+    narrow = 97
     for index, crates in enumerate(PROVING):
-        x = 24 + step * index
-        column(crates, x, y + 14, "slot")
+        x = 24 + narrow * index
+        column(crates, x, y + 14, "slot", narrow - 8)
         if index:
-            arrow(x - 14, y + 26, x - 2)
+            arrow(x - 8, y + 26, x)
     return picture.written(int(y + 14 + down * 3 + 6))
 
 

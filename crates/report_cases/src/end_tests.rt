@@ -33,12 +33,16 @@ const RUN_REPORT: &str = "deliver 9 0 1 1 2 1 0 0 aa\n\
 fn wanted(alloc: Global, whole: usize, next: &str, cut: usize) -> Result<(u8, String), AllocError> {
     // Cut behind one digit, the line of the frames is a line still.
     let is_line = cut == 0 || cut == next.len() || next == "frames 12" && cut == 8;
-    let read = if cut == 0 { whole } else { whole + 1 };
+    let read = if cut == 0 {
+        whole
+    } else {
+        whole.saturating_add(1)
+    };
     if !is_line {
         return Ok((1, format!(in alloc; "fault line {read}: BadWord\n")?));
     }
     if read < ENOUGH {
-        let behind = read + 1;
+        let behind = read.saturating_add(1);
         return Ok((1, format!(in alloc; "fault line {behind}: Missing\n")?));
     }
     // With no line that switches a node on, none costs anything.
