@@ -215,13 +215,10 @@ impl Field {
     fn log_delivery(&mut self, delivery: Option<Delivery>) -> Result<(), Memory>
         ensures { OnOk result (self.new ≡ record self.old { deliveries = self.old.deliveries ++ option_to_list delivery }) }
     {
-        match delivery {
-            Some(delivery) => match self.deliveries.push(delivery) {
-                Ok(()) => Ok(()),
-                Err(_) => Err(Memory),
-            },
-            None => Ok(()),
+        if let Some(delivery) = delivery {
+            self.deliveries.push(delivery)?;
         }
+        Ok(())
     }
 
     // A tuning that has ended, if there is one.
