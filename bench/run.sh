@@ -118,7 +118,8 @@ measure() {
 
 if [ "$program" = --text ]; then
     case ${2:-} in
-        sparse | dense) "$2" ;;
+        sparse) sparse ;;
+        dense) dense 256 ;;
         *) echo "bench/run.sh: sparse or dense" >&2; exit 2 ;;
     esac
     exit
