@@ -1,5 +1,4 @@
-pub mod FirstOrders
-pub mod NextOrders
+pub mod FirstOfQueues
 pub mod OneOrder
-pub mod StalePlaces
-pub mod TreeOfWinners
+pub mod OrdersThatWait
+pub mod QueuesOfMaps

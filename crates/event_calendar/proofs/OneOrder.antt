@@ -1,24 +1,29 @@
 -- What a change of one order does to a map, and that a map has one least order.
-use Rattle.std.proofs.Common.{◌≡◌, ◌≢◌, ◌⊎◌, ℕ, ◌<◌, Bool, true, false, if◌then◌else◌, List, None, Some, length, replicate, refl, sym, ◌∙◌, ap, inl, inr, arith}
+use Rattle.std.proofs.Common.{◌≡◌, ◌≢◌, ◌⊎◌, ℕ, ◌<◌, ◌≤◌, List, None, Some, length, get_or, set, replicate, refl, sym, ◌∙◌, ap, inl, inr, arith}
 use Rattle.std.specs.declared.option.Option.{Option}
 use Rattle.std.specs.Option.{IfSome}
 use Rattle.std.proofs.Math.ListN.{length-replicate, length-set}
 use Rattle.std.proofs.lemmas.Bool.{cases_eq, cases_lt}
-use Rattle.std.proofs.lemmas.List.{get_or-replicate, get_or-set_other}
+use Rattle.std.proofs.lemmas.List.{get_or_past, get_or_read, get_or-replicate, get_or-set_other, set-set}
 use Rattle.std.proofs.lemmas.Grind.{get_or-set_at}
 use Rattle.event_calendar.specs.declared.class.Class.{Class}
 use Rattle.event_calendar.specs.declared.class.Class.TheVariants.{SendingEnd, Alarm, SendingStart}
 use Rattle.event_calendar.specs.Orders.{Due, Order, Stands, IsNext, IsNotAfter, at, changed, due_at, nothing_due, rank, tick_of, with_tick}
-use Rattle.event_calendar.specs.Winners.{first, is_before}
-use Rattle.event_calendar.proofs.FirstOrders.{before_is_not_after, not_before_is_not_after}
-use Rattle.event_calendar.proofs.NextOrders.{nothing_past, ticks_of_nothing}
+
+ticks_of_nothing : (class : Class) → tick_of class nothing_due ≡ None
+ticks_of_nothing SendingEnd = refl
+ticks_of_nothing Alarm = refl
+ticks_of_nothing SendingStart = refl
+
+nothing_past : (map : List Due) (place : ℕ) (class : Class) → length map ≤ place → at map place class ≡ None
+nothing_past map place class past = ap (tick_of class) (get_or_past map place nothing_due past) ∙ ticks_of_nothing class
 
 pub new_tick : (class : Class) (tick : Option ℕ) (d : Due) → tick_of class (with_tick class tick d) ≡ tick
 new_tick SendingEnd tick d = refl
 new_tick Alarm tick d = refl
 new_tick SendingStart tick d = refl
 
-other_tick : (class another : Class) (tick : Option ℕ) (d : Due) → another ≢ class → tick_of another (with_tick class tick d) ≡ tick_of another d
+pub other_tick : (class another : Class) (tick : Option ℕ) (d : Due) → another ≢ class → tick_of another (with_tick class tick d) ≡ tick_of another d
 other_tick SendingEnd SendingEnd tick d apart = absurd (apart refl)
 other_tick SendingEnd Alarm tick d apart = refl
 other_tick SendingEnd SendingStart tick d apart = refl
@@ -38,11 +43,13 @@ nothing_at_first places place class =
 
 pub there : (map : List Due) (place : ℕ) (class : Class) (tick : Option ℕ) → place < length map → at (changed map place class tick) place class ≡ tick
 there map place class tick within =
-    ap (tick_of class) (get_or-set_at map place place (with_tick class tick (due_at map place)) nothing_due refl within) ∙ new_tick class tick (due_at map place)
+    ap (tick_of class) (get_or-set_at map place place (with_tick class tick (due_at map place)) nothing_due refl within) ∙ new_tick class tick (due_at map
+    place)
 
 pub elsewhere : (map : List Due) (place other : ℕ) (class another : Class) (tick : Option ℕ) → (other ≢ place) ⊎ (another ≢ class)
     → at (changed map place class tick) other another ≡ at map other another
-elsewhere map place other class another tick (inl apart) = ap (tick_of another) (get_or-set_other map place other (with_tick class tick (due_at map place)) nothing_due apart)
+elsewhere map place other class another tick (inl apart) =
+    ap (tick_of another) (get_or-set_other map place other (with_tick class tick (due_at map place)) nothing_due apart)
 elsewhere map place other class another tick (inr apart) =
     elim (cases_eq other place) [
       | inr away ↦ ap (tick_of another) (get_or-set_other map place other (with_tick class tick (due_at map place)) nothing_due away)
@@ -67,7 +74,7 @@ pub next_within : (map : List Due) (o : Option Order) → IsNext map o → IfSom
 next_within map None least = tt
 next_within map (Some x) least = stands_within map x least.0
 
-same_class : (c d : Class) → rank c ≡ rank d → c ≡ d
+pub same_class : (c d : Class) → rank c ≡ rank d → c ≡ d
 same_class SendingEnd SendingEnd is = refl
 same_class SendingEnd Alarm is = absurd (omega arith)
 same_class SendingEnd SendingStart is = absurd (omega arith)
@@ -94,15 +101,26 @@ one_next map None (Some y) first second = let none = first y.2 y.1 in let some =
 one_next map (Some x) None first second = let none = second x.2 x.1 in let some = first.0 in absurd (cc)
 one_next map (Some x) (Some y) first second = ap Some (same_order x y (first.1 y second.0) (second.1 x first.0))
 
--- the first of two does not hang on which is named first
-pub first_turned : (a b : Option Order) → first a b ≡ first b a
-first_turned None None = refl
-first_turned None (Some y) = refl
-first_turned (Some x) None = refl
-first_turned (Some x) (Some y) = by_tests (is_before y x) (is_before x y) refl refl
-  where
-    by_tests : (s t : Bool) → is_before y x ≡ s → is_before x y ≡ t → ◌≡◌ {A = Option Order} (if s then Some y else Some x) (if t then Some x else Some y)
-    by_tests true true before after = ap Some (same_order y x (before_is_not_after y x before) (before_is_not_after x y after))
-    by_tests true false before after = refl
-    by_tests false true before after = refl
-    by_tests false false before after = ap Some (same_order x y (not_before_is_not_after x y before) (not_before_is_not_after y x after))
+-- the orders of a place, as they are read at an index
+pub read_due : (map : List Due) (index place : ℕ) (d : Due) → index ≡ place → place < length map → d ≡ get_or map index d → d ≡ due_at map place
+read_due map index place d same within is = get_or_read map index d (omega arith) is nothing_due ∙ ap (due_at map) same
+
+-- a change that is written at an index
+pub changed_as : (map : List Due) (index place : ℕ) (class : Class) (tick : Option ℕ) (d new : Due) → index ≡ place → place < length map
+    → d ≡ get_or map index d → new ≡ with_tick class tick d → set map index new ≡ changed map place class tick
+changed_as map index place class tick d new same within is new_is =
+    let there : new ≡ with_tick class tick (due_at map place) = new_is ∙ ap (with_tick class tick) (read_due map index place d same within is) in
+    ap (set map index) there ∙ ap (λ (n : ℕ). set map n (with_tick class tick (due_at map place))) same
+
+ticks_twice : (class : Class) (s t : Option ℕ) (d : Due) → with_tick class t (with_tick class s d) ≡ with_tick class t d
+ticks_twice SendingEnd s t d = refl
+ticks_twice Alarm s t d = refl
+ticks_twice SendingStart s t d = refl
+
+pub changed_twice : (map : List Due) (place : ℕ) (class : Class) (s t : Option ℕ) → place < length map
+    → changed (changed map place class s) place class t ≡ changed map place class t
+changed_twice map place class s t within =
+    let was = with_tick class s (due_at map place) in
+    let here : due_at (changed map place class s) place ≡ was = get_or-set_at map place place was nothing_due refl within in
+    ap (λ (d : Due). set (changed map place class s) place (with_tick class t d)) here ∙ set-set map place was (with_tick class t was)
+    ∙ ap (set map place) (ticks_twice class s t (due_at map place))

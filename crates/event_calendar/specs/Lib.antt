@@ -1,2 +1,3 @@
 pub mod Orders
-pub mod Winners
+pub mod Queues
+pub mod Waiting

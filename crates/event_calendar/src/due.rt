@@ -1,10 +1,7 @@
 ghost use Rattle.std.specs.Prelude.{◌≡◌};
-ghost use Rattle.event_calendar.specs.Winners as winners;
-ghost use Rattle.event_calendar.specs.Orders.{nothing_due, with_tick};
-ghost use Rattle.event_calendar.specs.Winners.{first_due};
+ghost use Rattle.event_calendar.specs.Orders.{nothing_due, tick_of, with_tick};
 
 use crate::Class;
-use crate::winners::first;
 use std::marker::Model;
 
 /// The orders at one place, as ticks by class.
@@ -48,19 +45,14 @@ impl Due {
         }
     }
 
-    /// The first of these orders, as those of that place.
-    pub fn first(&self, place: u8) -> Option<(u64, Class, u8)>
-        ensures { result ≡ first_due place self.now }
+    /// The tick of that class, if there is one.
+    pub fn get(&self, class: Class) -> Option<u64>
+        ensures { result ≡ tick_of class self.now }
     {
-        let end = order(place, Class::SendingEnd, self.sending_end);
-        let alarm = order(place, Class::Alarm, self.alarm);
-        let start = order(place, Class::SendingStart, self.sending_start);
-        first(first(end, alarm), start)
+        match class {
+            Class::SendingEnd => self.sending_end,
+            Class::Alarm => self.alarm,
+            Class::SendingStart => self.sending_start,
+        }
     }
-}
-
-fn order(place: u8, class: Class, tick: Option<u64>) -> Option<(u64, Class, u8)>
-    ensures { result ≡ winners.order place class tick }
-{
-    Some((tick?, class, place))
 }

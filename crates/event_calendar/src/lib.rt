@@ -1,13 +1,14 @@
-//! The orders that stand at up to 64 places, and the next of them: a tree of winners.
+//! The orders that stand at up to 64 places, and the next of them: a sorted queue for each class.
 #![tactic(auto)]
 
 mod calendar;
 mod class;
 mod due;
+mod entry;
 pub mod laws;
 mod orders;
-mod stale;
-mod winners;
+mod queue;
+mod queues;
 
 pub use calendar::Calendar;
 pub use class::Class;

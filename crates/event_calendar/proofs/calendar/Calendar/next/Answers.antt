@@ -1,16 +1,13 @@
-use Rattle.event_calendar.proofs.StalePlaces.{root_is_next_now, winner_is_next_now}
+use Rattle.std.proofs.Common.{List, sym, subst}
+use Rattle.std.specs.declared.option.Option.{Option}
+use Rattle.event_calendar.specs.Orders.{Due, Order, IsNext}
+use Rattle.event_calendar.proofs.FirstOfQueues.{first_is_next}
 use Rattle.event_calendar.proofs.OneOrder.{next_within}
 use Rattle.event_calendar.proofs.calendar.Calendar.next.Goals as goal
 
-pub returns-in-None : goal.returns-in-None
-returns-in-None c =
-    let inside = c.self.inside in
-    let least = root_is_next_now inside.stale inside.due.items c.args.self.now inside.tree.items c.index.result.now c.in-None.is c.self.view_is c.self.invariant c.index.ensures in
-    record { least = least; within = next_within c.args.self.now c.index.result.now least }
-
-pub returns-in-Some : goal.returns-in-Some
-returns-in-Some c =
-    let inside = c.self.inside in
-    let least = winner_is_next_now inside.stale inside.due.items c.args.self.now inside.tree.items c.deref.result.now c.in-Some.place c.from-index.result c.index-in-Some.result.now c.first.result
-    c.winner_with.result c.in-Some.is c.self.view_is c.self.invariant c.deref.ensures.value c.from-index.ensures c.index-in-Some.ensures c.first.ensures c.winner_with.ensures in
-    record { least = least; within = next_within c.args.self.now c.winner_with.result least }
+pub returns : goal.returns
+returns c =
+    let map = c.self.inside.due.items in
+    let first = subst (λ (o : Option Order). IsNext map o) (sym c.next.ensures) (first_is_next map c.self.inside.queues c.self.invariant) in
+    let least : IsNext c.args.self.now c.next.result = subst (λ (m : List Due). IsNext m c.next.result) c.self.view_is first in
+    record { least = least; within = next_within c.args.self.now c.next.result least }

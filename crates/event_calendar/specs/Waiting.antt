@@ -1,0 +1,32 @@
+-- The orders of one class that wait in a queue, the earliest first, and at one tick by place.
+use Rattle.std.specs.Prelude.{◌≡◌, ℕ, ◌<◌, ◌≤◌, List, ◌∷◌, Bool, ◌&&◌, ◌||◌, ◌==◌, nat_lt, Contains, AllPairs}
+use Rattle.std.specs.List.Sorted.{IsPermutation}
+use Rattle.event_calendar.specs.declared.entry.Entry.{Entry}
+
+-- those that wait, front first, and how many there is room for
+pub record Waiting : Type 0 where
+  pub entries : List Entry
+  pub room : ℕ
+
+abbrev pub is_before : Entry → Entry → Bool
+is_before x y = nat_lt x.tick y.tick || ((x.tick == y.tick) && nat_lt x.place y.place)
+
+pub record IsBefore (x y : Entry) : Type 0 where
+  pub tick : x.tick ≤ y.tick
+  pub place : x.tick ≡ y.tick → x.place < y.place
+
+abbrev pub IsInOrder : List Entry → Type 0
+IsInOrder entries = AllPairs IsBefore entries
+
+-- an order comes in, and nothing else changes but where the orders stand
+pub record IsAdded (e : Entry) (before after : Waiting) : Type 0 where
+  pub entries : IsPermutation (e ∷ before.entries) after.entries
+  pub order : IsInOrder after.entries
+  pub room : before.room ≤ after.room
+
+-- an order leaves
+pub record IsRemoved (e : Entry) (before after : Waiting) : Type 0 where
+  pub entries : IsPermutation before.entries (e ∷ after.entries)
+  pub gone : Contains after.entries e → ⊥
+  pub order : IsInOrder after.entries
+  pub room : before.room ≤ after.room

@@ -1,0 +1,18 @@
+ghost use Rattle.std.specs.Prelude.{◌≡◌};
+ghost use Rattle.event_calendar.specs.Waiting.{is_before};
+
+/// An order of one class: its tick, and its place.
+#[derive(Clone, Copy, PartialEq, Eq)]
+pub struct Entry {
+    pub tick: u64,
+    pub place: u8,
+}
+
+impl Entry {
+    /// Whether it comes before another one, by tick, then place.
+    pub fn is_before(&self, other: &Entry) -> bool
+        ensures { result ≡ is_before self.now other.now }
+    {
+        (self.tick < other.tick) | ((self.tick == other.tick) & (self.place < other.place))
+    }
+}

@@ -1,0 +1,104 @@
+ghost use Rattle.std.specs.Prelude.{◌≡◌, ◌<◌, ◌≤◌, ℕ, List, [], Contains, length, slice_get, slice_index_or, IfOk};
+ghost use Rattle.event_calendar.specs.declared.entry.Entry.{Entry as EntryOf};
+ghost use Rattle.event_calendar.specs.Waiting.{IsBefore, IsInOrder, IsAdded, IsRemoved};
+
+use crate::entry::Entry;
+use lwb_base::Memory;
+use std::alloc::Global;
+use std::collections::VecDeque;
+use std::marker::Model;
+
+/// The orders of one class, the earliest first, and at one tick by place.
+#[derive(Drop)]
+pub struct Queue {
+    entries: VecDeque<Entry>,
+}
+
+impl Model for Queue {
+    ghost use Rattle.std.specs.VecDeque.{deque_capacity};
+    ghost use Rattle.event_calendar.specs.Waiting.{Waiting};
+
+    ghost Value = { Waiting };
+
+    ghost view = { λ q. record { entries = q.entries.items; room = deque_capacity q.entries } };
+}
+
+impl Queue {
+    /// An empty queue with room for that many orders.
+    pub fn new(alloc: Global, room: usize) -> Result<Queue, Memory>
+        ensures entries { IfOk result (λ q. q.entries ≡ []) }
+        ensures room { IfOk result (λ q. room ≤ q.room) }
+    {
+        let entries = VecDeque::with_capacity(alloc, room)?;
+        Ok(Queue { entries })
+    }
+
+    /// The earliest order, if there is one.
+    pub fn first(&self) -> Option<Entry>
+        ensures { result ≡ slice_get self.now.entries 0 }
+    {
+        self.entries.front().copied()
+    }
+
+    /// Adds an order at its place in time. No memory is taken.
+    pub fn add(&mut self, entry: Entry)
+        requires room { length self.old.entries < self.old.room }
+        requires order { IsInOrder self.old.entries }
+        requires apart { Contains self.old.entries entry → ⊥ }
+        ensures { IsAdded entry self.old self.new }
+    {
+        let at = self.place_of(&entry);
+        if at == self.entries.len() {
+            self.entries.push_back_reserved(entry);
+        } else if self.entries.insert(at, entry).is_err() {
+            // there is room
+            unreachable!();
+        }
+    }
+
+    /// Removes an order that stands in it.
+    pub fn remove(&mut self, entry: Entry)
+        requires order { IsInOrder self.old.entries }
+        requires there { Contains self.old.entries entry }
+        ensures { IsRemoved entry self.old self.new }
+    {
+        let at = self.index_of(&entry);
+        if at == 0 {
+            self.entries.pop_front();
+        } else {
+            self.entries.remove(at);
+        }
+    }
+
+    // How many orders come before that one. A new order mostly comes last, or nearly so.
+    fn place_of(&self, entry: &Entry) -> usize
+        requires order { IsInOrder self.now.entries }
+        requires apart { Contains self.now.entries entry.now → ⊥ }
+        ensures bound { result ≤ length self.now.entries }
+        ensures before { (k : ℕ) (d : EntryOf) → k < result → IsBefore (slice_index_or self.now.entries k d) entry.now }
+        ensures after { (k : ℕ) (d : EntryOf) → result ≤ k → k < length self.now.entries
+            → IsBefore entry.now (slice_index_or self.now.entries k d) }
+    {
+        let mut at = self.entries.len();
+        while at > 0 {
+            if self.entries[at - 1].is_before(entry) {
+                return at;
+            }
+            at -= 1;
+        }
+        0
+    }
+
+    // Where that order stands. It is mostly the first.
+    fn index_of(&self, entry: &Entry) -> usize
+        requires there { Contains self.now.entries entry.now }
+        ensures bound { result < length self.now.entries }
+        ensures there { (d : EntryOf) → slice_index_or self.now.entries result d ≡ entry.now }
+    {
+        let mut at = 0;
+        while self.entries[at] != *entry {
+            at += 1;
+        }
+        at
+    }
+}
