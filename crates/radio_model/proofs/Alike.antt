@@ -16,7 +16,7 @@ use Rattle.radio_model.proofs.Crowds.{harmless_come}
 use Rattle.radio_model.proofs.Members.{some_of, from_filter}
 use Rattle.radio_model.proofs.RivalFacts.{rival, of_test, meets_true, same_from}
 
-origin_from : (a b : Origin) → is_same a b ≡ true → a ≡ b
+pub origin_from : (a b : Origin) → is_same a b ≡ true → a ≡ b
 origin_from a b so =
     let both = and_parts (a.place == b.place) (a.start == b.start) so in
     let first : a ≡ record { place = b.place; start = a.start } = ap (λ (n : ℕ). let o : Origin = record { place = n; start = a.start } in o) (eqb-true a.place b.place both.0) in

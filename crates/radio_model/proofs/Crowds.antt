@@ -1,24 +1,23 @@
 -- What rivals bring by masks: of none, of one, and of two lists of them.
-use Rattle.std.proofs.Common.{◌≡◌, ◌≢◌, ℕ, ◌<◌, ◌≤◌, List, [], ◌∷◌, ◌++◌, length, get_or, Bool, true, false, not, ◌&&◌, ◌||◌, ◌==◌, if◌then◌else◌, Option, Some, None, option_to_list, filter_map, bit_and, bit_or, min, nat_lt, take, eq-eqb, Contains, refl, sym, ◌∙◌, ap, subst, arith}
+use Rattle.std.proofs.Common.{◌≡◌, ◌≢◌, ℕ, ◌<◌, ◌≤◌, List, [], ◌∷◌, ◌++◌, length, get_or, Bool, true, false, not, ◌&&◌, ◌||◌, ◌==◌, if◌then◌else◌, Option, Some, None, option_to_list, filter_map, bit_and, bit_or, min, nat_lt, eq-eqb, refl, sym, ◌∙◌, ap, subst, arith}
 use Rattle.std.proofs.Math.Nat.{min-le_left}
 use Rattle.std.proofs.lemmas.Bool.{and_parts, eqb-true, false≢true, false_from_ne_true}
-use Rattle.std.proofs.lemmas.List.{get_or-take, length-take}
 use Rattle.std.proofs.lemmas.List.Folds.{list_any-append}
 use Rattle.std.proofs.lemmas.Nat.Bits.{bit_at_and}
 use Rattle.std.specs.Int.{bit_at}
-use Rattle.std.specs.List.{list_any, cons_option, flat_map}
+use Rattle.std.specs.List.{list_any, cons_option}
 use Rattle.lwb_base.specs.Profile.{Numbers}
 use Rattle.link_trace.specs.Masks.{IsMask}
 use Rattle.link_trace.specs.Passes.{Lines}
 use Rattle.link_trace.proofs.MaskBits.{empty_mask, joined, same_tests}
 use Rattle.radio_model.specs.Stations.{on_air, overlaps}
-use Rattle.radio_model.specs.Meetings.{rival_to, rivals_in, rivals_to, passes_at, reaches, comes_from, spoils, differs, repeats, IsPlaced, IsBrought, nothing, both_brought, brought_by, IsCrowd, no_crowd, both_crowds}
+use Rattle.radio_model.specs.Meetings.{rival_to, rivals_in, passes_at, reaches, comes_from, spoils, differs, repeats, IsPlaced, IsBrought, nothing, both_brought, brought_by, IsCrowd, no_crowd, both_crowds}
 use Rattle.radio_model.specs.declared.sending.Sending.{Sending}
 use Rattle.radio_model.specs.declared.station.Station.{Station}
 use Rattle.radio_model.specs.declared.brought.Brought.{Brought}
 use Rattle.radio_model.specs.declared.crowd.Crowd.{Crowd}
 use Rattle.radio_model.specs.declared.rivals.Rival.{Rival}
-use Rattle.radio_model.proofs.Members.{any_of, some_of, in_flat, from_flat, from_filter}
+use Rattle.radio_model.proofs.Members.{some_of, from_filter}
 
 alone : (a : Bool) → a ≡ (a || false)
 alone true = refl
@@ -105,23 +104,13 @@ some_bit true true is = refl
 some_bit true false is = absurd (omega (arith, is))
 some_bit false c is = absurd (omega (arith, is))
 
-in_take : {X : Type 0} (n : ℕ) (xs : List X) (x : X) → Contains (take n xs) x → Contains xs x
-in_take n xs x (k, below, at) =
-    let long = length-take n xs in
-    (k, omega (arith, long), sym (get_or-take n xs k x (omega (arith, long))) ∙ at)
-
-any_in_all : (test : Rival → Bool) (f : Station → List Rival) (n : ℕ) (sts : List Station) → list_any test (flat_map f (take n sts)) ≡ true → list_any test (flat_map f sts) ≡ true
-any_in_all test f n sts is =
-    let r = some_of test (flat_map f (take n sts)) is in
-    let st = from_flat f (take n sts) r.0 r.1 in
-    any_of test (flat_map f sts) r.0 (in_flat f sts st.0 r.0 (in_take n sts st.0 st.1) st.2) r.2
-
--- the first stations spoil all that x reaches
-pub all_spoiled : (lines : Lines) (nodes : List ℕ) (p : Numbers) (x : Sending) (sts : List Station) (n reached : ℕ) (c : Crowd) → IsCrowd lines nodes (rivals_to p x (take n sts)) c
-    → bit_and c.spoiled reached ≡ reached → (i : ℕ) → i < length nodes → bit_at reached i ≡ 1 → list_any (spoils lines (get_or nodes i 0)) (rivals_to p x sts) ≡ true
-all_spoiled lines nodes p x sts n reached c is both i below bit =
-    any_in_all (spoils lines (get_or nodes i 0)) (rivals_in p x) n sts
-    (some_bit (nat_lt i (length nodes)) (list_any (spoils lines (get_or nodes i 0)) (rivals_to p x (take n sts)))
+-- those that are known spoil all that x reaches, and all others are more
+pub all_spoiled : (lines : Lines) (nodes : List ℕ) (known all : List Rival) (reached : ℕ) (c : Crowd) → IsCrowd lines nodes known c
+    → ((test : Rival → Bool) → list_any test known ≡ true → list_any test all ≡ true) → bit_and c.spoiled reached ≡ reached → (i : ℕ) → i < length nodes → bit_at reached i ≡ 1
+    → list_any (spoils lines (get_or nodes i 0)) all ≡ true
+all_spoiled lines nodes known all reached c is more both i below bit =
+    more (spoils lines (get_or nodes i 0))
+    (some_bit (nat_lt i (length nodes)) (list_any (spoils lines (get_or nodes i 0)) known)
     (subst (λ (b : ℕ). 1 ≤ b) (is.spoiled i) (bit_of_both c.spoiled reached i both bit)))
 
 same_any : {X Y : Type 0} (f : X → Option Y) (t u : Y → Bool) (xs : List X) → ((x : X) (y : Y) → f x ≡ Some y → t y ≡ u y) → list_any t (filter_map f xs) ≡ list_any u (filter_map f xs)

@@ -4,12 +4,17 @@ use Rattle.link_trace.specs.Passes.{Lines}
 use Rattle.radio_model.specs.Stations.{MediumState, IsMedium, node_of, station_of, sending_of, finished, Ends}
 use Rattle.radio_model.specs.Ages.{IsAged}
 use Rattle.radio_model.specs.Meetings.{hearers_to}
+use Rattle.radio_model.specs.Marks.{AreMarks}
+use Rattle.radio_model.specs.Recent.{AreRecent, AreAmong}
+use Rattle.radio_model.specs.declared.mark.Mark.{Mark}
+use Rattle.radio_model.specs.declared.recent.Recent.{Recent}
 use Rattle.radio_model.specs.declared.sending.Sending.{Sending}
 use Rattle.radio_model.specs.declared.station.Station.{Station}
 use Rattle.std.proofs.Math.Nat.{mul-le-mul_right}
 use Rattle.radio_model.proofs.Places.{found, same_at}
 use Rattle.radio_model.proofs.EndedSendings.{all_aged_later, aged_changed, aged_finished}
 use Rattle.radio_model.proofs.Heard.{byte_is}
+use Rattle.radio_model.proofs.RecentPlaces.{among_recent}
 
 module _ (m : MediumState) (ascend : AllPairs (λ a b. a < b) (map node_of m.stations)) (v i : ℕ) (d : Station) (below : i < length m.stations) (of : (get_or m.stations i d).node ≡ v) where
   abbrev there : Station
@@ -27,6 +32,13 @@ module _ (m : MediumState) (ascend : AllPairs (λ a b. a < b) (map node_of m.sta
       let lasts = ends.lasts in
       subst (λ (o : Option Sending). IsSomeAnd o (λ x. (x.start ≤ 2 ^ 46) × (x.end ≤ 2 ^ 46) × All (λ (st : Station). IsAged x.end st.ended.items) m.stations)) (sym is)
       (omega arith, omega arith, all_aged_later m.now ends.sending.end m.stations (omega arith) aged)
+
+  -- what overlaps it is of the recent places
+  pub among_there : (t : ℕ) (mks : List Mark) (r : Recent) → AreMarks m.stations mks → AreRecent m.now m.stations mks r → Ends m v t → IsSomeAnd there.sending (λ x. AreAmong m.numbers x m.stations r.places)
+  among_there t mks r marks recent ends =
+      let is : there.sending ≡ Some ends.sending = sym (ap sending_of found_there) ∙ ends.runs in
+      subst (λ (o : Option Sending). IsSomeAnd o (λ x. AreAmong m.numbers x m.stations r.places)) (sym is)
+      (among_recent m.numbers m.now m.stations mks r marks recent i d ends.sending below is)
 
   pub hearers_there : (lines : Lines) (result : List (ℕ × ℕ)) → IfSome there.sending (λ x. result ≡ hearers_to m.numbers lines there.node x m.stations)
       → IfSome (sending_of (station_of m v)) (λ x. result ≡ hearers_to m.numbers lines v x m.stations)

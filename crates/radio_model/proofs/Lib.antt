@@ -20,7 +20,11 @@ pub mod PlacedStations
 pub mod Crowds
 pub mod Marked
 pub mod Alike
+pub mod Early
 pub mod Origins
+pub mod RestOfPlaces
+pub mod HeardInTurn
+pub mod RecentPlaces
 pub mod EndedSendings
 pub mod Reaching
 pub mod Ending

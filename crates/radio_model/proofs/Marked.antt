@@ -53,16 +53,19 @@ no_rivals_aside p x st mk is aside =
     both_false false c no_more = refl
 
 -- the oldest are forgotten
-pub mark_dropped : (n : ℕ) (ys : List Sending) (mk : Mark) → IsMark ys mk → IsMark (drop n ys) mk
-mark_dropped n ys mk is = record {
+pub mark_dropped : (n : ℕ) (ys : List Sending) (mk : Mark) → (0 < length ys → n < length ys) → IsMark ys mk → IsMark (drop n ys) mk
+mark_dropped n ys mk some is = record {
   over = All-drop (λ (y : Sending). y.end ≤ mk.end) n ys is.over;
   earlier = λ k d below. subst (λ (y : Sending). y.end ≤ mk.before) (sym (get_or-drop n ys k d)) (is.earlier (n + k) d (omega (arith, length-drop n ys)));
   start = λ k d last. ap (λ (y : Sending). y.start) (get_or-drop n ys k d) ∙ is.start (n + k) d (omega (arith, length-drop n ys));
+  end = λ k d last. ap (λ (y : Sending). y.end) (get_or-drop n ys k d) ∙ is.end (n + k) d (omega (arith, length-drop n ys));
+  rank = λ k d last. ap (λ (y : Sending). y.rank) (get_or-drop n ys k d) ∙ is.rank (n + k) d (omega (arith, length-drop n ys));
+  some = λ sent. let less = some (is.some sent) in omega (arith, length-drop n ys);
 }
 
 -- one more begins
 pub mark_pushed : (now : ℕ) (ys : List Sending) (x : Sending) (origin : Origin) (mk : Mark) → IsAged now ys → now ≤ x.end → IsMark ys mk
-    → IsMark (ys ++ x ∷ []) (next_mark x.start x.end origin mk)
+    → IsMark (ys ++ x ∷ []) (next_mark x.rank x.start x.end origin mk)
 mark_pushed now ys x origin mk aged later is = record {
   over = λ k d below. elim (cases_lt k (length ys)) [
     | inl inside ↦ subst (λ (y : Sending). y.end ≤ x.end) (sym (left k d inside)) (omega (arith, (aged.over k d inside).1))
@@ -70,6 +73,9 @@ mark_pushed now ys x origin mk aged later is = record {
   ];
   earlier = λ k d below. subst (λ (y : Sending). y.end ≤ mk.end) (sym (left k d (omega (arith, long)))) (is.over k d (omega (arith, long)));
   start = λ k d last. ap (λ (y : Sending). y.start) (seam k d (omega (arith, long)));
+  end = λ k d last. ap (λ (y : Sending). y.end) (seam k d (omega (arith, long)));
+  rank = λ k d last. ap (λ (y : Sending). y.rank) (seam k d (omega (arith, long)));
+  some = λ sent. omega (arith, long);
 }
   where
     long : length (ys ++ x ∷ []) ≡ length ys + 1
@@ -82,8 +88,8 @@ mark_pushed now ys x origin mk aged later is = record {
     seam k d here = ap (λ (n : ℕ). get_or (ys ++ x ∷ []) n d) here ∙ get_or-append_seam ys x [] d
 
 -- a station that ends what it sends, or forgets
-pub mark_finished : (st : Station) (mk : Mark) → IsMark (on_air st) mk → IsMark (on_air (finished st)) mk
-mark_finished st mk is = by_sending st.sending refl
+pub mark_finished : (st : Station) (mk : Mark) → st.ended.capacity ≡ 13 → IsMark (on_air st) mk → IsMark (on_air (finished st)) mk
+mark_finished st mk room is = by_sending st.sending refl
   where
     by_sending : (o : Option Sending) → st.sending ≡ o → IsMark (on_air (finished st)) mk
     by_sending None none =
@@ -92,7 +98,7 @@ mark_finished st mk is = by_sending st.sending refl
     by_sending (Some x) some =
         subst (λ (o : Option Sending). IsMark (on_air (finished (record st { sending = o }))) mk) (sym some)
         (subst (λ (l : List Sending). IsMark l mk) (sym (append-nil _))
-        (mark_dropped (length (st.ended.items ++ x ∷ []) - st.ended.capacity) (st.ended.items ++ x ∷ []) mk
+        (mark_dropped (length (st.ended.items ++ x ∷ []) - st.ended.capacity) (st.ended.items ++ x ∷ []) mk (λ some. omega (arith, some, room))
         (subst (λ (o : Option Sending). IsMark (st.ended.items ++ option_to_list o) mk) some is)))
 
 -- one station changes
@@ -126,12 +132,15 @@ pub retuned_on_air : (rank : Option ℕ) (t : ℕ) (st : Station) → on_air (re
 retuned_on_air None t st = refl
 retuned_on_air (Some r) t st = cond_both (is_tuned_to st.tuned r) st (tuned_in r t (tuned_out t st)) (λ (s : Station). on_air s ≡ on_air st) (λ _. refl) (λ _. refl)
 
--- at first nothing was sent, which any mark fits
-none_marked : (mk : Mark) → IsMark [] mk
-none_marked mk = record {
+-- at first nothing was sent, which any mark that ends at 0 fits
+none_marked : (mk : Mark) → mk.end ≤ 0 → IsMark [] mk
+none_marked mk none_yet = record {
   over = λ k d none. absurd (omega arith);
   earlier = λ k d none. absurd (omega arith);
   start = λ k d none. absurd (omega arith);
+  end = λ k d none. absurd (omega arith);
+  rank = λ k d none. absurd (omega arith);
+  some = λ sent. absurd (omega arith);
 }
 
 pub silent_from : (k : ℕ) (vs : List ℕ) (i : ℕ) (d : Station) → i < length (stations_from k vs) → on_air (get_or (stations_from k vs) i d) ≡ []
@@ -139,8 +148,11 @@ silent_from k [] i d below = absurd (omega arith)
 silent_from k (v ∷ vs) zero d below = refl
 silent_from k (v ∷ vs) (suc i) d below = silent_from (k + 1) vs i d (omega arith)
 
-pub marks_first : (vs : List ℕ) (mks : List Mark) → length mks ≡ length vs → AreMarks (stations_from 0 vs) mks
-marks_first vs mks same = record {
-  one_each = same ∙ sym (ap length (nodes_from 0 vs)) ∙ length-map (stations_from 0 vs) node_of;
-  each = λ k d e below. subst (λ (l : List Sending). IsMark l (get_or mks k e)) (sym (silent_from 0 vs k d below)) (none_marked (get_or mks k e));
+pub marks_first : (vs : List ℕ) (mks : List Mark) → length mks ≡ length vs → ((k : ℕ) (e : Mark) → k < length vs → (get_or mks k e).end ≤ 0) → AreMarks (stations_from 0 vs) mks
+marks_first vs mks same none = record {
+  one_each = same ∙ sym long;
+  each = λ k d e below. subst (λ (l : List Sending). IsMark l (get_or mks k e)) (sym (silent_from 0 vs k d below)) (none_marked (get_or mks k e) (none k e (omega (arith, below, long))));
 }
+  where
+    long : length (stations_from 0 vs) ≡ length vs
+    long = sym (length-map (stations_from 0 vs) node_of) ∙ ap length (nodes_from 0 vs)

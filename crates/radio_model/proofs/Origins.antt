@@ -1,5 +1,5 @@
 -- The newest sendings keep their origins: through a change of a station, and where another sending begins.
-use Rattle.std.proofs.Common.{◌≡◌, ◌≢◌, ℕ, ◌+◌, ◌-◌, ◌<◌, ◌≤◌, ◌⊎◌, List, [], ◌∷◌, ◌++◌, length, drop, set, get_or, Bool, true, false, ◌&&◌, nat_lt, if◌then◌else◌, Option, Some, None, option_to_list, refl, sym, ◌∙◌, ap, subst, arith, inl, inr, is_some, is_none, length-append, append-nil}
+use Rattle.std.proofs.Common.{◌≡◌, ◌≢◌, ℕ, ◌+◌, ◌-◌, ◌<◌, ◌≤◌, ◌⊎◌, List, [], ◌∷◌, ◌++◌, length, drop, set, get_or, true, ◌&&◌, nat_lt, Option, Some, None, option_to_list, refl, sym, ◌∙◌, ap, subst, arith, inl, inr, is_some, is_none, length-append, append-nil}
 use Rattle.std.proofs.lemmas.Bool.{cases_eq, and_parts, ltb-true, false≢true}
 use Rattle.std.proofs.lemmas.List.{get_or-drop, length-drop, length-set, get_or-set_same, get_or-set_other}
 use Rattle.std.proofs.lemmas.Slice.Eq.{bytes_eq-Decides}
@@ -7,9 +7,9 @@ use Rattle.std.proofs.Math.Seq.{get_or-append_seam}
 use Rattle.std.specs.Str.{bytes_eq}
 use Rattle.lwb_base.specs.Profile.{Numbers, airtime}
 use Rattle.radio_model.specs.Hearing.{Meets}
-use Rattle.radio_model.specs.Stations.{on_air, started, finished, stations_from, first_sending, next_sending}
+use Rattle.radio_model.specs.Stations.{on_air, begins_on, started, finished, stations_from, first_sending, next_sending}
 use Rattle.radio_model.specs.Ages.{IsAged}
-use Rattle.radio_model.specs.Marks.{IsMark, AreMarks, IsNewest, Stands, HasSent, AreAlike, AreAlikeTo, Joins, IsOrigin, next_mark, no_mark, sends_packet}
+use Rattle.radio_model.specs.Marks.{IsMark, AreMarks, IsNewest, Stands, HasSent, AreAlike, AreAlikeTo, Joins, IsOrigin, next_mark, next_marks, no_mark, sends_packet}
 use Rattle.radio_model.specs.declared.mark.Mark.{Mark}
 use Rattle.radio_model.specs.declared.mark.Origin.{Origin}
 use Rattle.radio_model.specs.declared.sending.Sending.{Sending}
@@ -134,7 +134,7 @@ module _ (now t end : ℕ) (sts : List Station) (mks : List Mark) (i : ℕ) (old
     (silent : on_air old ≡ old.ended.items) (sends : on_air new ≡ old.ended.items ++ x ∷ []) (x_node : x.node ≡ old.node) (x_start : x.start ≡ t)
     (aged : IsAged now old.ended.items) (later : now ≤ t) (one_each : length mks ≡ length sts) (from : IsOrigin sts mks i t x.packet origin) (is : AreAlike now sts mks) where
   abbrev mk : Mark
-  mk = next_mark t end origin (get_or mks i no_mark)
+  mk = next_mark x.rank t end origin (get_or mks i no_mark)
 
   x_newest : IsNewest (on_air new) x
   x_newest = subst (λ (l : List Sending). IsNewest l x) (sym sends) (pushed_is_newest old.ended.items x)
@@ -240,23 +240,31 @@ module _ (now t end : ℕ) (sts : List Station) (mks : List Mark) (i : ℕ) (old
     ];
   }
 
-can_start : (o : Option Tuned) (s : Option Sending) → true ≡ (is_some o && is_none s) → (u : Tuned) × (o ≡ Some u) × (s ≡ None)
-can_start (Some u) None is = (u, refl, refl)
-can_start (Some u) (Some x) is = absurd (false≢true (sym is))
-can_start None s is = absurd (false≢true (sym is))
+pub can_start : (o : Option Tuned) (s : Option Sending) (r : ℕ) → Some r ≡ begins_on o s → (u : Tuned) × (o ≡ Some u) × (s ≡ None) × (u.rank ≡ r)
+can_start (Some u) None r is = (u, refl, refl, some_is u.rank r (sym is))
+  where
+    some_is : (a b : ℕ) → (let q : Option ℕ = Some a in q ≡ Some b) → a ≡ b
+    some_is a b is = cc
+can_start (Some u) (Some x) r is = absurd (false≢true (sym (ap is_some is)))
+can_start None s r is = absurd (false≢true (sym (ap is_some is)))
 
-can't_start : (o : Option Tuned) (s : Option Sending) (p : Numbers) (t : ℕ) (packet : List ℕ) (v : ℕ) → false ≡ (is_some o && is_none s) → first_sending s (next_sending p t packet v o) ≡ s
-can't_start (Some u) None p t packet v is = absurd (false≢true is)
+pub can't_start : (o : Option Tuned) (s : Option Sending) (p : Numbers) (t : ℕ) (packet : List ℕ) (v : ℕ) → None ≡ begins_on o s → first_sending s (next_sending p t packet v o) ≡ s
+can't_start (Some u) None p t packet v is = absurd (false≢true (ap is_some is))
 can't_start (Some u) (Some x) p t packet v is = refl
 can't_start None None p t packet v is = refl
 can't_start None (Some x) p t packet v is = refl
+
+pub begins_if : (o : Option Tuned) (s : Option Sending) → is_some (begins_on o s) ≡ (is_some o && is_none s)
+begins_if None s = refl
+begins_if (Some o) None = refl
+begins_if (Some o) (Some x) = refl
 
 -- a station starts to send, or can't
 module _ (p : Numbers) (now t end : ℕ) (packet : List ℕ) (sts : List Station) (mks : List Mark) (i : ℕ) (old new : Station) (origin : Origin) (below : i < length sts) (at : old ≡ get_or sts i old)
     (is_started : new ≡ started p t packet old) (end_is : end ≡ t + airtime p (length packet)) (aged : IsAged now old.ended.items) (later : now ≤ t)
     (are : AreMarks sts mks) (alike : AreAlike now sts mks) (from : IsOrigin sts mks i t packet origin) where
-  abbrev raised : Bool → List Mark
-  raised b = if b then set mks i (next_mark t end origin (get_or mks i no_mark)) else mks
+  abbrev raised : Option ℕ → List Mark
+  raised o = next_marks o t end origin i mks no_mark
 
   node : new.node ≡ old.node
   node = ap (λ (s : Station). s.node) is_started
@@ -267,23 +275,24 @@ module _ (p : Numbers) (now t end : ℕ) (packet : List ℕ) (sts : List Station
   on_air_is : on_air new ≡ old.ended.items ++ option_to_list (first_sending old.sending (next_sending p t packet old.node old.tuned))
   on_air_is = ap on_air is_started
 
-  pub after_start : (b : Bool) → b ≡ (is_some old.tuned && is_none old.sending) → AreMarks (set sts i new) (raised b) × AreAlike t (set sts i new) (raised b)
-  after_start true is =
-      let can = can_start old.tuned old.sending is in
+  pub after_start : (o : Option ℕ) → o ≡ begins_on old.tuned old.sending → AreMarks (set sts i new) (raised o) × AreAlike t (set sts i new) (raised o)
+  after_start (Some rank) is =
+      let can = can_start old.tuned old.sending rank is in
       let u = can.0 in
-      let x : Sending = record { rank = u.rank; node = old.node; start = t; end = t + airtime p (length packet); packet = packet } in
+      let x : Sending = record { rank = rank; node = old.node; start = t; end = t + airtime p (length packet); packet = packet } in
       let silent : on_air old ≡ old.ended.items = ap (λ (o : Option Sending). old.ended.items ++ option_to_list o) can.2 ∙ append-nil old.ended.items in
       let sends : on_air new ≡ old.ended.items ++ x ∷ [] =
       on_air_is ∙ ap (λ (o : Option Tuned). old.ended.items ++ option_to_list (first_sending old.sending (next_sending p t packet old.node o))) can.1
-      ∙ ap (λ (o : Option Sending). old.ended.items ++ option_to_list (first_sending o (Some x))) can.2 in
-      let marked : IsMark (on_air new) (next_mark t end origin (get_or mks i no_mark)) =
-      subst (λ (n : ℕ). IsMark (on_air new) (next_mark t n origin (get_or mks i no_mark))) (sym end_is)
-      (subst (λ (l : List Sending). IsMark l (next_mark t (t + airtime p (length packet)) origin (get_or mks i no_mark))) (sym sends)
+      ∙ ap (λ (o : Option Sending). old.ended.items ++ option_to_list (first_sending o (next_sending p t packet old.node (Some u)))) can.2
+      ∙ ap (λ (n : ℕ). let z : Sending = record { rank = n; node = old.node; start = t; end = t + airtime p (length packet); packet = packet } in old.ended.items ++ z ∷ []) can.3 in
+      let marked : IsMark (on_air new) (next_mark rank t end origin (get_or mks i no_mark)) =
+      subst (λ (n : ℕ). IsMark (on_air new) (next_mark rank t n origin (get_or mks i no_mark))) (sym end_is)
+      (subst (λ (l : List Sending). IsMark l (next_mark rank t (t + airtime p (length packet)) origin (get_or mks i no_mark))) (sym sends)
       (mark_pushed now old.ended.items x origin (get_or mks i no_mark) aged (omega (arith, later)) (subst (λ (l : List Sending). IsMark l (get_or mks i no_mark)) silent (was_marked no_mark)))) in (
-        marks_changed sts mks i new (next_mark t end origin (get_or mks i no_mark)) are marked,
+        marks_changed sts mks i new (next_mark rank t end origin (get_or mks i no_mark)) are marked,
         alike_started now t end sts mks i old new x origin below at node silent sends refl refl aged later are.one_each from alike,
       )
-  after_start false is =
+  after_start None is =
       let same : on_air new ≡ on_air old = on_air_is ∙ ap (λ (o : Option Sending). old.ended.items ++ option_to_list o) (can't_start old.tuned old.sending p t packet old.node is) in (
         marks_stay sts mks i new are (λ e. subst (λ (l : List Sending). IsMark l (get_or mks i e)) (sym same) (was_marked e)),
         alike_kept now t sts mks i old new below at node (λ y newest. subst (λ (l : List Sending). IsNewest l y) same newest) (λ y newest. subst (λ (l : List Sending). IsNewest l y) (sym same) newest) later alike,

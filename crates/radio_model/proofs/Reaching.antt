@@ -30,7 +30,7 @@ heard_by_masks lines nodes u x key rs st reached spoiled mixed placed r s m =
     ∙ ap (λ (b : Bool). hears_by (passes_at lines key u st.node) b (bit_at mixed st.place == 1) lines x key rs st) (bit_tells nodes (λ v. list_any (spoils lines v) rs) spoiled st.place st.node s placed)
     ∙ ap (λ (b : Bool). hears_by (passes_at lines key u st.node) (list_any (spoils lines st.node) rs) b lines x key rs st) (bit_tells nodes (λ v. list_any (differs lines v) rs) mixed st.place st.node m placed)
 
-gone : (b s c d e : Bool) → (b ≡ true → s ≡ true) → (b && not s && c && not d && e) ≡ false
+pub gone : (b s c d e : Bool) → (b ≡ true → s ≡ true) → (b && not s && c && not d && e) ≡ false
 gone false s c d e implies = refl
 gone true true c d e implies = refl
 gone true false c d e implies = absurd (false≢true (implies refl))

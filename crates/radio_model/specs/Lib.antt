@@ -5,4 +5,5 @@ pub mod Ages
 pub mod Pairs
 pub mod Marks
 pub mod Meetings
+pub mod Recent
 pub mod Holding

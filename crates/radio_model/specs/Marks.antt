@@ -1,5 +1,5 @@
 -- What the medium keeps of the sendings of a node in short, and where it finds a node.
-use Rattle.std.specs.Prelude.{◌≡◌, ℕ, ◌+◌, ◌<◌, ◌≤◌, ◌⊎◌, All, List, Bool, false, ◌&&◌, ◌||◌, ◌==◌, nat_lt, nat_le, Option, Some, None, length, slice_index, slice_index_or}
+use Rattle.std.specs.Prelude.{◌≡◌, ℕ, ◌+◌, ◌<◌, ◌≤◌, ◌⊎◌, All, List, Bool, false, ◌&&◌, ◌||◌, ◌==◌, nat_lt, nat_le, Option, Some, None, length, slice_index, slice_index_or, slice_set}
 use Rattle.std.specs.Str.{bytes_eq}
 use Rattle.radio_model.specs.Stations.{on_air}
 use Rattle.radio_model.specs.declared.sending.Sending.{Sending}
@@ -9,11 +9,16 @@ use Rattle.radio_model.specs.declared.mark.Mark.{Mark}
 use Rattle.radio_model.specs.declared.mark.Origin.{Origin}
 
 abbrev pub no_mark : Mark
-no_mark = record { start = 0; end = 0; before = 0; origin = record { place = 0; start = 0 } }
+no_mark = record { rank = 1; start = 0; end = 0; before = 0; origin = record { place = 0; start = 0 } }
 
 -- the mark when another sending begins
-abbrev pub next_mark : ℕ → ℕ → Origin → Mark → Mark
-next_mark start end origin mk = record { start = start; end = end; before = mk.end; origin = origin }
+abbrev pub next_mark : ℕ → ℕ → ℕ → Origin → Mark → Mark
+next_mark rank start end origin mk = record { rank = rank; start = start; end = end; before = mk.end; origin = origin }
+
+-- the marks when another sending may begin at that place, on that channel
+abbrev pub next_marks : Option ℕ → ℕ → ℕ → Origin → ℕ → List Mark → Mark → List Mark
+next_marks None start end origin i mks d = mks
+next_marks (Some rank) start end origin i mks d = slice_set mks i (next_mark rank start end origin (slice_index_or mks i d))
 
 -- by the mark, none overlaps a sending with these times
 abbrev pub is_aside : ℕ → ℕ → Mark → Bool
@@ -28,11 +33,21 @@ comes_along delta x origin node mk =
     nat_le mk.before x.start && is_same mk.origin origin
     && ((nat_lt x.start mk.start || ((x.start == mk.start) && nat_le x.node node)) && nat_le mk.start (x.start + delta))
 
+-- by the mark, only the newest can overlap x, and it has the channel and the packet of x, and comes before x, though not
+-- before this tick
+abbrev pub comes_early : ℕ → Sending → Origin → ℕ → Mark → Bool
+comes_early opens x origin node mk =
+    nat_le mk.before x.start && is_same mk.origin origin && (mk.rank == x.rank)
+    && (nat_le opens mk.start && (nat_lt mk.start x.start || ((mk.start == x.start) && nat_lt node x.node)))
+
 -- the mark of these sendings, the oldest first
 pub record IsMark (ys : List Sending) (mk : Mark) : Type 0 where
   pub over : All (λ y. y.end ≤ mk.end) ys
   pub earlier : (k : ℕ) (d : Sending) → k + 1 < length ys → (slice_index_or ys k d).end ≤ mk.before
   pub start : (k : ℕ) (d : Sending) → k + 1 ≡ length ys → (slice_index_or ys k d).start ≡ mk.start
+  pub end : (k : ℕ) (d : Sending) → k + 1 ≡ length ys → (slice_index_or ys k d).end ≡ mk.end
+  pub rank : (k : ℕ) (d : Sending) → k + 1 ≡ length ys → (slice_index_or ys k d).rank ≡ mk.rank
+  pub some : 0 < mk.end → 0 < length ys
 
 -- the newest of these, the oldest first
 pub record IsNewest (ys : List Sending) (y : Sending) : Type 0 where

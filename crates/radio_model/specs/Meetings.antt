@@ -1,5 +1,5 @@
 -- What decides whether a sending is heard, as the medium works it out from what it keeps.
-use Rattle.std.specs.Prelude.{◌≡◌, ℕ, ◌+◌, ◌/◌, ◌<◌, List, Bool, false, not, ◌&&◌, ◌||◌, ◌==◌, nat_lt, nat_le, if◌then◌else◌, Option, Some, None, filter_map, length, slice_index}
+use Rattle.std.specs.Prelude.{◌≡◌, ℕ, ◌+◌, ◌/◌, ◌<◌, ◌≤◌, List, Bool, false, not, ◌&&◌, ◌||◌, ◌==◌, nat_lt, nat_le, if◌then◌else◌, Option, Some, None, filter_map, length, slice_index}
 use Rattle.std.specs.List.{list_any, flat_map}
 use Rattle.std.specs.Str.{bytes_eq}
 use Rattle.std.specs.Int.RustNames.{bit_or}
@@ -17,6 +17,10 @@ use Rattle.radio_model.specs.declared.rivals.Rival.{Rival}
 
 abbrev pub key_of : Numbers → Sending → Key
 key_of p y = record { frame = y.start / p.frame; slot = slice_index y.packet 1; counter = slice_index y.packet 2 }
+
+-- from this tick until t the frame is the same
+abbrev pub IsFrameStart : ℕ → ℕ → ℕ → Type 0
+IsFrameStart frame t opens = (k : ℕ) → opens ≤ k → k ≤ t → k / frame ≡ t / frame
 
 -- by start and then sender, x is y or comes before it, and y starts within the greatest displacement
 abbrev pub comes_in_time : Numbers → Sending → Sending → Bool

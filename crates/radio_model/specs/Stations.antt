@@ -106,6 +106,12 @@ abbrev pub next_sending : Numbers → ℕ → List ℕ → ℕ → Option Tuned 
 next_sending p t packet node None = None
 next_sending p t packet node (Some o) = Some (record { rank = o.rank; node = node; start = t; end = t + airtime p (length packet); packet = packet })
 
+-- the channel on which it begins to send. None where it is not tuned or already sends
+abbrev pub begins_on : Option Tuned → Option Sending → Option ℕ
+begins_on None s = None
+begins_on (Some o) None = Some o.rank
+begins_on (Some o) (Some x) = None
+
 -- what is sent goes on
 abbrev pub first_sending : Option Sending → Option Sending → Option Sending
 first_sending None next = next

@@ -1,15 +1,18 @@
-ghost use Rattle.std.specs.Prelude.{◌≡◌, ◌≤◌, ◌<◌, ◌^◌, ℕ, length, All, IfSome, IfNone, slice_index, true};
+ghost use Rattle.std.specs.Prelude.{◌≡◌, ◌≤◌, ◌<◌, ◌^◌, ℕ, length, All, IfSome, IfNone, slice_index, slice_index_or, true};
 ghost use Rattle.std.specs.List.{list_any};
 ghost use Rattle.std.specs.Int.{bit_at};
 ghost use Rattle.link_trace.specs.Passes.{captured};
 ghost use Rattle.radio_model.specs.Stations.{on_air};
 ghost use Rattle.radio_model.specs.Ages.{IsAged, ByEnd};
 ghost use Rattle.radio_model.specs.Marks.{IsMark, AreMarks, IsAlike, AreAlikeTo};
-ghost use Rattle.radio_model.specs.Meetings.{rivals_in, rivals_to, spoils, comes_from, is_chosen as chosen_by, IsPlaced, IsCrowd, no_crowd, both_crowds};
+ghost use Rattle.radio_model.specs.Recent.{AreAmong};
+ghost use Rattle.radio_model.specs.declared.station.Station.{Station};
+ghost use Rattle.radio_model.specs.Meetings.{key_of, IsFrameStart, rivals_in, rivals_to, spoils, comes_from, is_chosen as chosen_by, IsPlaced, IsCrowd, no_crowd, both_crowds};
 
+use crate::bits::{has_bit, lowest, without_bit};
 use crate::brought::brought_from;
 use crate::mark::{Mark, Origin};
-use crate::rivals::{Key, has_bit};
+use crate::rivals::{Key, frame_start, reach_of};
 use crate::sending::Sending;
 use crate::station::Station;
 use link_trace::Links;
@@ -43,7 +46,8 @@ impl Crowd {
     }
 }
 
-// What this station brings that keeps x from being heard. Mostly its mark tells that there is nothing.
+// What this station brings that keeps x from being heard, whose key is this one and whose frame began at `opens`. Mostly
+// its mark tells that there is nothing, or that its packet is the one of x and comes before it.
 fn crowd_at<M: Links>(
     links: &M,
     profile: &Profile,
@@ -52,7 +56,11 @@ fn crowd_at<M: Links>(
     mark: Mark,
     x: &Sending,
     origin: Origin,
+    key: Key,
+    opens: u64,
 ) -> Crowd
+    requires key { key ≡ key_of profile.now x.now }
+    requires opens { IsFrameStart profile.now.frame x.now.start opens }
     requires delta { (delta ≡ profile.now.delta) × (delta ≤ 2 ^ 32) }
     requires start { x.now.start ≤ 2 ^ 46 }
     requires end { x.now.end ≤ 2 ^ 46 }
@@ -65,6 +73,12 @@ fn crowd_at<M: Links>(
     if mark.is_aside(x.start, x.end) || mark.comes_along(x, station.node, origin, delta) {
         return Crowd::none();
     }
+    if mark.comes_early(x, station.node, origin, opens) {
+        return Crowd {
+            mixed: 0,
+            spoiled: reach_of(links, key, station.place),
+        };
+    }
     let brought = brought_from(links, profile, station, x);
     Crowd {
         mixed: brought.mixed,
@@ -72,32 +86,46 @@ fn crowd_at<M: Links>(
     }
 }
 
-/// What comes to the nodes while x does, which reaches the nodes of that mask and whose packet has that origin. None
-/// comes only where its packet comes out of time to each of these, so that nobody hears x.
+/// What comes to the nodes while x does, which has that key, whose packet has that origin, whose rivals are at those
+/// places, and which reaches the nodes of the mask. None comes only where its packet comes out of time to each of these,
+/// so that nobody hears x.
 pub fn crowd_of<M: Links>(
     links: &M,
     profile: &Profile,
     delta: u64,
     stations: &[Station],
     marks: &[Mark],
+    places: u64,
     x: &Sending,
+    key: Key,
     origin: Origin,
     reached: u64,
 ) -> Option<Crowd>
+    requires key { key ≡ key_of profile.now x.now }
     requires delta { (delta ≡ profile.now.delta) × (delta ≤ 2 ^ 32) }
     requires start { x.now.start ≤ 2 ^ 46 }
     requires end { x.now.end ≤ 2 ^ 46 }
     requires aged { All (λ st. IsAged x.now.end st.ended.items) stations.now }
     requires places { All (λ st. IsPlaced (M.nodes links.now) st.place st.node) stations.now }
     requires marks { AreMarks stations.now marks.now }
+    requires in_order { (k : ℕ) (d : Station) → k < length stations.now → (slice_index_or stations.now k d).place ≡ k }
     requires alike { AreAlikeTo stations.now marks.now origin x.now }
+    requires among { AreAmong profile.now x.now stations.now places }
     ensures some { IfSome result (IsCrowd (M.lines links.now) (M.nodes links.now) (rivals_to profile.now x.now stations.now)) }
     ensures none { IfNone result ((i : ℕ) → i < length (M.nodes links.now) → bit_at reached i ≡ 1
         → list_any (spoils (M.lines links.now) (slice_index (M.nodes links.now) i)) (rivals_to profile.now x.now stations.now) ≡ true) }
 {
+    let opens = frame_start(profile, x.start);
     let mut crowd = Crowd::none();
-    for (i, station) in stations.iter().enumerate() {
-        let other = crowd_at(links, profile, delta, station, marks[i], x, origin);
+    let mut rest = places;
+    while rest != 0 {
+        let place = lowest(rest);
+        rest = without_bit(rest, place);
+        let i = usize::from(place);
+        let station = &stations[i];
+        let other = crowd_at(
+            links, profile, delta, station, marks[i], x, origin, key, opens,
+        );
         crowd = crowd.with(other);
         if crowd.spoiled & reached == reached {
             return None;

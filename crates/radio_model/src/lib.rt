@@ -1,6 +1,7 @@
 //! Who hears what on the air: the medium that all nodes share.
 #![tactic(auto)]
 
+mod bits;
 mod brought;
 mod crowd;
 mod hearers;
@@ -8,6 +9,7 @@ pub mod laws;
 mod listeners;
 mod mark;
 mod medium;
+mod recent;
 mod rivals;
 pub mod sending;
 pub mod station;

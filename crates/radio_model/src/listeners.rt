@@ -1,28 +1,32 @@
-ghost use Rattle.std.specs.Prelude.{◌≡◌, ◌≤◌, ◌<◌, ◌^◌, All, length, map, ◌++◌, ◌==◌, not, ℕ, slice_index_or, option_to_list};
+ghost use Rattle.std.specs.Prelude.{◌≡◌, ◌≤◌, ◌<◌, ◌^◌, All, length, map, ◌++◌, ◌==◌, not, ℕ, true, false, slice_index_or, option_to_list};
 ghost use Rattle.std.specs.List.{list_any};
 ghost use Rattle.radio_model.specs.Stations.{node_of, on_air, overlaps};
 ghost use Rattle.radio_model.specs.Ages.{IsAged};
 ghost use Rattle.radio_model.specs.Marks.{IsMark, AreMarks, AreAlikeTo};
+ghost use Rattle.radio_model.specs.Recent.{AreAmong};
 ghost use Rattle.std.specs.Int.{bit_at};
 ghost use Rattle.radio_model.specs.declared.station.Station.{Station};
 ghost use Rattle.radio_model.specs.Meetings.{hears_by, hearers_to, IsPlaced, rivals_to};
 
-use crate::crowd::{Crowd, crowd_of, is_chosen};
+use crate::bits::{has_bit, lowest, without_bit, without_bits};
+use crate::crowd::{crowd_of, is_chosen};
 use crate::hearers::Hearers;
 use crate::mark::{Mark, Origin};
-use crate::rivals::{Key, has_bit, reach_of};
+use crate::rivals::{Key, reach_of};
 use crate::sending::Sending;
 use crate::station::Station;
 use link_trace::Links;
 use lwb_base::Profile;
 
-/// Who hears x, the sending of the station `from`, now that it ends. Its packet has that origin.
+/// Who hears x, the sending of the station `from`, now that it ends. Its rivals are at those places, and its packet has
+/// that origin.
 pub fn listeners<M: Links>(
     links: &M,
     profile: &Profile,
     delta: u64,
     stations: &[Station],
     marks: &[Mark],
+    places: u64,
     from: &Station,
     x: &Sending,
     origin: Origin,
@@ -37,18 +41,34 @@ pub fn listeners<M: Links>(
     requires in_order { (k : ℕ) (d : Station) → k < length stations.now → (slice_index_or stations.now k d).place ≡ k }
     requires marks { AreMarks stations.now marks.now }
     requires alike { AreAlikeTo stations.now marks.now origin x.now }
+    requires among { AreAmong profile.now x.now stations.now places }
     requires from { IsPlaced (M.nodes links.now) from.now.place from.now.node }
     ensures { result ≡ hearers_to profile.now (M.lines links.now) from.now.node x.now stations.now }
 {
     let key = Key::of(profile, x);
     let reached = reach_of(links, key, from.place);
-    let Some(crowd) = crowd_of(links, profile, delta, stations, marks, x, origin, reached) else {
+    let Some(crowd) = crowd_of(
+        links, profile, delta, stations, marks, places, x, key, origin, reached,
+    ) else {
         return Hearers::none();
     };
     let mut hearers = Hearers::none();
-    for (i, at) in stations.iter().enumerate() {
+    let mut rest = without_bits(reached, crowd.spoiled);
+    while rest != 0 {
+        let place = lowest(rest);
+        rest = without_bit(rest, place);
+        let i = usize::from(place);
+        let at = &stations[i];
         if hears(
-            links, profile, stations, at, i as u8, marks[i], x, key, reached, crowd,
+            links,
+            profile,
+            stations,
+            at,
+            place,
+            marks[i],
+            x,
+            key,
+            crowd.mixed,
         ) {
             hearers.push(at.node, from.node);
         }
@@ -56,7 +76,7 @@ pub fn listeners<M: Links>(
     hearers
 }
 
-// Whether the node at `at` hears x, which reaches the nodes of the mask in that crowd and ends now.
+// Whether the node at `at` hears x, which reaches it, which no copy spoils there, and which ends now.
 fn hears<M: Links>(
     links: &M,
     profile: &Profile,
@@ -66,8 +86,7 @@ fn hears<M: Links>(
     mark: Mark,
     x: &Sending,
     key: Key,
-    reached: u64,
-    crowd: Crowd,
+    mixed: u64,
 ) -> bool
     requires start { x.now.start ≤ 2 ^ 46 }
     requires end { x.now.end ≤ 2 ^ 46 }
@@ -78,14 +97,12 @@ fn hears<M: Links>(
     requires place { place ≡ at.now.place }
     requires own { IsAged x.now.end at.now.ended.items }
     requires mark { IsMark (on_air at.now) mark }
-    ensures { result ≡ hears_by (bit_at reached at.now.place == 1) (bit_at crowd.spoiled at.now.place == 1) (bit_at crowd.mixed at.now.place == 1)
+    ensures { result ≡ hears_by true false (bit_at mixed at.now.place == 1)
         (M.lines links.now) x.now key (rivals_to profile.now x.now stations.now) at.now }
 {
-    has_bit(reached, place)
-        && !has_bit(crowd.spoiled, place)
-        && at.was_tuned(x.rank, x.start, x.end)
+    at.was_tuned(x.rank, x.start, x.end)
         && was_quiet(at, mark, x)
-        && (!has_bit(crowd.mixed, place) || is_chosen(links, profile, stations, at, x, key))
+        && (!has_bit(mixed, place) || is_chosen(links, profile, stations, at, x, key))
 }
 
 // Whether no sending of the node at `at` overlaps x, which ends now. Mostly its mark tells.

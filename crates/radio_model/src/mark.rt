@@ -1,9 +1,11 @@
-ghost use Rattle.std.specs.Prelude.{◌≡◌, ◌≤◌, ◌<◌, ◌^◌, if◌then◌else◌, length, slice_index_or, slice_set};
-ghost use Rattle.radio_model.specs.Marks.{no_mark, next_mark, is_aside, is_same, comes_along, sends_packet as packet_sent, IsOrigin};
+ghost use Rattle.std.specs.Int.{bit_at};
+ghost use Rattle.std.specs.Prelude.{ℕ, ◌≡◌, ◌≤◌, ◌<◌, ◌^◌, if◌then◌else◌, length, slice_index_or, slice_set};
+ghost use Rattle.radio_model.specs.Marks.{no_mark, next_mark, next_marks, comes_early, is_aside, is_same, comes_along, sends_packet as packet_sent, IsOrigin};
 
+use crate::bits::{lowest, without_bit};
 use crate::sending::Sending;
 use crate::station::Station;
-use lwb_base::{NodeId, Packet};
+use lwb_base::{NodeId, Packet, Rank};
 
 /// Where a packet on the air comes from: the first that began of those that have it and ran on, one into the next, by
 /// the place of its node and its start. So sendings that overlap and have one origin have one packet.
@@ -21,10 +23,12 @@ impl Origin {
     }
 }
 
-/// The sendings of one node in short, so that most need no look at them: when the newest begins and ends, which runs or
-/// ended last, when those before it were over, and the origin of its packet. All are 0 where there was none.
+/// The sendings of one node in short, so that most need no look at them: the channel of the newest, which runs or ended
+/// last, when it begins and ends, when those before it were over, and the origin of its packet. All numbers are 0
+/// where there was none.
 #[derive(Clone, Copy)]
 pub struct Mark {
+    pub rank: Rank,
     pub start: u64,
     pub end: u64,
     pub before: u64,
@@ -37,6 +41,7 @@ impl Mark {
         ensures { result ≡ no_mark }
     {
         Mark {
+            rank: Rank::new(1).unwrap(),
             start: 0,
             end: 0,
             before: 0,
@@ -45,10 +50,11 @@ impl Mark {
     }
 
     /// Another sending begins.
-    pub(crate) fn next(self, start: u64, end: u64, origin: Origin) -> Mark
-        ensures { result ≡ next_mark start end origin self }
+    pub(crate) fn next(self, rank: Rank, start: u64, end: u64, origin: Origin) -> Mark
+        ensures { result ≡ next_mark rank start end origin self }
     {
         Mark {
+            rank,
             start,
             end,
             before: self.end,
@@ -58,18 +64,18 @@ impl Mark {
 
     /// Whether the mark shows that no sending of the node overlaps one with these times: all were over at its start, or
     /// the newest begins behind it and the others were over.
-    pub(crate) fn is_aside(self, start: u64, end: u64) -> bool
-        ensures { result ≡ is_aside start end self }
+    pub(crate) fn is_aside(&self, start: u64, end: u64) -> bool
+        ensures { result ≡ is_aside start end self.now }
     {
         self.end <= start || self.before <= start && end <= self.start
     }
 
     /// Whether the mark shows that what this node sends beside x, whose packet has that origin, is the packet of x, and
     /// that x comes first and in time, so that it is heard as one with it.
-    pub(crate) fn comes_along(self, x: &Sending, node: NodeId, origin: Origin, delta: u64) -> bool
+    pub(crate) fn comes_along(&self, x: &Sending, node: NodeId, origin: Origin, delta: u64) -> bool
         requires start { x.now.start ≤ 2 ^ 46 }
         requires delta { delta ≤ 2 ^ 32 }
-        ensures { result ≡ comes_along delta x.now origin node self }
+        ensures { result ≡ comes_along delta x.now origin node self.now }
     {
         let comes_first = x.start < self.start || x.start == self.start && x.node <= node;
         self.before <= x.start
@@ -77,40 +83,58 @@ impl Mark {
             && comes_first
             && self.start <= x.start + delta
     }
+
+    /// Whether the mark shows that what this node sends beside x, whose packet has that origin, is the packet of x on its
+    /// channel, and that it comes before x, though not before the tick `opens`.
+    pub(crate) fn comes_early(&self, x: &Sending, node: NodeId, origin: Origin, opens: u64) -> bool
+        ensures { result ≡ comes_early opens x.now origin node self.now }
+    {
+        let comes_first = self.start < x.start || self.start == x.start && node < x.node;
+        self.before <= x.start
+            && self.origin.is_same(origin)
+            && self.rank == x.rank
+            && (opens <= self.start && comes_first)
+    }
 }
 
-/// The mark at that place, where another sending may start.
+/// The mark at that place, where another sending may begin on the channel of a rank.
 pub(crate) fn raise(
     marks: &mut Vec<Mark>,
     place: usize,
-    starts: bool,
+    rank: Option<Rank>,
     start: u64,
     end: u64,
     origin: Origin,
 )
     requires { place < length marks.old.items }
-    ensures { (d : Mark) → marks.new.items ≡ (if starts
-        then slice_set marks.old.items place (next_mark start end origin (slice_index_or marks.old.items place d)) else marks.old.items) }
+    ensures { (d : Mark) → marks.new.items ≡ next_marks rank start end origin place marks.old.items d }
 {
-    if starts {
-        marks[place] = marks[place].next(start, end, origin);
+    if let Some(rank) = rank {
+        marks[place] = marks[place].next(rank, start, end, origin);
     }
 }
 
-/// The origin of a packet whose sending begins at t at that place: that of the same packet on the air, or else its own.
+/// The origin of a packet whose sending begins at t at that place: that of the same packet on the air, from one of the
+/// places of the mask, or else its own.
 pub(crate) fn origin_of(
     stations: &[Station],
     marks: &[Mark],
+    places: u64,
     place: usize,
     t: u64,
     packet: &Packet,
 ) -> Origin
     requires place { place < 64 }
     requires one_each { length marks.now ≡ length stations.now }
+    requires within { (k : ℕ) → bit_at places k ≡ 1 → k < length stations.now }
     ensures { IsOrigin stations.now marks.now place t packet.now result }
 {
-    for (i, station) in stations.iter().enumerate() {
-        if t < marks[i].end && sends_packet(station, t, packet) {
+    let mut rest = places;
+    while rest != 0 {
+        let next = lowest(rest);
+        rest = without_bit(rest, next);
+        let i = usize::from(next);
+        if t < marks[i].end && sends_packet(&stations[i], t, packet) {
             return marks[i].origin;
         }
     }

@@ -9,12 +9,14 @@ ghost use Rattle.radio_model.specs.Stations.{MediumState, node_of, nodes_of, sta
 ghost use Rattle.radio_model.specs.Ages.{IsAged};
 ghost use Rattle.radio_model.specs.Meetings.{hearers_to, IsPlaced};
 ghost use Rattle.radio_model.specs.Marks.{AreAlike, AreMarks, ArePlaces};
+ghost use Rattle.radio_model.specs.Recent.{AreAmong};
 ghost use Rattle.radio_model.specs.declared.sending.Sending.{Sending};
 ghost use Rattle.radio_model.specs.declared.station.Station.{Station};
 
 use crate::hearers::Hearers;
 use crate::listeners::listeners;
 use crate::mark::{Mark, origin_of, raise};
+use crate::recent::Recent;
 use crate::station::Station;
 use link_trace::Links;
 use lwb_base::{Memory, NodeId, Packet, Profile, Rank};
@@ -36,12 +38,15 @@ pub struct Medium {
     places: Vec<u8>,
     // By places, the sendings of the nodes in short.
     marks: Vec<Mark>,
+    // Whose sendings can matter to one that still runs.
+    recent: Recent,
 }
 
 impl Model for Medium {
     ghost use Rattle.std.specs.Prelude.{◌≡◌, ◌≤◌, ◌^◌, All};
     ghost use Rattle.radio_model.specs.Stations.{MediumState, IsMedium, nodes_of};
     ghost use Rattle.radio_model.specs.Marks.{AreAlike, AreMarks, ArePlaces};
+    ghost use Rattle.radio_model.specs.Recent.{AreRecent};
     ghost use Rattle.radio_model.specs.Ages.{IsAged};
 
     ghost Value = { MediumState };
@@ -53,7 +58,8 @@ impl Model for Medium {
         × AreMarks m.stations.items m.marks.items
         × AreAlike m.time m.stations.items m.marks.items
         × ((m.delta ≡ m.profile.delta) × (m.delta ≤ 2 ^ 32))
-        × All (λ st. IsAged m.time st.ended.items) m.stations.items };
+        × All (λ st. IsAged m.time st.ended.items) m.stations.items
+        × AreRecent m.time m.stations.items m.marks.items m.recent };
 }
 
 impl Medium {
@@ -75,6 +81,7 @@ impl Medium {
             stations,
             places,
             marks,
+            recent: Recent::none(),
         })
     }
 
@@ -103,10 +110,19 @@ impl Medium {
     {
         let place = place_of(&self.places, node);
         let end = t + self.profile.airtime(packet.length());
-        let origin = origin_of(&self.stations, &self.marks, place, t, packet);
+        let origin = origin_of(
+            &self.stations,
+            &self.marks,
+            self.recent.places,
+            place,
+            t,
+            packet,
+        );
         let station = &mut self.stations[place];
-        let starts = station.start(t, end, packet);
-        raise(&mut self.marks, place, starts, t, end, origin);
+        let rank = station.start(t, end, packet);
+        raise(&mut self.marks, place, rank, t, end, origin);
+        let starts = rank.is_some();
+        self.recent = self.recent.next(starts, place as u8, t, end);
         self.time = t;
         starts
     }
@@ -152,6 +168,7 @@ impl Medium {
             self.delta,
             &self.stations,
             &self.marks,
+            self.recent.places,
             place,
         )
     }
@@ -164,6 +181,7 @@ fn listeners_at<M: Links>(
     delta: u64,
     stations: &[Station],
     marks: &[Mark],
+    places: u64,
     place: usize,
 ) -> Hearers
     requires place { place < length stations.now }
@@ -176,13 +194,16 @@ fn listeners_at<M: Links>(
     requires delta { (delta ≡ profile.now.delta) × (delta ≤ 2 ^ 32) }
     requires marks { AreMarks stations.now marks.now }
     requires alike { (now : ℕ) × AreAlike now stations.now marks.now }
+    requires among { (d : Station) → IsSomeAnd (slice_index_or stations.now place d).sending (λ x. AreAmong profile.now x stations.now places) }
     ensures { (d : Station) → IfSome (slice_index_or stations.now place d).sending (λ x. result ≡ hearers_to profile.now (M.lines links.now) (slice_index_or stations.now place d).node x stations.now) }
 {
     let from = &stations[place];
     match &from.sending {
         Some(x) => {
             let origin = marks[place].origin;
-            listeners(links, profile, delta, stations, marks, from, x, origin)
+            listeners(
+                links, profile, delta, stations, marks, places, from, x, origin,
+            )
         }
         None => unreachable!(),
     }

@@ -1,8 +1,7 @@
-ghost use Rattle.std.specs.Prelude.{◌≡◌, ◌≤◌, ◌/◌, ◌<◌, ◌^◌, length, All, slice_index, slice_index_or, take, ◌==◌};
-ghost use Rattle.std.specs.Int.{bit_at};
+ghost use Rattle.std.specs.Prelude.{◌≡◌, ◌≤◌, ◌/◌, ◌<◌, ◌^◌, length, All, slice_index, slice_index_or, take};
 ghost use Rattle.link_trace.specs.Masks.{IsMask};
 ghost use Rattle.radio_model.specs.Ages.{ByEnd};
-ghost use Rattle.radio_model.specs.Meetings.{key_of, rival_to as rival_by, passes_at};
+ghost use Rattle.radio_model.specs.Meetings.{key_of, IsFrameStart, rival_to as rival_by, passes_at};
 
 use crate::sending::Sending;
 use crate::station::{Station, overlap};
@@ -38,6 +37,13 @@ impl Key {
             counter: y.packet.counter(),
         }
     }
+}
+
+/// The tick at which the frame of a tick begins.
+pub fn frame_start(profile: &Profile, t: u64) -> u64
+    ensures { IsFrameStart profile.now.frame t result }
+{
+    t - t % profile.frame()
 }
 
 /// What y of this station is to x. None comes where it does not overlap x on its channel.
@@ -81,15 +87,6 @@ pub fn first_after(station: &Station, start: u64) -> usize
         first -= 1;
     }
     0
-}
-
-/// Whether the bit of that place is set.
-#[tactic(auto, using(std::proofs::lemmas::Nat::Bits::shr_and_one))]
-pub fn has_bit(mask: u64, place: u8) -> bool
-    requires { place < 64 }
-    ensures { result ≡ (bit_at mask place == 1) }
-{
-    (mask >> place) & 1 == 1
 }
 
 /// The nodes to which a link passes at the key from the node at that place, each by the bit of its place.

@@ -2,7 +2,7 @@ ghost use Rattle.std.specs.Prelude.{◌≡◌, ◌≤◌, ◌+◌, ◌<◌, ◌^
 ghost use Rattle.std.specs.List.{list_any};
 ghost use Rattle.circular_buffer.specs.Buffer.{buffer};
 ghost use Rattle.lwb_base.specs.Profile.{airtime, Numbers};
-ghost use Rattle.radio_model.specs.Stations.{tuned_in, tuned_out, retuned, is_tuned_to, started, finished, on_air, covers, overlaps};
+ghost use Rattle.radio_model.specs.Stations.{tuned_in, tuned_out, retuned, is_tuned_to, begins_on, started, finished, on_air, covers, overlaps};
 ghost use Rattle.radio_model.specs.Ages.{IsAged};
 
 use crate::sending::Sending;
@@ -110,17 +110,17 @@ impl Station {
         self.tuned = Some(Tuned { rank, since });
     }
 
-    /// It begins to send at t, until `end`. False comes exactly where it is not tuned or already sends, and then nothing
-    /// changes.
-    pub(crate) fn start(&mut self, t: u64, end: u64, packet: &Packet) -> bool
-        ensures value { result ≡ (is_some self.old.tuned && is_none self.old.sending) }
+    /// It begins to send at t, until `end`, on the channel of that rank. None comes exactly where it is not tuned or
+    /// already sends, and then nothing changes.
+    pub(crate) fn start(&mut self, t: u64, end: u64, packet: &Packet) -> Option<Rank>
+        ensures value { result ≡ begins_on self.old.tuned self.old.sending }
         ensures state { (p : Numbers) → end ≡ t + airtime p (length packet.now) → self.new ≡ started p t packet.now self.old }
     {
         let Some(tuned) = self.tuned else {
-            return false;
+            return None;
         };
         if self.sending.is_some() {
-            return false;
+            return None;
         }
         self.sending = Some(Sending {
             rank: tuned.rank,
@@ -129,7 +129,7 @@ impl Station {
             end,
             packet: packet.copy(),
         });
-        true
+        Some(tuned.rank)
     }
 
     /// What it sends ends.

@@ -1,9 +1,16 @@
-use Rattle.std.proofs.Common.{◌≡◌, ◌≤◌, length, take, filter_map}
-use Rattle.radio_model.specs.Meetings.{heard_by, key_of, rivals_to}
+use Rattle.std.proofs.Common.{◌≡◌, ℕ, ◌++◌, filter_map}
+use Rattle.std.specs.Int.{bit_at}
+use Rattle.radio_model.specs.Meetings.{key_of, rivals_to, hearers_to}
+use Rattle.radio_model.proofs.HeardInTurn.{heard_at}
 use Rattle.radio_model.proofs.listeners.listeners.Given as goal
 
-abbrev pub invariant-loop-i : goal.invariant-loop-i
-invariant-loop-i g l = record {
-  pairs : l.hearers ≡ filter_map (heard_by (g.M.Links.lines l.links) l.from.node l.x (key_of l.profile l.x) (rivals_to l.profile l.x l.stations)) (take l.i l.stations);
-  few : length l.hearers ≤ l.i;
+abbrev pub invariant-loop-rest : goal.invariant-loop-rest
+invariant-loop-rest g l = record {
+  pairs : l.hearers ++ filter_map (heard_at (g.M.Links.lines l.links) l.from.node l.x (key_of l.profile l.x)
+      (rivals_to l.profile l.x l.stations) l.rest) l.stations
+      ≡ hearers_to l.profile (g.M.Links.lines l.links) l.from.node l.x l.stations;
+  reached : (k : ℕ) → bit_at l.rest k ≡ 1 → (bit_at l.reached k ≡ 1) × (bit_at l.crowd.spoiled k ≡ 0);
 }
+
+abbrev pub decreases-loop-rest : goal.decreases-loop-rest
+decreases-loop-rest g l = l.rest

@@ -1,6 +1,7 @@
-use Rattle.std.proofs.Common.{◌≡◌, ℕ, ◌∙◌, ◌≤◌, List, Contains, get_or, ap, subst, sym}
+use Rattle.std.proofs.Common.{◌≡◌, ℕ, ◌∙◌, ◌≤◌, List, Contains, Option, Some, None, get_or, ap, subst, sym}
 use Rattle.radio_model.specs.Stations.{MediumState, IsMedium, node_of, nodes_of, on_air, finished, after, Ends}
 use Rattle.radio_model.specs.Marks.{IsMark, IsNewest, ArePlaces}
+use Rattle.radio_model.specs.declared.sending.Sending.{Sending}
 use Rattle.radio_model.specs.declared.station.Station.{Station}
 use Rattle.radio_model.proofs.Places.{after_is, after_medium, nodes_same}
 use Rattle.radio_model.proofs.PlacedStations.{found_place}
@@ -11,7 +12,11 @@ use Rattle.radio_model.proofs.Ending.{aged_after_ending}
 use Rattle.radio_model.proofs.Marked.{marks_stay, mark_finished}
 use Rattle.radio_model.proofs.Origins.{alike_kept, newest_finished, newest_unfinished}
 use Rattle.radio_model.proofs.Changes.{finished_keeps}
+use Rattle.radio_model.proofs.RecentPlaces.{recent_stay}
 use Rattle.radio_model.proofs.medium.Medium.end.Goals as goal
+
+none_runs : (x : Sending) → (let o : Option Sending = None in o ≡ Some x) → ⊥
+none_runs x is = cc
 
 pub invariant_of-self : goal.invariant_of-self
 invariant_of-self g c =
@@ -27,13 +32,15 @@ invariant_of-self g c =
       subst (λ (l : List ℕ). ArePlaces l c.self.inside.places.items) (sym (nodes_same m c.self.invariant.0 finished finished_keeps c.args.node c.args.t c.place_of-place.result old c.finish.new.self at.0 c.index_mut-station.ensures.value of c.finish.ensures)) c.self.invariant.1,
       marks_stay m.stations c.self.inside.marks.items c.place_of-place.result c.finish.new.self c.self.invariant.2 (λ e.
           subst (λ (st : Station). IsMark (on_air st) (get_or c.self.inside.marks.items c.place_of-place.result e)) (sym c.finish.ensures)
-          (mark_finished old (get_or c.self.inside.marks.items c.place_of-place.result e)
+          (mark_finished old (get_or c.self.inside.marks.items c.place_of-place.result e) room
           (subst (λ (st : Station). IsMark (on_air st) (get_or c.self.inside.marks.items c.place_of-place.result e)) (sym c.index_mut-station.ensures.value) (c.self.invariant.2.each c.place_of-place.result old e at.0)))),
       alike_kept m.now c.args.t m.stations c.self.inside.marks.items c.place_of-place.result old c.finish.new.self at.0 c.index_mut-station.ensures.value (ap node_of c.finish.ensures ∙ finished_keeps.node old)
           (λ y newest. newest_finished old room y (subst (λ (st : Station). IsNewest (on_air st) y) c.finish.ensures newest))
           (λ y newest. subst (λ (st : Station). IsNewest (on_air st) y) (sym c.finish.ensures) (newest_unfinished old room y newest)) later c.self.invariant.3,
       c.self.invariant.4,
       aged_after_ending m c.self.invariant.0 c.args.node c.place_of-place.result c.args.t old c.finish.new.self at.0 c.index_mut-station.ensures.value of later ends c.self.invariant.5 c.finish.ensures,
+      recent_stay m.now c.args.t m.stations c.self.inside.marks.items c.self.inside.recent c.place_of-place.result old c.finish.new.self at.0 c.index_mut-station.ensures.value
+          (λ x runs. absurd (none_runs x (sym (ap (λ (s : Station). s.sending) c.finish.ensures) ∙ runs))) later c.self.invariant.6,
     )
 
 pub returns-clause-state : goal.returns-clause-state

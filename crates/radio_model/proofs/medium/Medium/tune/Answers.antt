@@ -11,6 +11,7 @@ use Rattle.radio_model.proofs.EndedSendings.{aged_same, retuned_ended}
 use Rattle.radio_model.proofs.Marked.{marks_stay, retuned_on_air}
 use Rattle.radio_model.proofs.Origins.{alike_kept}
 use Rattle.radio_model.proofs.Changes.{retuned_keeps}
+use Rattle.radio_model.proofs.RecentPlaces.{recent_stay, retuned_sending}
 use Rattle.radio_model.proofs.medium.Medium.tune.Goals as goal
 
 pub invariant_of-self : goal.invariant_of-self
@@ -31,6 +32,8 @@ invariant_of-self c =
           (λ y newest. subst (λ (l : List Sending). IsNewest l y) (sym (ap on_air c.tune.ensures ∙ retuned_on_air c.args.rank c.args.t old)) newest) later c.self.invariant.3,
       c.self.invariant.4,
       aged_same m.now c.args.t c.place_of-place.result m.stations old c.tune.new.self later c.self.invariant.5 at.0 c.index_mut-station.ensures.value (ap (λ (s : Station). s.ended) c.tune.ensures ∙ retuned_ended c.args.rank c.args.t old),
+      recent_stay m.now c.args.t m.stations c.self.inside.marks.items c.self.inside.recent c.place_of-place.result old c.tune.new.self at.0 c.index_mut-station.ensures.value
+          (λ x runs. sym (retuned_sending c.args.rank c.args.t old) ∙ sym (ap (λ (s : Station). s.sending) c.tune.ensures) ∙ runs) later c.self.invariant.6,
     )
 
 pub returns-clause-state : goal.returns-clause-state

@@ -1,0 +1,176 @@
+-- Whose sendings can matter, through the changes of a medium.
+use Rattle.std.proofs.Common.{◌≡◌, ◌≢◌, ℕ, ◌+◌, ◌<◌, ◌≤◌, inl, inr, List, length, set, get_or, true, false, ◌&&◌, nat_lt, nat_le, Option, Some, None, is_some, refl, sym, ◌∙◌, ap, subst, arith}
+use Rattle.std.proofs.lemmas.Bool.{cases_lt, cases_eq, le-leb, lt-ltb, le-ltb, or_left, cond-true, cond-false, cond_both}
+use Rattle.std.proofs.lemmas.List.{length-map, length-set, get_or-set_same, get_or-set_other}
+use Rattle.std.proofs.lemmas.List.Elements.{Contains-append_right, All-contains}
+use Rattle.std.proofs.lemmas.Nat.Bits.{bit_at-zero}
+use Rattle.std.proofs.Math.Nat.{le-max_left, le-max_right}
+use Rattle.std.specs.Int.{bit_at}
+use Rattle.lwb_base.specs.Profile.{Numbers, airtime}
+use Rattle.radio_model.specs.Stations.{on_air, begins_on, node_of, started, first_sending, next_sending, stations_from, retuned, tuned_in, tuned_out, is_tuned_to}
+use Rattle.radio_model.specs.Marks.{AreMarks, no_mark, next_mark, next_marks}
+use Rattle.radio_model.specs.Recent.{AreRecent, AreAmong, IsNext, no_recent}
+use Rattle.radio_model.specs.declared.mark.Mark.{Mark}
+use Rattle.radio_model.specs.declared.mark.Origin.{Origin}
+use Rattle.radio_model.specs.declared.station.Tuned.{Tuned}
+use Rattle.radio_model.specs.declared.recent.Recent.{Recent}
+use Rattle.radio_model.specs.declared.sending.Sending.{Sending}
+use Rattle.radio_model.specs.declared.station.Station.{Station}
+use Rattle.radio_model.proofs.Marked.{no_rivals_aside}
+use Rattle.radio_model.proofs.Members.{of_option}
+use Rattle.radio_model.proofs.Origins.{can_start, can't_start}
+use Rattle.radio_model.proofs.Places.{nodes_from}
+
+-- the rivals of what a station sends are at the places of these
+pub among_recent : (p : Numbers) (now : ℕ) (sts : List Station) (mks : List Mark) (r : Recent) → AreMarks sts mks → AreRecent now sts mks r
+    → (i : ℕ) (d : Station) (x : Sending) → i < length sts → (get_or sts i d).sending ≡ Some x
+    → AreAmong p x sts r.places
+among_recent p now sts mks r marks are i d x below runs = record {
+  within = are.within;
+  others = λ k e inside none.
+      let mk = get_or mks k no_mark in
+      let over : mk.end ≤ x.start = omega (arith, are.others k no_mark inside none, are.running i d x below runs) in
+      no_rivals_aside p x (get_or sts k e) mk (marks.each k e no_mark inside) (or_left (nat_le mk.end x.start)
+      (nat_le mk.before x.start && nat_le x.end mk.start) (le-leb mk.end x.start over));
+}
+
+-- a station changed, and began nothing
+pub recent_stay : (now t : ℕ) (sts : List Station) (mks : List Mark) (r : Recent) (i : ℕ) (old new : Station) → i < length sts → old ≡ get_or sts i old
+    → ((x : Sending) → new.sending ≡ Some x → old.sending ≡ Some x) → now ≤ t → AreRecent now sts mks r → AreRecent t (set sts i new) mks r
+recent_stay now t sts mks r i old new below at back later are = record {
+  since = are.since;
+  by_now = omega (arith, are.by_now);
+  running = λ k d x inside runs. elim (cases_eq k i) [
+    | inl here ↦
+        let new_is : get_or (set sts i new) k d ≡ new = ap (λ (n : ℕ). get_or (set sts i new) n d) here ∙ get_or-set_same sts i new d below in
+        are.running i old x below (ap (λ (s : Station). s.sending) (sym at) ∙ back x (sym (ap (λ (s : Station). s.sending) new_is) ∙ runs))
+    | inr other ↦ are.running k d x (omega (arith, inside, length-set sts i new)) (sym (ap (λ (s : Station). s.sending)
+        (get_or-set_other sts i k new d other)) ∙ runs)
+  ];
+  others = λ k e inside. are.others k e (omega (arith, inside, length-set sts i new));
+  within = λ k one. omega (arith, are.within k one, length-set sts i new);
+  latest = λ k e inside. are.latest k e (omega (arith, inside, length-set sts i new));
+}
+
+pub retuned_sending : (rank : Option ℕ) (t : ℕ) (st : Station) → (retuned rank t st).sending ≡ st.sending
+retuned_sending None t st = refl
+retuned_sending (Some r) t st = cond_both (is_tuned_to st.tuned r) st (tuned_in r t (tuned_out t st)) (λ (s : Station). s.sending
+    ≡ st.sending) (λ _. refl) (λ _. refl)
+
+-- another sending begins
+module _ (now t : ℕ) (sts : List Station) (mks : List Mark) (r s : Recent) (i : ℕ) (new : Station) (x : Sending) (mk : Mark) (below : i < length sts)
+    (one_each : length mks ≡ length sts) (sends : new.sending ≡ Some x) (starts : x.start ≡ t)
+    (marks : AreMarks sts mks) (still : (k : ℕ) (d : Station) (y : Sending) → k < length sts → (get_or sts k d).sending ≡ Some y
+    → t ≤ y.end) (later : now ≤ t) (is : IsNext i t mk.end r s) (are : AreRecent now sts mks r) where
+  mark_at : (k : ℕ) (e : Mark) → k ≢ i → get_or (set mks i mk) k e ≡ get_or mks k e
+  mark_at k e other = get_or-set_other mks i k mk e other
+
+  -- nothing that runs was over before
+  runs_on : (k : ℕ) (d : Station) (y : Sending) → k < length sts → (get_or sts k d).sending ≡ Some y → t ≤ r.latest
+  runs_on k d y inside runs =
+      let st = get_or sts k d in
+      let there = Contains-append_right st.ended.items _ y (of_option st.sending y runs) in
+      let over = All-contains (λ (z : Sending). z.end ≤ (get_or mks k no_mark).end) (on_air st) y (marks.each k d no_mark inside).over there in
+      omega (arith, over, are.latest k no_mark inside, still k d y inside runs)
+
+  begins : (since : ℕ) → since ≤ t → ((k : ℕ) (d : Station) (y : Sending) → k < length sts → k ≢ i → (get_or sts k d).sending ≡ Some y → since ≤ y.start)
+      → (k : ℕ) (d : Station) (y : Sending) → k < length (set sts i new)
+      → (get_or (set sts i new) k d).sending ≡ Some y → since ≤ y.start
+  begins since by_t old k d y inside runs = elim (cases_eq k i) [
+    | inl here ↦
+        let new_is : get_or (set sts i new) k d ≡ new = ap (λ (n : ℕ). get_or (set sts i new) n d) here ∙ get_or-set_same sts i new d below in
+        let same : x ≡ y = some_same x y (sym sends ∙ sym (ap (λ (z : Station). z.sending) new_is) ∙ runs) in
+        omega (arith, by_t, starts, ap (λ (z : Sending). z.start) same)
+    | inr other ↦ old k d y (omega (arith, inside, length-set sts i new)) other (sym (ap (λ (z : Station). z.sending)
+        (get_or-set_other sts i k new d other)) ∙ runs)
+  ]
+    where
+      some_same : (v w : Sending) → (let q : Option Sending = Some v in q ≡ Some w) → v ≡ w
+      some_same v w is = cc
+
+  over_by : (since : ℕ) → ((k : ℕ) (e : Mark) → k < length sts → k ≢ i → bit_at s.places k ≡ 0 → (get_or mks k e).end ≤ since) → (k : ℕ) (e : Mark)
+      → k < length (set sts i new) → bit_at s.places k ≡ 0
+      → (get_or (set mks i mk) k e).end ≤ since
+  over_by since old k e inside none = elim (cases_eq k i) [
+    | inl here ↦ absurd (omega (arith, none, is.set, ap (bit_at s.places) here))
+    | inr other ↦ subst (λ (m : Mark). m.end ≤ since) (sym (mark_at k e other)) (old k e (omega (arith, inside, length-set sts i new)) other none)
+  ]
+
+  inside_all : ((k : ℕ) → k ≢ i → bit_at s.places k ≡ 1 → k < length sts) → (k : ℕ) → bit_at s.places k ≡ 1 → k < length (set sts i new)
+  inside_all old k one = elim (cases_eq k i) [
+    | inl here ↦ omega (arith, here, below, length-set sts i new)
+    | inr other ↦ omega (arith, old k other one, length-set sts i new)
+  ]
+
+  latest_all : (k : ℕ) (e : Mark) → k < length (set sts i new) → (get_or (set mks i mk) k e).end ≤ s.latest
+  latest_all k e inside = elim (cases_eq k i) [
+    | inl here ↦
+        let new_is : get_or (set mks i mk) k e ≡ mk = ap (λ (n : ℕ). get_or (set mks i mk) n e) here
+        ∙ get_or-set_same mks i mk e (omega (arith, below, one_each)) in
+        omega (arith, ap (λ (m : Mark). m.end) new_is, is.latest, le-max_right r.latest mk.end)
+    | inr other ↦
+        let old = are.latest k e (omega (arith, inside, length-set sts i new)) in
+        omega (arith, ap (λ (m : Mark). m.end) (mark_at k e other), old, is.latest, le-max_left r.latest mk.end)
+  ]
+
+  pub recent_begun : AreRecent t (set sts i new) (set mks i mk) s
+  recent_begun = elim (cases_lt r.latest t) [
+    | inl over ↦
+        let alone : (k : ℕ) → k ≢ i → bit_at s.places k ≡ 0 = λ k other.
+        is.others k other ∙ ap (λ (n : ℕ). bit_at n k) (cond-true (nat_lt r.latest t) 0 r.places (lt-ltb r.latest t over)) ∙ bit_at-zero k in
+        record {
+          since = t;
+          by_now = omega arith;
+          running = begins t (omega arith) (λ k d y inside other runs. absurd (omega (arith, over, runs_on k d y inside runs)));
+          others = over_by t (λ k e inside other none. omega (arith, over, are.latest k e inside));
+          within = inside_all (λ k other one. absurd (omega (arith, one, alone k other)));
+          latest = latest_all;
+        }
+    | inr not ↦
+        let kept : (k : ℕ) → k ≢ i → bit_at s.places k ≡ bit_at r.places k = λ k other.
+        is.others k other ∙ ap (λ (n : ℕ). bit_at n k) (cond-false (nat_lt r.latest t) 0 r.places (le-ltb r.latest t not)) in
+        record {
+          since = are.since;
+          by_now = omega (arith, are.by_now);
+          running = begins are.since (omega (arith, are.by_now)) (λ k d y inside other runs. are.running k d y inside runs);
+          others = over_by are.since (λ k e inside other none. are.others k e inside (sym (kept k other) ∙ none));
+          within = inside_all (λ k other one. are.within k (sym (kept k other) ∙ one));
+          latest = latest_all;
+        }
+  ]
+
+-- a station starts to send, or can't
+pub recent_after_start : (p : Numbers) (now t end : ℕ) (packet : List ℕ) (sts : List Station) (mks : List Mark) (i : ℕ) (old new : Station)
+    (origin : Origin) (r s : Recent) → i < length sts → old ≡ get_or sts i old
+    → new ≡ started p t packet old → now ≤ t → AreMarks sts mks → ((k : ℕ) (d : Station) (y : Sending) → k < length sts → (get_or sts k d).sending ≡ Some y
+    → t ≤ y.end) → AreRecent now sts mks r
+    → (o : Option ℕ) → o ≡ begins_on old.tuned old.sending → (is_some o ≡ true → IsNext i t end r s) → (is_some o ≡ false → s ≡ r)
+    → AreRecent t (set sts i new) (next_marks o t end origin i mks no_mark) s
+recent_after_start p now t end packet sts mks i old new origin r s below at is_started later marks still are (Some rank) is next stays =
+    let can = can_start old.tuned old.sending rank is in
+    let u = can.0 in
+    let x : Sending = record { rank = u.rank; node = old.node; start = t; end = t + airtime p (length packet); packet = packet } in
+    let sends : new.sending ≡ Some x =
+    ap (λ (st : Station). st.sending) is_started ∙ ap (λ (o : Option Tuned). first_sending old.sending (next_sending p t packet old.node o)) can.1
+    ∙ ap (λ (o : Option Sending). first_sending o (Some x)) can.2 in
+    recent_begun now t sts mks r s i new x (next_mark rank t end origin (get_or mks i no_mark)) below marks.one_each sends refl marks still later
+    (next refl) are
+recent_after_start p now t end packet sts mks i old new origin r s below at is_started later marks still are None is next stays =
+    subst (AreRecent t (set sts i new) mks) (sym (stays refl))
+    (recent_stay now t sts mks r i old new below at
+    (λ x runs. sym (can't_start old.tuned old.sending p t packet old.node is) ∙ sym (ap (λ (st : Station). st.sending) is_started) ∙ runs) later are)
+
+-- at first nothing was sent
+pub recent_first : (vs : List ℕ) (mks : List Mark) → ((k : ℕ) (e : Mark) → k < length vs → (get_or mks k e).end ≤ 0)
+    → AreRecent 0 (stations_from 0 vs) mks no_recent
+recent_first vs mks none = record {
+  since = 0;
+  by_now = omega arith;
+  running = λ k d x inside runs. omega arith;
+  others = λ k e inside bit. none k e (omega (arith, inside, long));
+  within = λ k one. absurd (omega (arith, one, bit_at-zero k));
+  latest = λ k e inside. none k e (omega (arith, inside, long));
+}
+  where
+    long : length (stations_from 0 vs) ≡ length vs
+    long = sym (length-map (stations_from 0 vs) node_of) ∙ ap length (nodes_from 0 vs)
