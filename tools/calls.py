@@ -99,6 +99,8 @@ def calls(path, names, modules):
         result = rest[:stop.start()].replace("->", "").strip()
         clauses = []
         place = end + stop.start()
+        if stop.group() == "where":
+            place += re.search(r"[{;]|\brequires\b|\bensures\b", text[place:]).start()
         while True:
             clause = re.match(r"\s*(requires|ensures)\b(?:\s+([a-z_0-9]+))?\s*\{", text[place:])
             if not clause:

@@ -395,7 +395,7 @@ RUNNING = [
     ["node_core", "radio_model", "event_calendar", "scenario_clocks", "plain_bus"],
     ["lwb_member", "round_runner", "glossy_relay", "time_reference"],
     ["stream_source", "host_failover", "host_scheduler", "stream_table", "schedule_codec", "lwb_packets"],
-    ["bus_rules", "code_order", "link_trace", "tick_clock", "lwb_base"],
+    ["bus_rules", "code_order", "link_trace", "text_writers", "tick_clock", "lwb_base"],
 ]
 REPORTING = ["air_log", "energy_account", "replay_tool", "foldcairn"]
 PROVING = [

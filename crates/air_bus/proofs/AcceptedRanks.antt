@@ -46,7 +46,8 @@ closed_rank s f part initiated c None is = heard_rank f part initiated c
 closed_rank s f part initiated c (Some (DataOf d)) is = heard_rank f part true c
 closed_rank s f part initiated c (Some (RequestOf a)) is = refl
 closed_rank s f part initiated c (Some (ScheduleOf y)) is =
-    cond_both (y.gap == 0) (opening_accepted s.id f y c) (closing_accepted s.id f y c) (λ (e : Core). rank_of e.tune ≡ rank_of c.tune) (λ now. refl) (λ later. is)
+    cond_both (y.gap == 0) (opening_accepted s.id f y c) (closing_accepted s.id f y c) (λ (e : Core). rank_of e.tune ≡ rank_of c.tune) (λ now. refl)
+    (λ later. is)
 
 module _ (s : ScenarioParts) (clocks : ℕ → ℕ → ℕ) (air : List Entry) (v t : ℕ) (at : AtTick s clocks air v t) where
   said_rank : (m : Option Message) (u rank f z j r : ℕ) (hosting : Bool) → MaySay s clocks air u rank f z j hosting m → rank ≡ r → IsOfRank r m
@@ -65,7 +66,8 @@ module _ (s : ScenarioParts) (clocks : ℕ → ℕ → ℕ) (air : List Entry) (
       let first = flood.begins.start.first in
       let same : message_of p ≡ message_of o.packet = ap message_of is.is ∙ bodies_same x.packet o.packet flood.few (omega (arith, first)) flood.same in
       subst (IsOfRank (rank_at n)) (sym same)
-      (said_rank (message_of o.packet) o.node o.rank (frame_of s.profile o) flood.zero (slot_of o) (rank_at n) (by_host s clocks air o) flood.begins.start.says (sym flood.slot.channel ∙ is.in_slot.rank))
+      (said_rank (message_of o.packet) o.node o.rank (frame_of s.profile o) flood.zero (slot_of o) (rank_at n)
+      (by_host s clocks air o) flood.begins.start.says (sym flood.slot.channel ∙ is.in_slot.rank))
     where
       started : (x : Sending) → Contains (sendings_of air) x → x.end < suc t → x.start < t
       started x sent by =
@@ -76,6 +78,7 @@ module _ (s : ScenarioParts) (clocks : ℕ → ℕ → ℕ) (air : List Entry) (
   pub accepted_rank : (n : Node) (j : ℕ) (w : Window) → HasAccepted s clocks air v (suc t) n j w → IsOfRank (rank_at n) (accepted_in w)
   accepted_rank n j w is = by_packet (accepted_of w.flood) is.each
     where
-      by_packet : (o : Option (List ℕ × ℕ)) → IfSome o (λ a. IsAccepted s clocks air v (suc t) n j w a.0) → IsOfRank (rank_at n) (option_and_then (λ a. message_of a.0) o)
+      by_packet : (o : Option (List ℕ × ℕ)) → IfSome o (λ a. IsAccepted s clocks air v (suc t) n j w a.0)
+          → IsOfRank (rank_at n) (option_and_then (λ a. message_of a.0) o)
       by_packet None each = tt
       by_packet (Some a) each = packet_rank n j w a.0 each

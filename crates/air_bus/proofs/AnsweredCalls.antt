@@ -1,5 +1,6 @@
 -- What one step makes of the calls of a node's windows, over plain lists.
-use Rattle.std.proofs.Common.{◌≡◌, ℕ, ◌+◌, ◌⊎◌, inl, inr, List, [], ◌∷◌, ◌++◌, true, Some, None, Option, is_some, Contains, fold, refl, sym, ◌∙◌, ap, subst, true≢false}
+use Rattle.std.proofs.Common.{◌≡◌, ℕ, ◌+◌, ◌⊎◌, inl, inr, List, [], ◌∷◌, ◌++◌, true, Some, None, Option, is_some, Contains, fold, refl, sym, ◌∙◌, ap, subst}
+use Rattle.std.proofs.Common.{true≢false}
 use Rattle.std.specs.Option.{IfSome}
 use Rattle.std.proofs.lemmas.List.{append-nil}
 use Rattle.std.proofs.lemmas.List.Elements.{Contains-append_left, Contains-append_right, Contains-push_cases}
@@ -48,7 +49,8 @@ module _ (s : ScenarioParts) (clocks : ℕ → ℕ → ℕ) (v : ℕ) where
   Answered sent o w tick packet = IsSent s clocks v sent w tick packet ⊎ IsStillOrdered s clocks v o w tick packet
 
   -- a window that has closed has what it called for
-  sent_by_closed : (logs : List WindowLog) (o : Option Ordered) (x : Option Sending) (sent : List Sending) → R logs o x sent → (w : WindowLog) (tick : ℕ) (packet : List ℕ)
+  sent_by_closed : (logs : List WindowLog) (o : Option Ordered) (x : Option Sending) (sent : List Sending) → R logs o x sent
+      → (w : WindowLog) (tick : ℕ) (packet : List ℕ)
       → Contains logs w → is_some w.closed ≡ true → Calls w tick packet → IsSent s clocks v sent w tick packet
   sent_by_closed logs o x sent has w tick packet there closed call = elim (has.answered w tick packet there call) [
     | inl is ↦ is
@@ -72,7 +74,8 @@ module _ (s : ScenarioParts) (clocks : ℕ → ℕ → ℕ) (v : ℕ) where
     opens_with o running sent has closed orders calls = record {
       called = λ y there. called_more y (has.called y there);
       answered = λ w tick packet there call. elim (contains_cases x logs w there) [
-        | inl same ↦ inr (subst (λ (z : WindowLog). IsStillOrdered s clocks v o z tick packet) same (calls tick packet (subst (λ (z : WindowLog). Calls z tick packet) (sym same) call)))
+        | inl same ↦ inr (subst (λ (z : WindowLog). IsStillOrdered s clocks v o z tick packet) same
+            (calls tick packet (subst (λ (z : WindowLog). Calls z tick packet) (sym same) call)))
         | inr old ↦ inl (sent_by_closed logs None running sent has w tick packet old (closed w old) call)
       ];
       ordered_for = by_order o orders;
@@ -106,7 +109,8 @@ module _ (s : ScenarioParts) (clocks : ℕ → ℕ → ℕ) (v : ℕ) where
         called = λ y there. called_on s clocks v x hears.happenings last x.closed (HeardAt t p ∷ []) refl earlier y (has.called y there);
         answered = λ w tick packet there call. elim (contains_cases hears earlier w there) [
           | inl same ↦ subst (λ (z : WindowLog). Answered sent o' z tick packet) same
-              (elim (new_calls s clocks v x hears.happenings last x.closed (HeardAt t p) refl tick packet (subst (λ (z : WindowLog). Calls z tick packet) (sym same) call)) [
+              (elim (new_calls s clocks v x hears.happenings last x.closed (HeardAt t p) refl tick packet
+              (subst (λ (z : WindowLog). Calls z tick packet) (sym same) call)) [
                 | inl before ↦ old tick packet before
                 | inr relay ↦ new tick packet relay
               ])
@@ -156,7 +160,8 @@ module _ (s : ScenarioParts) (clocks : ℕ → ℕ → ℕ) (v : ℕ) where
           ])
           (λ other packet relay. inr (record { open_ = open_; is = same_order other packet relay }))
         where
-          flood_same : (es : List Happening) → fold after_happening (flood_at_first (setup_of s v) x.by_alarm hears) es ≡ fold after_happening (flood_at_first (setup_of s v) x.by_alarm x) es
+          flood_same : (es : List Happening) → fold after_happening (flood_at_first (setup_of s v) x.by_alarm hears) es ≡ fold after_happening
+              (flood_at_first (setup_of s v) x.by_alarm x) es
           flood_same es = ap (λ (f : FloodState). fold after_happening f es) (first_same (setup_of s v) x.by_alarm x hears.happenings last x.closed)
 
           same_order : (other : ℕ) (packet : List ℕ) → NewRelay s clocks v x (HeardAt t p) other packet
@@ -177,7 +182,8 @@ module _ (s : ScenarioParts) (clocks : ℕ → ℕ → ℕ) (v : ℕ) where
       called = λ z there. called_on s clocks v x sends.happenings last x.closed (SentAt t y.packet ∷ []) refl earlier z (has.called z there);
       answered = λ w tick packet there call. elim (contains_cases sends earlier w there) [
         | inl same ↦ subst (λ (z : WindowLog). Answered sent o z tick packet) same
-            (elim (new_calls s clocks v x sends.happenings last x.closed (SentAt t y.packet) refl tick packet (subst (λ (z : WindowLog). Calls z tick packet) (sym same) call)) [
+            (elim (new_calls s clocks v x sends.happenings last x.closed (SentAt t y.packet) refl tick packet
+            (subst (λ (z : WindowLog). Calls z tick packet) (sym same) call)) [
               | inl before ↦ elim (has.answered x tick packet (contains_head x earlier) before) [
                 | inl is ↦ inl (sent_still s clocks v x sends.happenings last x.closed sent tick packet is)
                 | inr still ↦ inr (record { open_ = still.open_; is = still.is })
@@ -214,7 +220,8 @@ module _ (s : ScenarioParts) (clocks : ℕ → ℕ → ℕ) (v : ℕ) where
       called = λ z there. called_on s clocks v x x.happenings x.last (Some c) [] (sym (append-nil x.happenings)) earlier z (has.called z there);
       answered = λ w tick packet there call. elim (contains_cases shut earlier w there) [
         | inl same ↦ subst (λ (z : WindowLog). Answered sent o z tick packet) same
-            (elim (has.answered x tick packet (contains_head x earlier) (calls_before s clocks v x x.happenings x.last (Some c) refl tick packet (subst (λ (z : WindowLog). Calls z tick packet) (sym same) call))) [
+            (elim (has.answered x tick packet (contains_head x earlier)
+            (calls_before s clocks v x x.happenings x.last (Some c) refl tick packet (subst (λ (z : WindowLog). Calls z tick packet) (sym same) call))) [
               | inl is ↦ inl (sent_still s clocks v x x.happenings x.last (Some c) sent tick packet is)
               | inr still ↦ absurd (none_some o (record { tick = tick; packet = packet }) none still.is)
             ])
@@ -239,7 +246,13 @@ module _ (s : ScenarioParts) (clocks : ℕ → ℕ → ℕ) (v : ℕ) where
         | inr same ↦ subst (IsCalled s clocks v (x ∷ earlier)) same (by_order o ordered has.ordered_for)
       ];
       answered = λ w tick packet there call. elim (has.answered w tick packet there call) [
-        | inl is ↦ inl (record { sending = is.sending; there = Contains-append_left sent (y ∷ []) is.sending is.there; of_slot = is.of_slot; start = is.start; packet_is = is.packet_is })
+        | inl is ↦ inl (record {
+          sending = is.sending;
+          there = Contains-append_left sent (y ∷ []) is.sending is.there;
+          of_slot = is.of_slot;
+          start = is.start;
+          packet_is = is.packet_is;
+        })
         | inr still ↦ inl (now_sent w tick packet there still)
       ];
       ordered_for = tt;
@@ -259,7 +272,8 @@ module _ (s : ScenarioParts) (clocks : ℕ → ℕ → ℕ) (v : ℕ) where
           | inr old ↦ absurd (open_closed w.closed not_closed (closed w old))
         ]
 
-        by_order : (p : Option Ordered) → p ≡ Some (record { tick = y.start; packet = y.packet }) → IfSome p (IsOrderedIn s clocks v (x ∷ earlier)) → IsCalled s clocks v (x ∷ earlier) y
+        by_order : (p : Option Ordered) → p ≡ Some (record { tick = y.start; packet = y.packet }) → IfSome p (IsOrderedIn s clocks v (x ∷ earlier))
+            → IsCalled s clocks v (x ∷ earlier) y
         by_order None is for_none = absurd cc
         by_order (Some p) is for_this =
             let tick : p.tick ≡ y.start = ap order_tick is in
@@ -271,7 +285,8 @@ module _ (s : ScenarioParts) (clocks : ℕ → ℕ → ℕ) (v : ℕ) where
               call = subst (λ (k : ℕ). Calls for_this.window k y.packet) tick (subst (λ (q : List ℕ). Calls for_this.window p.tick q) packet for_this.call);
             }
 
-        now_sent : (w : WindowLog) (tick : ℕ) (packet : List ℕ) → Contains (x ∷ earlier) w → IsStillOrdered s clocks v o w tick packet → IsSent s clocks v (sent ++ y ∷ []) w tick packet
+        now_sent : (w : WindowLog) (tick : ℕ) (packet : List ℕ) → Contains (x ∷ earlier) w → IsStillOrdered s clocks v o w tick packet
+            → IsSent s clocks v (sent ++ y ∷ []) w tick packet
         now_sent w tick packet there still =
             let same : Some (record { tick = y.start; packet = y.packet }) ≡ Some (record { tick = tick; packet = packet }) = sym ordered ∙ still.is in
             record {

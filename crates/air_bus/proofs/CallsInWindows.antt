@@ -1,5 +1,6 @@
 -- Each step keeps that a node sends what its windows call for.
-use Rattle.std.proofs.Common.{◌≡◌, ℕ, suc, ◌+◌, ◌*◌, ◌/◌, ◌≤◌, inl, inr, List, [], ◌∷◌, ◌++◌, Bool, true, false, not, ◌||◌, if◌then◌else◌, nat_lt, Some, None, Option, is_some, fold, max, refl, sym, ◌∙◌, ap, subst, arith, true≢false, eqb-true}
+use Rattle.std.proofs.Common.{◌≡◌, ℕ, suc, ◌+◌, ◌*◌, ◌/◌, ◌≤◌, inl, inr, List, [], ◌∷◌, ◌++◌, Bool, true, false, not, ◌||◌, if◌then◌else◌, nat_lt, Some, None}
+use Rattle.std.proofs.Common.{Option, is_some, fold, max, refl, sym, ◌∙◌, ap, subst, arith, true≢false, eqb-true}
 use Rattle.std.specs.Option.{IfSome}
 use Rattle.std.proofs.Math.Nat.{mul-le-mul_right}
 use Rattle.std.proofs.lemmas.Bool.{and_parts}
@@ -114,7 +115,8 @@ module _ (s : ScenarioParts) (clocks : ℕ → ℕ → ℕ) (air : List Entry) (
     starts_at_point : start ≡ tick_by s clocks v n (starting s.profile j)
     starts_at_point = starts_then s clocks air v t at d n j is
 
-    calls_none : spoken.message ≡ None → (o : Option Ordered) (tick : ℕ) (packet : List ℕ) → CallsFor s clocks v x tick packet → IsStillOrdered s clocks v o x tick packet
+    calls_none : spoken.message ≡ None → (o : Option Ordered) (tick : ℕ) (packet : List ℕ) → CallsFor s clocks v x tick packet
+        → IsStillOrdered s clocks v o x tick packet
     calls_none none o tick packet (inl begins) = absurd (none_some spoken.message begins.message none begins.said)
     calls_none none o tick packet (inr relays) = absurd (nothing_in (HeardAt relays.until relays.heard) relays.earlier relays.later relays.is)
 
@@ -158,8 +160,10 @@ module _ (s : ScenarioParts) (clocks : ℕ → ℕ → ℕ) (air : List Entry) (
     by_reply (Relay q) is =
         heard_relayed s clocks v x earlier o running sent has open_ closed t h.packet u q (from_flood ∙ is) (idle (relays_idle w.flood h.packet q is))
         (max (due (clocks v) (stopped (clocks v t + s.profile.turn))) t) relay_at
-    by_reply Keep is = heard_only s clocks v x earlier o running sent has open_ closed t h.packet u Keep (from_flood ∙ is) (λ q same. (let not_same : Keep ≡ Relay q = same in absurd cc))
-    by_reply Ignore is = heard_only s clocks v x earlier o running sent has open_ closed t h.packet u Ignore (from_flood ∙ is) (λ q same. (let not_same : Ignore ≡ Relay q = same in absurd cc))
+    by_reply Keep is = heard_only s clocks v x earlier o running sent has open_ closed t h.packet u Keep (from_flood ∙ is)
+        (λ q same. (let not_same : Keep ≡ Relay q = same in absurd cc))
+    by_reply Ignore is = heard_only s clocks v x earlier o running sent has open_ closed t h.packet u Ignore (from_flood ∙ is)
+        (λ q same. (let not_same : Ignore ≡ Relay q = same in absurd cc))
 
   -- ---- at each device
 
@@ -169,14 +173,16 @@ module _ (s : ScenarioParts) (clocks : ℕ → ℕ → ℕ) (air : List Entry) (
   none_left None n j w order ahead now = refl
   none_left (Some o) n j w order ahead now = absurd (let over = order.over in omega (arith, over, ahead, now))
 
-  has_window : (d : Device) (n : Node) (j : ℕ) (w : Window) → IsOn s clocks air v t (suc t) d n → n.stage ≡ InWindow j w → InOpenWindow s clocks air v (suc t) n d j w
+  has_window : (d : Device) (n : Node) (j : ℕ) (w : Window) → IsOn s clocks air v t (suc t) d n → n.stage ≡ InWindow j w
+      → InOpenWindow s clocks air v (suc t) n d j w
   has_window d n j w on stage = subst (λ (st : Stage). WindowAt s clocks air v (suc t) n d st) stage on.window
 
   R_first : (d : Device) (n : Node) (j : ℕ) (w : Window) (is : IsOpenFirst d.made.windows n j w) → R d.made.windows d.ordered d.sending d.made.sent
       → R (is.first ∷ is.earlier) d.ordered d.sending d.made.sent
   R_first d n j w is has = subst (λ (l : List WindowLog). R l d.ordered d.sending d.made.sent) is.is has
 
-  joins_so : (d : Device) (h : Reception) (n : Node) (y : Schedule) → IsOn s clocks air v t (suc t) d n → n.stage ≡ Scanning → AreClosed d.made.windows → R d.made.windows d.ordered d.sending d.made.sent
+  joins_so : (d : Device) (h : Reception) (n : Node) (y : Schedule) → IsOn s clocks air v t (suc t) d n → n.stage ≡ Scanning → AreClosed d.made.windows
+      → R d.made.windows d.ordered d.sending d.made.sent
       → R (joined_log (setup_of s v) t (clocks v t) n h.packet y ∷ d.made.windows)
       (relayed (clocks v) (setup_of s v) t d.ordered (reply_to (listening Kind.TheVariants.Schedule (slot_of h.packet) s.sends) h.packet)) d.sending d.made.sent
   joins_so d h n y on stage closed has =
@@ -187,17 +193,23 @@ module _ (s : ScenarioParts) (clocks : ℕ → ℕ → ℕ) (air : List Entry) (
       let first : R (x ∷ d.made.windows) None d.sending d.made.sent =
       opens_with s clocks v d.made.windows x None d.sending d.made.sent (with_none d.made.windows d.ordered d.sending d.made.sent still.ordered has) closed tt
       (λ tick packet call. no_call d h n y None tick packet call) in
-      subst (λ (o : Option Ordered). R (full ∷ d.made.windows) (relayed (clocks v) S t o (reply_to listens.flood h.packet)) d.sending d.made.sent) (sym still.ordered)
-      (by_reply h x d.made.windows None d.sending d.made.sent listens full.last first refl closed refl refl (λ idle. refl) (reply_to listens.flood h.packet) refl)
+      subst (λ (o : Option Ordered). R (full ∷ d.made.windows) (relayed (clocks v) S t o (reply_to listens.flood h.packet)) d.sending d.made.sent)
+      (sym still.ordered)
+      (by_reply h x d.made.windows None d.sending d.made.sent listens full.last first refl closed refl refl (λ idle. refl)
+      (reply_to listens.flood h.packet) refl)
     where
       no_call : (d : Device) (h : Reception) (n : Node) (y : Schedule) (o : Option Ordered) (tick : ℕ) (packet : List ℕ)
           → (let full = joined_log (setup_of s v) t (clocks v t) n h.packet y in
-          let x : WindowLog = record full { happenings = []; last = record (full.last) { flood = listening Kind.TheVariants.Schedule (slot_of h.packet) s.sends } } in
+          let x : WindowLog = record full {
+            happenings = [];
+            last = record (full.last) { flood = listening Kind.TheVariants.Schedule (slot_of h.packet) s.sends };
+          } in
           CallsFor s clocks v x tick packet → IsStillOrdered s clocks v o x tick packet)
       no_call d h n y o tick packet (inl begins) = absurd (true≢false (sym begins.by_alarm))
       no_call d h n y o tick packet (inr relays) = absurd (nothing_in (HeardAt relays.until relays.heard) relays.earlier relays.later relays.is)
 
-  heard_so : (d : Device) (h : Reception) (n : Node) (j : ℕ) (w u : Window) → IsOn s clocks air v t (suc t) d n → IsHeardNow s clocks air v t h d → n.stage ≡ InWindow j w
+  heard_so : (d : Device) (h : Reception) (n : Node) (j : ℕ) (w u : Window) → IsOn s clocks air v t (suc t) d n → IsHeardNow s clocks air v t h d
+      → n.stage ≡ InWindow j w
       → (is : IsOpenFirst d.made.windows n j w) → HasFlood (setup_of s v) is.first → R d.made.windows d.ordered d.sending d.made.sent
       → R (record (is.first) { happenings = is.first.happenings ++ HeardAt t h.packet ∷ []; last = u } ∷ is.earlier)
       (relayed (clocks v) (setup_of s v) t d.ordered (reply_by (rank_at n) w h.packet)) d.sending d.made.sent
@@ -209,7 +221,8 @@ module _ (s : ScenarioParts) (clocks : ℕ → ℕ → ℕ) (air : List Entry) (
       by_reply h is.first is.earlier d.ordered d.sending d.made.sent w u (R_first d n j w is has) is.now.open_ is.closed flood is.now.last
       (λ idle. idle_none d.ordered (is_some d.sending) (sym window.flood.waits ∙ idle)) (reply_by (rank_at n) w h.packet) reply
 
-  closes_so : (d : Device) (n : Node) (j : ℕ) (w : Window) (c : Closing) → Now (IsFine s clocks air v) s t Alarms d → IsNextAlarm s v (clocks v) (heard_by air v) t d
+  closes_so : (d : Device) (n : Node) (j : ℕ) (w : Window) (c : Closing) → Now (IsFine s clocks air v) s t Alarms d
+      → IsNextAlarm s v (clocks v) (heard_by air v) t d
       → d.power ≡ PowerOn n → n.stage ≡ InWindow j w → (is : IsOpenFirst d.made.windows n j w) → R d.made.windows d.ordered d.sending d.made.sent
       → R (record (is.first) { closed = Some c } ∷ is.earlier) d.ordered d.sending d.made.sent
   closes_so d n j w c here due on stage is has =
@@ -223,7 +236,8 @@ module _ (s : ScenarioParts) (clocks : ℕ → ℕ → ℕ) (air : List Entry) (
       closes s clocks v is.first is.earlier d.ordered d.sending d.made.sent (R_first d n j w is has) is.now.open_ is.closed c
       (none_left d.ordered n j w window.order here.known.ordered now)
 
-  starts_so : (d : Device) (o : Ordered) (l : Listening) → Now (IsFine s clocks air v) s t Start d → d.ordered ≡ Some o → o.tick ≡ t → d.listening ≡ Some l → d.sending ≡ None
+  starts_so : (d : Device) (o : Ordered) (l : Listening) → Now (IsFine s clocks air v) s t Start d → d.ordered ≡ Some o → o.tick ≡ t
+      → d.listening ≡ Some l → d.sending ≡ None
       → StandBy d.made.windows d.power → R d.made.windows d.ordered d.sending d.made.sent
       → R d.made.windows None (Some (sending_from (setup_of s v) t o.packet l)) (d.made.sent ++ sending_from (setup_of s v) t o.packet l ∷ [])
   starts_so d o l here order due radio free stand has =
@@ -234,7 +248,11 @@ module _ (s : ScenarioParts) (clocks : ℕ → ℕ → ℕ) (air : List Entry) (
       let y = sending_from S t o.packet l in
       let is : IsOpenFirst d.made.windows n j w = subst (StandAt d.made.windows n) about.stage (subst (StandBy d.made.windows) about.on stand) in
       let rank : l.rank ≡ rank_at n = eqb-true l.rank (rank_at n) (ap (listens_to (rank_at n)) (sym radio) ∙ about.listens) in
-      let of_slot : IsOfSlot s is.first y = record { channel = rank ∙ sym is.now.rank; frame = about.frame ∙ sym is.now.frame; slot = about.order.slot ∙ sym is.now.slot } in
+      let of_slot : IsOfSlot s is.first y = record {
+        channel = rank ∙ sym is.now.rank;
+        frame = about.frame ∙ sym is.now.frame;
+        slot = about.order.slot ∙ sym is.now.slot;
+      } in
       let ordered : d.ordered ≡ Some (record { tick = t; packet = o.packet }) = order ∙ ap (λ (k : ℕ). Some (record { tick = k; packet = o.packet })) due in
       subst (λ (logs : List WindowLog). R logs None (Some y) (d.made.sent ++ y ∷ [])) (sym is.is)
       (starts s clocks v is.first is.earlier d.ordered d.sending d.made.sent (R_first d n j w is has) is.now.open_ is.closed y ordered free of_slot)
@@ -244,7 +262,8 @@ module _ (s : ScenarioParts) (clocks : ℕ → ℕ → ℕ) (air : List Entry) (
     opened_kept = λ d n j here due on stage closed has.
         opens d n j (awaits s clocks air v t d n j (on_in s clocks air v t Alarms d n here.holds on) stage due.due) closed has;
     joined_kept = λ d h n y here next now on stage says rank closed has. joins_so d h n y (on_in s clocks air v t Hearings d n here.holds on) stage closed has;
-    heard_kept = λ d h n j w here next now on stage is flood has. heard_so d h n j w _ (on_in s clocks air v t Hearings d n here.holds on) now stage is flood has;
+    heard_kept = λ d h n j w here next now on stage is flood has. heard_so d h n j w _
+        (on_in s clocks air v t Hearings d n here.holds on) now stage is flood has;
     ended_kept = λ d y n j w here enters own ends on stage is has.
         sending_ends s clocks v is.first is.earlier d.ordered d.sending d.made.sent (R_first d n j w is has) is.now.open_ is.closed t y _ own ends
         (own_of_slot s clocks air v t at d y n j w is.first here.holds enters own ends on stage is.now);

@@ -1,5 +1,6 @@
 -- The windows of a round follow one another throughout a run.
-use Rattle.std.proofs.Common.{◌≡◌, ℕ, zero, suc, ◌+◌, ◌<◌, ◌≤◌, inl, inr, List, ◌∷◌, Bool, true, false, nat_lt, if◌then◌else◌, Some, None, refl, sym, ◌∙◌, ap, subst, arith, true≢false, lt-ltb}
+use Rattle.std.proofs.Common.{◌≡◌, ℕ, zero, suc, ◌+◌, ◌<◌, ◌≤◌, inl, inr, List, ◌∷◌, Bool, true, false, nat_lt, if◌then◌else◌, Some, None, refl, sym, ◌∙◌, ap}
+use Rattle.std.proofs.Common.{subst, arith, true≢false, lt-ltb}
 use Rattle.lwb_base.specs.Messages.{Schedule}
 use Rattle.lwb_base.specs.declared.event.Event.TheVariants.{Boot, Alarm, Heard, Sent}
 use Rattle.glossy_relay.specs.Relaying.{after_sent}
@@ -35,7 +36,8 @@ use Rattle.air_bus.specs.OpenWindows.{IsOpenFirst}
 use Rattle.air_bus.specs.WindowChains.{Follows, IsBetween, AwaitsAt, AwaitsBy, IsWaiting, AreChained}
 use Rattle.air_bus.specs.WindowSteps.{HasWindows, begun_log, joined_log, closed_log}
 use Rattle.air_bus.proofs.AcceptedRanks.{closed_rank, accepted_rank}
-use Rattle.air_bus.proofs.ChainedWindows.{IsFree, resting_free, awaiting_free, free_awaits, frame_free, followed_on, followed_off, chained_still, chained_more, next_kept, chained_on}
+use Rattle.air_bus.proofs.ChainedWindows.{IsFree, resting_free, awaiting_free, free_awaits, frame_free, followed_on, followed_off, chained_still, chained_more}
+use Rattle.air_bus.proofs.ChainedWindows.{next_kept, chained_on}
 use Rattle.air_bus.proofs.OpenedByRows.{IsOfRows, rows_steps}
 use Rattle.air_bus.proofs.PlacesWithout.{awaiting, after_frame, unchanged}
 use Rattle.air_bus.proofs.RowsOfWindows.{open_first, begun_after, joined_after, gone_on_after, closed_after}
@@ -61,11 +63,14 @@ module _ (s : ScenarioParts) (clocks : ℕ → ℕ → ℕ) (air : List Entry) (
   moved_on logs p e same_logs same_p has = subst (λ (ls : List WindowLog). AreChained ls e.power) (sym same_logs) (subst (AreChained logs) (sym same_p) has)
 
   -- a node that is told something rests
-  rests : (t : ℕ) → AtTick s clocks air v t → (d : Device) (l : ScriptLine) (n : Node) → Now All s t Lines d → IsNextLine s v (clocks v) (heard_by air v) t l d → d.power ≡ PowerOn n → IsFree n.stage
+  rests : (t : ℕ) → AtTick s clocks air v t → (d : Device) (l : ScriptLine) (n : Node) → Now All s t Lines d
+      → IsNextLine s v (clocks v) (heard_by air v) t l d → d.power ≡ PowerOn n → IsFree n.stage
   rests t at d l n here next on =
-      resting_free n.stage (rests_at_start s clocks v t n (line_starts s at.run.driven.sound t l next.now) (on_in s clocks air v t Lines d n here.holds.0.0 on).frame)
+      resting_free n.stage (rests_at_start s clocks v t n (line_starts s at.run.driven.sound t l next.now)
+      (on_in s clocks air v t Lines d n here.holds.0.0 on).frame)
 
-  told : (t : ℕ) → AtTick s clocks air v t → (d : Device) (l : ScriptLine) (n : Node) (core : Core) → Now All s t Lines d → IsNextLine s v (clocks v) (heard_by air v) t l d → d.power ≡ PowerOn n
+  told : (t : ℕ) → AtTick s clocks air v t → (d : Device) (l : ScriptLine) (n : Node) (core : Core) → Now All s t Lines d
+      → IsNextLine s v (clocks v) (heard_by air v) t l d → d.power ≡ PowerOn n
       → Chained (with_new_core d n core)
   told t at d l n core here next on =
       let free = rests t at d l n here next on in
@@ -87,7 +92,8 @@ module _ (s : ScenarioParts) (clocks : ℕ → ℕ → ℕ) (air : List Entry) (
       let is = row_obeyed (clocks v) S t Alarm None (record d { alarm = None }) n r in
       let core = frame_ended S n.frame n.core in
       moved_on d.made.windows (PowerOn r.node) (after_row (clocks v) S t Alarm None (record d { alarm = None }) n r)
-      (is.windows ∙ unchanged t Alarm None n r.node n.stage r.node.stage d.made.windows (awaiting n.stage awaits) (after_frame core.tune (stopped_frame (n.frame + 1)))) is.power
+      (is.windows ∙ unchanged t Alarm None n r.node n.stage r.node.stage d.made.windows (awaiting n.stage awaits)
+      (after_frame core.tune (stopped_frame (n.frame + 1)))) is.power
       (chained_still d.made.windows d.power (PowerOn r.node) has (followed_on d.made.windows d.power n has on (awaiting_free n.stage awaits))
       (free_awaits d.made.windows r.node r.node.stage (frame_free core.tune (stopped_frame (n.frame + 1)))))
 
@@ -137,7 +143,8 @@ module _ (s : ScenarioParts) (clocks : ℕ → ℕ → ℕ) (air : List Entry) (
       slot_is : (j k : ℕ) → AwaitSlot j ≡ AwaitSlot k → j ≡ k
       slot_is j k is = cc
 
-      follows : (t : ℕ) (n : Node) (j : ℕ) (u : WindowLog) (c : Closing) → n.stage ≡ AwaitSlot j → IsBetween u c n → Follows u c (begun_log (setup_of s v) t n j)
+      follows : (t : ℕ) (n : Node) (j : ℕ) (u : WindowLog) (c : Closing) → n.stage ≡ AwaitSlot j → IsBetween u c n
+          → Follows u c (begun_log (setup_of s v) t n j)
       follows t n j u c stage between = record {
         by_alarm = refl;
         node = sym between.node;
@@ -147,20 +154,24 @@ module _ (s : ScenarioParts) (clocks : ℕ → ℕ → ℕ) (air : List Entry) (
       }
 
   -- what goes on in the open window
-  on_so : (t : ℕ) (d e : Device) (n m : Node) (j : ℕ) (w u : Window) (is : IsOpenFirst d.made.windows n j w) (happenings : _) → d.power ≡ PowerOn n → n.stage ≡ InWindow j w
-      → e.made.windows ≡ record (is.first) { happenings = happenings; last = u } ∷ is.earlier → e.power ≡ PowerOn m → m.stage ≡ InWindow j u → Chained d → Chained e
+  on_so : (t : ℕ) (d e : Device) (n m : Node) (j : ℕ) (w u : Window) (is : IsOpenFirst d.made.windows n j w) (happenings : _) → d.power ≡ PowerOn n
+      → n.stage ≡ InWindow j w
+      → e.made.windows ≡ record (is.first) { happenings = happenings; last = u } ∷ is.earlier → e.power ≡ PowerOn m → m.stage ≡ InWindow j u
+      → Chained d → Chained e
   on_so t d e n m j w u is happenings on stage logs power later has =
       let x = is.first in
       let before : AreChained (x ∷ is.earlier) d.power = subst (λ (l : List WindowLog). AreChained l d.power) is.is has in
       moved_on (record x { happenings = happenings; last = u } ∷ is.earlier) (PowerOn m) e logs power
-      (chained_on x is.earlier happenings u x.closed d.power (PowerOn m) before is.now.open_ (followed_on (x ∷ is.earlier) d.power n before on (subst IsFree (sym stage) tt))
+      (chained_on x is.earlier happenings u x.closed d.power (PowerOn m) before is.now.open_
+      (followed_on (x ∷ is.earlier) d.power n before on (subst IsFree (sym stage) tt))
       (λ c closed more. absurd (none_closed c (sym is.now.open_ ∙ closed)))
       (free_awaits (record x { happenings = happenings; last = u } ∷ is.earlier) m m.stage (subst IsFree (sym later) tt)))
     where
       none_closed : (c : Closing) → None ≡ Some c → ⊥
       none_closed c is = cc
 
-  closes_so : (t : ℕ) → AtTick s clocks air v t → (d : Device) (n : Node) (j : ℕ) (w : Window) → IsFine s clocks air v t Alarms d → d.power ≡ PowerOn n → n.stage ≡ InWindow j w
+  closes_so : (t : ℕ) → AtTick s clocks air v t → (d : Device) (n : Node) (j : ℕ) (w : Window) → IsFine s clocks air v t Alarms d → d.power ≡ PowerOn n
+      → n.stage ≡ InWindow j w
       → (is : IsOpenFirst d.made.windows n j w) → Chained d
       → Chained (after_row (clocks v) (setup_of s v) t Alarm None (record d { alarm = None }) n (window_closes (setup_of s v) n j w))
   closes_so t at d n j w fine on stage is has =
@@ -171,7 +182,8 @@ module _ (s : ScenarioParts) (clocks : ℕ → ℕ → ℕ) (air : List Entry) (
       let row = row_obeyed (clocks v) S t Alarm None (record d { alarm = None }) n r in
       let node : IsOn s clocks air v t (suc t) d n = on_in s clocks air v t Alarms d n fine on in
       let window : InOpenWindow s clocks air v (suc t) n d j w = subst (λ (st : Stage). WindowAt s clocks air v (suc t) n d st) stage node.window in
-      let rank : rank_at r.node ≡ rank_at n = closed_rank S n.frame w.part w.flood.initiated n.core (accepted_in w) (accepted_rank s clocks air v t at n j w window.accepted) in
+      let rank : rank_at r.node ≡ rank_at n = closed_rank S n.frame w.part w.flood.initiated n.core (accepted_in w)
+      (accepted_rank s clocks air v t at n j w window.accepted) in
       let between : nat_lt j w.last ≡ true → IsBetween y c r.node = λ more. record {
         node = refl;
         awaits = ap (λ (b : Bool). if b then AwaitSlot (j + 1) else AwaitFrame) more ∙ ap AwaitSlot (let slot = is.now.slot in omega (arith, slot));
@@ -181,17 +193,24 @@ module _ (s : ScenarioParts) (clocks : ℕ → ℕ → ℕ) (air : List Entry) (
       let before : AreChained (x ∷ is.earlier) d.power = subst (λ (l : List WindowLog). AreChained l d.power) is.is has in
       moved_on (y ∷ is.earlier) (PowerOn r.node) (after_row (clocks v) S t Alarm None (record d { alarm = None }) n r)
       (row.windows ∙ closed_after S (clocks v t) t n j w d.made.windows x is.earlier stage is.is) row.power
-      (chained_on x is.earlier x.happenings x.last (Some c) d.power (PowerOn r.node) before is.now.open_ (followed_on (x ∷ is.earlier) d.power n before on (subst IsFree (sym stage) tt))
+      (chained_on x is.earlier x.happenings x.last (Some c) d.power (PowerOn r.node) before is.now.open_
+      (followed_on (x ∷ is.earlier) d.power n before on (subst IsFree (sym stage) tt))
       (λ b closed more. subst (λ (k : Closing). IsWaiting y k (PowerOn r.node)) (same_closing c b closed)
-      (record { node = r.node; on = refl; between = between (lt-ltb j w.last (let slot = is.now.slot in let last = ap (λ (u : Window). u.last) is.now.last in omega (arith, slot, last, more))) }))
+      (record {
+        node = r.node;
+        on = refl;
+        between = between (lt-ltb j w.last (let slot = is.now.slot in let last = ap (λ (u : Window). u.last) is.now.last in omega (arith, slot, last, more)));
+      }))
       (awaits_by (nat_lt j w.last) refl y c is.earlier r.node refl between))
     where
       same_closing : (c b : Closing) → Some c ≡ Some b → c ≡ b
       same_closing c b is = cc
 
-      awaits_by : (b : Bool) → nat_lt j w.last ≡ b → (y : WindowLog) (c : Closing) (earlier : List WindowLog) (m : Node) → y.closed ≡ Some c → (nat_lt j w.last ≡ true → IsBetween y c m)
+      awaits_by : (b : Bool) → nat_lt j w.last ≡ b → (y : WindowLog) (c : Closing) (earlier : List WindowLog) (m : Node) → y.closed ≡ Some c
+          → (nat_lt j w.last ≡ true → IsBetween y c m)
           → AwaitsAt (y ∷ earlier) m (if nat_lt j w.last then AwaitSlot (j + 1) else AwaitFrame)
-      awaits_by b is y c earlier m closed between = subst (λ (q : Bool). AwaitsAt (y ∷ earlier) m (if q then AwaitSlot (j + 1) else AwaitFrame)) (sym is) (by_more b is)
+      awaits_by b is y c earlier m closed between = subst (λ (q : Bool). AwaitsAt (y ∷ earlier) m (if q then AwaitSlot (j + 1) else AwaitFrame))
+          (sym is) (by_more b is)
         where
           by_more : (b : Bool) → nat_lt j w.last ≡ b → AwaitsAt (y ∷ earlier) m (if b then AwaitSlot (j + 1) else AwaitFrame)
           by_more true is = inr (record { last = y; there = contains_head y earlier; closing = c; closed = closed; between = between is })
@@ -206,13 +225,17 @@ module _ (s : ScenarioParts) (clocks : ℕ → ℕ → ℕ) (air : List Entry) (
         boot = λ d l count here next act off. (k.boot d l count (base t Lines d here) next act off, comes_on t count d off here.holds.1);
         off = λ d l n here next act on. (
           k.off d l n (base t Lines d here) next act on,
-          chained_still d.made.windows d.power (PowerOff n.core.boot) here.holds.1 (followed_on d.made.windows d.power n here.holds.1 on (rests t at d l n here next on)) tt,
+          chained_still d.made.windows d.power (PowerOff n.core.boot) here.holds.1
+              (followed_on d.made.windows d.power n here.holds.1 on (rests t at d l n here next on)) tt,
         );
-        declaring = λ d l n i interval here next act on. (k.declaring d l n i interval (base t Lines d here) next act on, told t at d l n (declares i interval n.core) here next on);
+        declaring = λ d l n i interval here next act on.
+            (k.declaring d l n i interval (base t Lines d here) next act on, told t at d l n (declares i interval n.core) here next on);
         leaving = λ d l n i here next act on. (k.leaving d l n i (base t Lines d here) next act on, told t at d l n (leaves i n.core) here next on);
-        putting = λ d l n i payload here next act on taken. (k.putting d l n i payload (base t Lines d here) next act on taken, told t at d l n (queues i payload n.core) here next on);
+        putting = λ d l n i payload here next act on taken.
+            (k.putting d l n i payload (base t Lines d here) next act on taken, told t at d l n (queues i payload n.core) here next on);
         loss = λ d l i payload here next act lost. (k.loss d l i payload (base t Lines d here) next act lost, here.holds.1);
-        joining = λ d h n y here next on stage says rank. (k.joining d h n y (base t Hearings d here) next on stage says rank, joins_so t d h.packet n y on stage here.holds.1);
+        joining = λ d h n y here next on stage says rank.
+            (k.joining d h n y (base t Hearings d here) next on stage says rank, joins_so t d h.packet n y on stage here.holds.1);
         hearing = λ d h n j w here next on stage. (
           k.hearing d h n j w (base t Hearings d here) next on stage,
           (let is = open_first s clocks v (IsOfRows s clocks v) t d n j w on stage here.holds.0.1 in
@@ -220,7 +243,8 @@ module _ (s : ScenarioParts) (clocks : ℕ → ℕ → ℕ) (air : List Entry) (
               let u = hearing s.profile (rank_of n.core.tune) (c t) w h.packet in
               let row = row_obeyed c S t (Heard h.packet) None d n r in
               on_so t d (after_row c S t (Heard h.packet) None d n r) n r.node j w u is _ on stage
-              (row.windows ∙ gone_on_after S (c t) t (Heard h.packet) None n j w u r.node d.made.windows is.first is.earlier stage refl is.is) row.power refl here.holds.1),
+              (row.windows ∙ gone_on_after S (c t) t
+              (Heard h.packet) None n j w u r.node d.made.windows is.first is.earlier stage refl is.is) row.power refl here.holds.1),
         );
         sent = λ d x n j w here enters own ends on stage waiting. (
           k.sent d x n j w (base t End d here) enters own ends on stage waiting,
@@ -230,7 +254,8 @@ module _ (s : ScenarioParts) (clocks : ℕ → ℕ → ℕ) (air : List Entry) (
               let u : Window = record w { flood = after_sent w.flood } in
               let row = row_obeyed c S t Sent (Some x) dd n r in
               on_so t d (after_row c S t Sent (Some x) dd n r) n r.node j w u is _ on stage
-              (row.windows ∙ gone_on_after S (c t) t Sent (Some x) n j w u r.node d.made.windows is.first is.earlier stage refl is.is) row.power refl here.holds.1),
+              (row.windows ∙ gone_on_after S (c t) t Sent
+              (Some x) n j w u r.node d.made.windows is.first is.earlier stage refl is.is) row.power refl here.holds.1),
         );
         late_sent = λ d x n j w here enters own ends on stage idle. (
           k.late_sent d x n j w (base t End d here) enters own ends on stage idle,
@@ -254,7 +279,11 @@ module _ (s : ScenarioParts) (clocks : ℕ → ℕ → ℕ) (air : List Entry) (
     -- before each tick
     pub chained_before : (t : ℕ) → t ≤ run_end s → Chained (device_in s clocks air v t)
     unfolding before_tick
-    chained_before zero within = record { behind = λ w there alarm. absurd (not_in_none w there); ahead = λ u c there closed more. absurd (not_in_none u there); awaits = tt }
+    chained_before zero within = record {
+      behind = λ w there alarm. absurd (not_in_none w there);
+      ahead = λ u c there closed more. absurd (not_in_none u there);
+      awaits = tt;
+    }
     chained_before (suc t) within =
         let in_run : t < run_end s = omega (arith, within) in
         let at = at_tick s clocks air v (Rows s clocks v) rows run known t in_run in

@@ -1,5 +1,6 @@
 -- What one step makes of the chain of a node's windows, over plain lists.
-use Rattle.std.proofs.Common.{◌≡◌, ℕ, suc, ◌<◌, ◌⊎◌, inl, inr, List, ◌∷◌, Bool, true, false, ◌==◌, if◌then◌else◌, Some, None, Option, Contains, refl, sym, ◌∙◌, ap, subst}
+use Rattle.std.proofs.Common.{◌≡◌, ℕ, suc, ◌<◌, ◌⊎◌, inl, inr, List, ◌∷◌, Bool, true, false, ◌==◌, if◌then◌else◌, Some, None, Option, Contains, refl, sym, ◌∙◌}
+use Rattle.std.proofs.Common.{ap, subst}
 use Rattle.std.specs.Prelude.{⊤}
 use Rattle.bus_rules.specs.declared.tune.Tune.{Tune}
 use Rattle.bus_rules.specs.declared.tune.Tune.TheVariants.{Scan, Hold, Host}
@@ -160,7 +161,8 @@ module _ (x : WindowLog) (earlier : List WindowLog) (happenings : List Happening
       | inr old ↦ elim (has.behind w (contains_tail x earlier w old) alarm) [ inl first ↦ inl first | inr is ↦ inr (last_there open_ w is) ]
     ];
     ahead = λ u c there is more. elim (contains_cases later earlier u there) [
-      | inl same ↦ inr (subst (λ (y : WindowLog). IsWaiting y c q) same (waits c (ap (λ (y : WindowLog). y.closed) same ∙ is) (subst (λ (y : WindowLog). y.slot < y.last.last) (sym same) more)))
+      | inl same ↦ inr (subst (λ (y : WindowLog). IsWaiting y c q) same
+          (waits c (ap (λ (y : WindowLog). y.closed) same ∙ is) (subst (λ (y : WindowLog). y.slot < y.last.last) (sym same) more)))
       | inr old ↦ inl (next_there u c (all u c (contains_tail x earlier u old) is more))
     ];
     awaits = awaits;

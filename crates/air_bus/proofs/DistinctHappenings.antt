@@ -1,6 +1,7 @@
 -- Nothing happens twice in a window.
 use Rattle.std.specs.Bool.{⊤}
-use Rattle.std.proofs.Common.{◌≡◌, ℕ, zero, suc, ◌*◌, ◌/◌, ◌<◌, ◌≤◌, inl, inr, List, [], ◌∷◌, ◌++◌, true, ◌==◌, None, Contains, fold, map, refl, sym, ◌∙◌, ap, subst, arith, eqb-true}
+use Rattle.std.proofs.Common.{◌≡◌, ℕ, zero, suc, ◌*◌, ◌/◌, ◌<◌, ◌≤◌, inl, inr, List, [], ◌∷◌, ◌++◌, true, ◌==◌, None, Contains, fold, map, refl, sym, ◌∙◌, ap}
+use Rattle.std.proofs.Common.{subst, arith, eqb-true}
 use Rattle.std.proofs.lemmas.List.Elements.{Contains-append_cases, Contains-append_left, Contains-append_right}
 use Rattle.scenario_text.specs.ScenarioParts.{ScenarioParts}
 use Rattle.scenario_text.specs.FloodParts.{knows}
@@ -14,10 +15,9 @@ use Rattle.air_log.specs.ScriptedDevices.{after_line}
 use Rattle.air_log.specs.Lawful.{Lawful, heard_by}
 use Rattle.air_log.specs.Trails.{Reception, setup_of, run_end, before_tick, frame_start, ending_at, hears, scripted}
 use Rattle.air_log.specs.WindowLogs.{WindowLog, Happening, HeardAt, SentAt}
-use Rattle.air_log.proofs.Elements.{Distinct, not_in_none, contains_head, contains_cases, map_from}
+use Rattle.air_log.proofs.Elements.{Distinct, not_in_none, contains_head, contains_cases, map_from, filtered}
 use Rattle.air_safety.specs.Phases.{End, IsNextHearing, device_at}
 use Rattle.air_safety.specs.TrailLinks.{device_in}
-use Rattle.air_safety.proofs.FilteredElements.{filtered}
 use Rattle.air_invariant.specs.Invariant.{IsRun}
 use Rattle.air_invariant.specs.FloodSendings.{IsOfFlood}
 use Rattle.air_invariant.specs.KnownInRows.{IsHeardNow}
@@ -39,7 +39,10 @@ pushed_distinct [] x all none = (λ there. not_in_none x there, tt)
 pushed_distinct {X = X} (y ∷ xs) x all none = (
   λ there. elim (Contains-append_cases xs (x ∷ []) y there) [
     | inl old ↦ all.0 old
-    | inr new ↦ elim (contains_cases x [] y new) [ inl same ↦ none (subst (Contains (y ∷ xs)) (sym same) (contains_head y xs)) | inr nothing ↦ not_in_none y nothing ]
+    | inr new ↦ elim (contains_cases x [] y new) [
+      | inl same ↦ none (subst (Contains (y ∷ xs)) (sym same) (contains_head y xs))
+      | inr nothing ↦ not_in_none y nothing
+    ]
   ],
   pushed_distinct xs x all.1 (λ there. none (contains_later y xs x there)),
 )
@@ -57,12 +60,14 @@ packet_of t u p q is = cc
 not_sent : (t u : ℕ) (p q : List ℕ) → HeardAt t p ≡ SentAt u q → ⊥
 not_sent t u p q is = cc
 
-module _ (rows : AllRows) (s : ScenarioParts) (clocks : ℕ → ℕ → ℕ) (air : List Entry) (run : IsRun s clocks air) (lawful : Lawful s clocks air) (v : ℕ) (known : knows s.nodes v ≡ true) where
+module _ (rows : AllRows) (s : ScenarioParts) (clocks : ℕ → ℕ → ℕ) (air : List Entry) (run : IsRun s clocks air) (lawful : Lawful s clocks air) (v : ℕ)
+    (known : knows s.nodes v ≡ true) where
   abbrev Histories : ℕ → ℕ → WindowLog → Type 0
   Histories now taken w = IsHistory s clocks air v now w
 
   -- before a tick all that happened is past
-  past : (t : ℕ) → t ≤ run_end s → (w : WindowLog) → Contains (device_in s clocks air v t).made.windows w → (e : Happening) → Contains w.happenings e → tick_of e < t
+  past : (t : ℕ) → t ≤ run_end s → (w : WindowLog) → Contains (device_in s clocks air v t).made.windows w → (e : Happening) → Contains w.happenings e
+      → tick_of e < t
   unfolding before_tick
   past zero within w there e in_it = absurd (not_in_none w there)
   past (suc t) within w there e in_it =
@@ -83,20 +88,26 @@ module _ (rows : AllRows) (s : ScenarioParts) (clocks : ℕ → ℕ → ℕ) (ai
         record { each = λ w there. tt; past = have.past; apart = have.apart; stand = have.stand; delivered = have.delivered }
 
     -- an open window, behind some of the hearings of the tick: what happened in it now are some of these
-    module _ (taken : List Reception) (d : Device) (is : d ≡ fold (hears (clocks v) (setup_of s v) t) d0 taken) (w : WindowLog) (there : Contains d.made.windows w) (open_ : w.closed ≡ None) where
+    module _ (taken : List Reception) (d : Device) (is : d ≡ fold (hears (clocks v) (setup_of s v) t) d0 taken) (w : WindowLog)
+        (there : Contains d.made.windows w) (open_ : w.closed ≡ None) where
       come : HasComeOf t d0.made.windows taken w
       come = (grown s clocks v t taken d0 has).1 w (subst (λ (e : Device). Contains e.made.windows w) is there)
 
       pub heard_now : (e : Happening) → Contains w.happenings e → tick_of e ≡ t → (h : Reception) × Contains taken h × (heard_at t h ≡ e)
       heard_now e in_it now = elim come [
         | inl old ↦ absurd (open_not w.closed open_ old.1)
-        | inr (inl grew) ↦ elim (Contains-append_cases grew.old.happenings (map (heard_at t) taken) e (subst (λ (es : List Happening). Contains es e) grew.happenings in_it)) [
-          | inl before ↦ absurd (let early = past t within grew.old grew.there e before in omega (arith, early, now))
-          | inr new ↦ heard_one t taken e new
-        ]
+        | inr (inl grew) ↦ elim
+            (Contains-append_cases grew.old.happenings (map (heard_at t) taken) e (subst (λ (es : List Happening). Contains es e) grew.happenings in_it)) [
+              | inl before ↦ absurd (let early = past t within grew.old grew.there e before in omega (arith, early, now))
+              | inr new ↦ heard_one t taken e new
+            ]
         | inr (inr joined) ↦ (
-            let one = heard_one t (joined.first ∷ joined.later) e (subst (λ (es : List Happening). Contains es e) joined.happenings in_it) in
-            (one.0, subst (λ (l : List Reception). Contains l one.0) (sym joined.is) (Contains-append_right joined.earlier (joined.first ∷ joined.later) one.0 one.1), one.2)
+            let one = heard_one t (joined.first ∷ joined.later) e (subst (λ (es : List Happening). Contains es e) joined.happenings in_it) in (
+              one.0,
+              subst (λ (l : List Reception). Contains l one.0) (sym joined.is)
+                  (Contains-append_right joined.earlier (joined.first ∷ joined.later) one.0 one.1),
+              one.2,
+            )
             )
       ]
 
@@ -122,14 +133,17 @@ module _ (rows : AllRows) (s : ScenarioParts) (clocks : ℕ → ℕ → ℕ) (ai
         same_reception a b packet end = ap (λ (p : List ℕ). of_parts p a.end) packet ∙ ap (λ (k : ℕ). of_parts b.packet k) end
 
     -- and no own sending has ended at this tick yet
-    ends_new : (d : Device) (y : Sending) (w : WindowLog) → IsFine s clocks air v t End d → d ≡ device_at s v (clocks v) (heard_by air v) t End → Contains (sendings_of air) y → y.start < t → y.end ≡ t
+    ends_new : (d : Device) (y : Sending) (w : WindowLog) → IsFine s clocks air v t End d → d ≡ device_at s v (clocks v) (heard_by air v) t End
+        → Contains (sendings_of air) y → y.start < t → y.end ≡ t
         → IsOfFlood s clocks air y → Contains d.made.windows w → w.closed ≡ None → Contains w.happenings (SentAt t y.packet) → ⊥
     ends_new d y w fine enters sent early ends flood there open_ in_it =
         let from = after_frame_start s clocks air at.run y flood sent in
         let until = before_frame_end s clocks air at.run y flood sent in
-        let frame : t / s.profile.frame ≡ frame_of s.profile y = frame_is s (frame_of s.profile y) t (omega (arith, from, early)) (omega (arith, until, ends)) in
+        let frame : t / s.profile.frame ≡ frame_of s.profile y =
+        frame_is s (frame_of s.profile y) t (omega (arith, from, early)) (omega (arith, until, ends)) in
         let began : frame_start s (t / s.profile.frame) < t = omega (arith, from, early, ap (λ (f : ℕ). f * s.profile.frame) frame) in
-        let untold : scripted s v (clocks v) t d0 ≡ d0 = ap (λ (ls : List ScriptLine). fold (after_line (clocks v) (setup_of s v) t) d0 ls) (none_in_frame s clocks air v t at began) in
+        let untold : scripted s v (clocks v) t d0 ≡ d0 =
+        ap (λ (ls : List ScriptLine). fold (after_line (clocks v) (setup_of s v) t) d0 ls) (none_in_frame s clocks air v t at began) in
         let hs = ending_at t (heard_by air v) in
         let is : d ≡ fold (hears (clocks v) (setup_of s v) t) d0 hs = enters ∙ ap (λ (e : Device). fold (hears (clocks v) (setup_of s v) t) e hs) untold in
         let one = heard_now hs d is w there open_ (SentAt t y.packet) in_it refl in
@@ -139,7 +153,8 @@ module _ (rows : AllRows) (s : ScenarioParts) (clocks : ℕ → ℕ → ℕ) (ai
     distinct_steps = record {
       begun = λ d n j fine due on stage. tt;
       joined = λ d h n y fine next now on stage says rank. (λ there. not_in_none (HeardAt t h.packet) there, tt);
-      heard = λ d h n j w x here next now on stage is in_it known. pushed_distinct x.happenings (HeardAt t h.packet) known (hears_new d h x next now in_it is.open_);
+      heard = λ d h n j w x here next now on stage is in_it known. pushed_distinct x.happenings (HeardAt t h.packet) known
+          (hears_new d h x next now in_it is.open_);
       taken = λ d fine is before now x there. now.each x there;
       sent = λ d y n j w x fine enters own ends on stage waiting is in_it known. pushed_distinct x.happenings (SentAt t y.packet) known
           (ends_new d y x fine enters (in_air s clocks air v t at d y n j w x fine enters own ends on stage is).0

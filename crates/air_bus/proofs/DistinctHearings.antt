@@ -1,5 +1,6 @@
 -- A node hears nothing twice, so no two receptions of it are the same.
-use Rattle.std.proofs.Common.{◌≡◌, ℕ, suc, ◌-◌, ◌⊎◌, inl, inr, List, [], ◌∷◌, ◌++◌, Bool, ◌==◌, Some, Option, Contains, filter, map, length, sym, ◌∙◌, ap, subst, arith, eqb-true}
+use Rattle.std.proofs.Common.{◌≡◌, ℕ, suc, ◌-◌, ◌⊎◌, inl, inr, List, [], ◌∷◌, ◌++◌, Bool, ◌==◌, Some, Option, Contains, filter, map, length, sym, ◌∙◌, ap}
+use Rattle.std.proofs.Common.{subst, arith, eqb-true}
 use Rattle.std.proofs.lemmas.Bool.{cond_both}
 use Rattle.radio_model.specs.declared.sending.Sending.{Sending}
 use Rattle.radio_model.specs.OnAir.{Hearing}
@@ -10,11 +11,10 @@ use Rattle.air_log.specs.Entries.{hearings_of, IsHeard}
 use Rattle.air_log.specs.Devices.{Listening}
 use Rattle.air_log.specs.Lawful.{Lawful, comes_before, put_in, by_end, reception_of, hearings_by, heard_by}
 use Rattle.air_log.specs.Trails.{Reception, ending_at}
-use Rattle.air_log.proofs.Elements.{Distinct, not_in_none, contains_head, contains_tail, contains_cases, distinct_from_pairs, map_from}
+use Rattle.air_log.proofs.Elements.{Distinct, not_in_none, contains_head, contains_tail, contains_cases, distinct_from_pairs, map_from, filtered}
 use Rattle.air_log.proofs.SendingsKept.{profile_lasts}
 use Rattle.air_safety.specs.Obeying.{channel_of}
 use Rattle.air_safety.specs.TrailLinks.{ListensSince, device_in}
-use Rattle.air_safety.proofs.FilteredElements.{filtered}
 use Rattle.air_safety.proofs.SentInTrails.{sent_lasts}
 use Rattle.air_safety.proofs.TunedInTrails.{tuned_listens}
 use Rattle.air_invariant.specs.Invariant.{IsRun}
@@ -93,10 +93,15 @@ module _ (s : ScenarioParts) (clocks : ℕ → ℕ → ℕ) (air : List Entry) (
       let x_some = profile_lasts s.profile run.driven.sound.profile (length x.packet) in
       let y_some = profile_lasts s.profile run.driven.sound.profile (length y.packet) in
       let k : ℕ = x.end - 1 in
-      let on_x : ListensSince x.rank k (device_in s clocks air v (suc k)) = tuned_listens s clocks air run.heedful.trails v x.rank k (a.tuned k (omega (arith, x_lasts.1, x_some)) (omega (arith, x_lasts.1, x_some))) in
-      let on_y : ListensSince y.rank k (device_in s clocks air v (suc k)) = tuned_listens s clocks air run.heedful.trails v y.rank k (b.tuned k (omega (arith, y_lasts.1, y_some, same)) (omega (arith, y_lasts.1, y_some, same))) in
-      let of_x : channel_of (device_in s clocks air v (suc k)).listening ≡ Some x.rank = ap (λ (l : Option Listening). channel_of l) on_x.is ∙ ap (λ (r : ℕ). Some r) on_x.channel in
-      let of_y : channel_of (device_in s clocks air v (suc k)).listening ≡ Some y.rank = ap (λ (l : Option Listening). channel_of l) on_y.is ∙ ap (λ (r : ℕ). Some r) on_y.channel in
+      let on_x : ListensSince x.rank k (device_in s clocks air v (suc k)) =
+      tuned_listens s clocks air run.heedful.trails v x.rank k (a.tuned k (omega (arith, x_lasts.1, x_some)) (omega (arith, x_lasts.1, x_some))) in
+      let on_y : ListensSince y.rank k (device_in s clocks air v (suc k)) =
+      tuned_listens s clocks air run.heedful.trails v y.rank k
+      (b.tuned k (omega (arith, y_lasts.1, y_some, same)) (omega (arith, y_lasts.1, y_some, same))) in
+      let of_x : channel_of (device_in s clocks air v (suc k)).listening ≡ Some x.rank = ap (λ (l : Option Listening). channel_of l) on_x.is
+      ∙ ap (λ (r : ℕ). Some r) on_x.channel in
+      let of_y : channel_of (device_in s clocks air v (suc k)).listening ≡ Some y.rank = ap (λ (l : Option Listening). channel_of l) on_y.is
+      ∙ ap (λ (r : ℕ). Some r) on_y.channel in
       some_rank x.rank y.rank (sym of_x ∙ of_y)
 
   -- and is one, if it is the same packet
@@ -133,7 +138,8 @@ module _ (s : ScenarioParts) (clocks : ℕ → ℕ → ℕ) (air : List Entry) (
   distinct_receptions t =
       let all : Distinct (hearings_of air) = distinct_from_pairs (hearings_of air) lawful.hearing.once in
       let own : Distinct (hearings_by air v) = filter_distinct (λ (h : Hearing). h.node == v) (hearings_of air) all in
-      filter_distinct (λ (h : Reception). h.end == t) (heard_by air v) (map_distinct reception_of (by_end (hearings_by air v)) tells (sorted_distinct (hearings_by air v) own))
+      filter_distinct (λ (h : Reception). h.end == t) (heard_by air v)
+      (map_distinct reception_of (by_end (hearings_by air v)) tells (sorted_distinct (hearings_by air v) own))
     where
       of_v : (g : Hearing) → Contains (by_end (hearings_by air v)) g → IsHeard air v g.sending × (g.node ≡ v)
       of_v g there =
@@ -148,5 +154,6 @@ module _ (s : ScenarioParts) (clocks : ℕ → ℕ → ℕ) (air : List Entry) (
       tells a b first second same =
           let x = of_v a first in
           let y = of_v b second in
-          let sending : a.sending ≡ b.sending = same_heard a.sending b.sending x.0 y.0 (ap (λ (h : Reception). h.end) same) (ap (λ (h : Reception). h.packet) same) in
+          let sending : a.sending ≡ b.sending = same_heard a.sending b.sending x.0 y.0 (ap (λ (h : Reception). h.end) same)
+          (ap (λ (h : Reception). h.packet) same) in
           ap (λ (u : ℕ). of_parts u a.sending) (x.1 ∙ sym y.1) ∙ ap (λ (z : Sending). of_parts b.node z) sending

@@ -43,9 +43,13 @@ same_flood f (Heard x ∷ es) = same_flood (after f (Heard x)) es
 same_flood f (Ended x ∷ es) = same_flood (after f (Ended x)) es
 
 -- the occasion of an event among others
-pub occasion_at : (f : FloodState) (first : List Event) (e : Event) (rest : List Event) → Contains (occasions f (first ++ e ∷ rest)) (record { before = after_all f first; event = e })
+pub occasion_at : (f : FloodState) (first : List Event) (e : Event) (rest : List Event) → Contains (occasions f (first ++ e ∷ rest)) (record {
+  before = after_all f first;
+  event = e;
+})
 occasion_at f [] e rest = contains_head (record { before = f; event = e }) (occasions (after f e) rest)
-occasion_at f (d ∷ first) e rest = contains_tail (record { before = f; event = d }) (occasions (after f d) (first ++ e ∷ rest)) _ (occasion_at (after f d) first e rest)
+occasion_at f (d ∷ first) e rest = contains_tail (record { before = f; event = d }) (occasions (after f d) (first ++ e ∷ rest)) _
+    (occasion_at (after f d) first e rest)
 
 pub record IsOccasion (f : FloodState) (es : List Event) (o : Occasion) : Type 0 where
   pub first : List Event
@@ -57,5 +61,10 @@ pub occasion_of : (f : FloodState) (es : List Event) (o : Occasion) → Contains
 occasion_of f [] o there = absurd (not_in_none o there)
 occasion_of f (e ∷ es) o there = elim (contains_cases (record { before = f; event = e }) (occasions (after f e) es) o there) [
   | inl same ↦ record { first = []; rest = es; is = ap (λ (p : Occasion). p.event ∷ es) same; before = sym (ap (λ (p : Occasion). p.before) same) }
-  | inr later ↦ (let c = occasion_of (after f e) es o later in record { first = e ∷ c.first; rest = c.rest; is = ap (λ (l : List Event). e ∷ l) c.is; before = c.before })
+  | inr later ↦ (let c = occasion_of (after f e) es o later in record {
+    first = e ∷ c.first;
+    rest = c.rest;
+    is = ap (λ (l : List Event). e ∷ l) c.is;
+    before = c.before;
+  })
 ]

@@ -1,21 +1,18 @@
 -- The first windows of a frame open at their node as the frame has found it.
-use Rattle.std.proofs.Common.{◌≡◌, ℕ, zero, suc, ◌+◌, ◌/◌, ◌<◌, ◌≤◌, inl, inr, List, ◌∷◌, Bool, true, false, ◌==◌, nat_lt, if◌then◌else◌, min, Some, None, Option, Contains, refl, sym, ◌∙◌, ap, subst, arith, true≢false}
-use Rattle.std.proofs.lemmas.Bool.{cases_lt}
+use Rattle.std.proofs.Common.{◌≡◌, ℕ, zero, suc, ◌+◌, ◌/◌, ◌<◌, ◌≤◌, inl, inr, List, ◌∷◌, true, nat_lt, Some, None}
+use Rattle.std.proofs.Common.{Option, Contains, refl, sym, ◌∙◌, subst, arith, true≢false}
 use Rattle.lwb_base.specs.Messages.{Schedule}
 use Rattle.lwb_base.specs.declared.event.Event.{Event}
 use Rattle.lwb_base.specs.declared.event.Event.TheVariants.{Boot, Alarm, Heard, Sent}
 use Rattle.glossy_relay.specs.Relaying.{after_sent}
 use Rattle.radio_model.specs.declared.sending.Sending.{Sending}
-use Rattle.bus_rules.specs.declared.tune.Tune.{Tune}
-use Rattle.bus_rules.specs.declared.tune.Tune.TheVariants.{Scan, Hold, Host}
 use Rattle.bus_rules.specs.Tuning.{rank_of}
 use Rattle.bus_rules.specs.Cores.{Setup, frame_ended}
 use Rattle.bus_rules.specs.States.{declares, leaves, queues}
-use Rattle.node_core.specs.declared.stage.Stage.{Stage}
-use Rattle.node_core.specs.declared.stage.Stage.TheVariants.{Idle, Scanning, AwaitFrame, AwaitSlot, InWindow}
+use Rattle.node_core.specs.declared.stage.Stage.TheVariants.{Scanning, AwaitSlot}
 use Rattle.node_core.specs.Windows.{Window}
 use Rattle.node_core.specs.Nodes.{Node, rebooted, stopped_frame}
-use Rattle.node_core.specs.Rows.{Stepped, boots, frame_alarms, window_opens, window_closes, window_hears, joins, sends, hearing, stage_for}
+use Rattle.node_core.specs.Rows.{Stepped, boots, frame_alarms, window_opens, window_closes, window_hears, joins, sends, hearing}
 use Rattle.scenario_text.specs.ScenarioParts.{ScenarioParts}
 use Rattle.scenario_text.specs.FloodParts.{knows}
 use Rattle.scenario_text.specs.declared.script.ScriptLine.{ScriptLine}
@@ -24,22 +21,19 @@ use Rattle.air_log.specs.WindowLogs.{WindowLog, Happening, Closing}
 use Rattle.air_log.specs.Devices.{Device, Power, PowerOff, PowerOn}
 use Rattle.air_log.specs.ScriptedDevices.{switched_on}
 use Rattle.air_log.specs.Lawful.{heard_by}
-use Rattle.air_log.specs.Trails.{Reception, setup_of, run_end, frame_start, at_frame, scripted, before_tick}
+use Rattle.air_log.specs.Trails.{Reception, setup_of, run_end, before_tick}
 use Rattle.air_log.proofs.Elements.{not_in_none, contains_head, contains_tail, contains_cases}
-use Rattle.air_safety.specs.Phases.{Phase, Lines, Hearings, End, Alarms, Start, Over, IsNextLine, next_phase, device_at}
+use Rattle.air_safety.specs.Phases.{Phase, Lines, Hearings, End, Alarms, Start, Over, IsNextLine}
 use Rattle.air_safety.specs.Walks.{Now, Keeps, after_row}
 use Rattle.air_safety.specs.TrailLinks.{device_in}
-use Rattle.air_safety.proofs.RowsOfDevices.{row_obeyed, row_power}
+use Rattle.air_safety.proofs.RowsOfDevices.{row_obeyed}
 use Rattle.air_safety.proofs.WalkOfRun.{holds_in_tick}
-use Rattle.air_invariant.specs.CountedFrames.{InFrame}
 use Rattle.air_invariant.specs.Invariant.{IsRun}
 use Rattle.air_invariant.specs.KnownInRows.{IsHeardNow}
 use Rattle.air_invariant.specs.Rows.{AtTick, AllRows}
 use Rattle.air_invariant.proofs.AwaitedSlots.{awaits, frame_now as opens_now}
-use Rattle.air_invariant.proofs.FrameStarts.{line_starts}
 use Rattle.air_invariant.proofs.HeardNow.{heard_in_floods}
 use Rattle.air_invariant.proofs.HeardPlaces.{frame_now}
-use Rattle.air_invariant.proofs.RunFacts.{frame_is, frame_begins, frame_ends, frame_in_run}
 use Rattle.air_invariant.proofs.InvariantHolds.{all_rows}
 use Rattle.air_bus.specs.WindowLaws.{FramesBeginSo}
 use Rattle.air_bus.specs.WindowStarts.{IsAtStart, ComesFirst, UnchangedAt, UnchangedBy, UnchangedIn}
@@ -48,9 +42,8 @@ use Rattle.air_bus.proofs.WindowWalk.{P, keeps, on_in, fine_before, waits, windo
 use Rattle.air_bus.proofs.PlacesWithout.{awaiting, after_frame, unchanged}
 use Rattle.air_bus.proofs.RowsOfWindows.{open_first, begun_after, joined_after, gone_on_after, closed_after}
 use Rattle.air_bus.proofs.OpenedByRows.{IsOfRows, rows_steps}
-
-abbrev Rows : ScenarioParts → (ℕ → ℕ → ℕ) → ℕ → ℕ → ℕ → WindowLog → Type 0
-Rows s clocks v now taken w = IsOfRows s clocks v w
+use Rattle.air_bus.proofs.UnchangedNodes.{Rows, ends_frame, closes, goes_on, passes}
+use Rattle.air_bus.proofs.UnchangedNodes as UnchangedNodes
 
 module _ (s : ScenarioParts) (clocks : ℕ → ℕ → ℕ) (air : List Entry) (v : ℕ) where
   abbrev S : Setup
@@ -65,90 +58,27 @@ module _ (s : ScenarioParts) (clocks : ℕ → ℕ → ℕ) (air : List Entry) (
   abbrev All : ℕ → Phase → Device → Type 0
   All t phase d = P s clocks air v (Rows s clocks v) t phase d × Unchanged t phase d × Firsts d.made.windows
 
-  base : (t : ℕ) (phase : Phase) (d : Device) → Now All s t phase d → Now (P s clocks air v (Rows s clocks v)) s t phase d
-  base t phase d now = record { in_run = now.in_run; known = now.known; holds = now.holds.0 }
+  abbrev base : (t : ℕ) (phase : Phase) (d : Device) → Now All s t phase d → Now (P s clocks air v (Rows s clocks v)) s t phase d
+  base = UnchangedNodes.base s clocks air v
 
-  -- no line is told within a frame
-  at_lines : (t : ℕ) → AtTick s clocks air v t → (d : Device) (l : ScriptLine) → IsNextLine s v (clocks v) (heard_by air v) t l d → (p : Power) → UnchangedIn s clocks air v t Lines p
-  at_lines t at d l next p began = absurd (let start = line_starts s at.run.driven.sound t l next.now in omega (arith, began, start))
+  abbrev at_lines : (t : ℕ) → AtTick s clocks air v t → (d : Device) (l : ScriptLine) → IsNextLine s v (clocks v) (heard_by air v) t l d → (p : Power)
+      → UnchangedIn s clocks air v t Lines p
+  at_lines = UnchangedNodes.at_lines s clocks air v
 
-  -- behind a row whose node is at another place
-  row_leaves : (t : ℕ) (e : Event) (x : Option Sending) (d : Device) (n : Node) (r : Stepped) → UnchangedAt s clocks air v (t / s.profile.frame) r.node r.node.stage
+  abbrev row_leaves : (t : ℕ) (e : Event) (x : Option Sending) (d : Device) (n : Node) (r : Stepped)
+      → UnchangedAt s clocks air v (t / s.profile.frame) r.node r.node.stage
       → UnchangedBy s clocks air v (t / s.profile.frame) (after_row (clocks v) (setup_of s v) t e x d n r).power
-  row_leaves t e x d n r is = subst (UnchangedBy s clocks air v (t / s.profile.frame)) (sym (row_power (clocks v) S t e x d n r)) is
-
-  -- the next frame is not this one
-  next_frame : (f : ℕ) (n : Node) (tune : Tune) → (n.frame ≡ f → ⊥) → UnchangedAt s clocks air v f n (stage_for tune n.frame)
-  next_frame f n (Scan r waited) other = λ same. absurd (other same)
-  next_frame f n (Hold r due) other = by_test (due == n.frame)
-    where
-      by_test : (b : Bool) → UnchangedAt s clocks air v f n (if b then AwaitSlot 0 else AwaitFrame)
-      by_test true = λ first same. absurd (other same)
-      by_test false = tt
-  next_frame f n (Host r due) other = by_test (due == n.frame)
-    where
-      by_test : (b : Bool) → UnchangedAt s clocks air v f n (if b then AwaitSlot 0 else AwaitFrame)
-      by_test true = λ first same. absurd (other same)
-      by_test false = tt
-
-  ends_frame : (t : ℕ) → AtTick s clocks air v t → (d : Device) (n : Node) → InFrame s clocks v t n
-      → UnchangedBy s clocks air v (t / s.profile.frame) (after_row (clocks v) (setup_of s v) t Alarm None (record d { alarm = None }) n (frame_alarms (setup_of s v) n)).power
-  ends_frame t at d n frame =
-      let r = frame_alarms S n in
-      let core = frame_ended S n.frame n.core in
-      let early = frame_in_run s at.run.driven.sound t at.in_run in
-      let from : t / s.profile.frame ≤ n.frame = elim frame.at [ inl now ↦ omega (arith, now) | inr over ↦ (let next = over.frame in omega (arith, next)) ] in
-      let until : n.frame ≤ t / s.profile.frame + 1 = elim frame.at [ inl now ↦ omega (arith, now) | inr over ↦ (let next = over.frame in omega (arith, next)) ] in
-      row_leaves t Alarm None (record d { alarm = None }) n r
-      (next_frame (t / s.profile.frame) r.node core.tune (λ same. (let counted : min (n.frame + 1) 16777215 ≡ t / s.profile.frame = same in omega (arith, counted, from, until, early))))
-
-  -- a window closes
-  closes : (f : ℕ) (m : Node) (j : ℕ) (b : Bool) → UnchangedAt s clocks air v f m (if b then AwaitSlot (j + 1) else AwaitFrame)
-  closes f m j true = λ first. absurd (omega (arith, first))
-  closes f m j false = tt
-
-  -- to the next phase
-  goes_on : (t : ℕ) → AtTick s clocks air v t → (phase : Phase) (d : Device) → Unchanged t phase d → d ≡ device_at s v (clocks v) (heard_by air v) t (next_phase phase) → Unchanged t (next_phase phase) d
-  goes_on t at Lines d is enters = elim (cases_lt (frame_start s (t / s.profile.frame)) t) [
-    | inl began ↦ is began
-    | inr late ↦ (
-        let begins = frame_begins s at.run.driven.sound t in
-        let start : frame_start s (t / s.profile.frame) ≡ t = omega (arith, late, begins) in
-        let found : (at_frame s v (clocks v) (heard_by air v) (t / s.profile.frame)).power ≡ d.power =
-        ap (λ (u : ℕ). (scripted s v (clocks v) u (before_tick s v (clocks v) (heard_by air v) u)).power) start ∙ sym (ap (λ (e : Device). e.power) enters) in
-        as_found d.power found
-        )
-  ]
-    where
-      as_found : (p : Power) → (at_frame s v (clocks v) (heard_by air v) (t / s.profile.frame)).power ≡ p → UnchangedBy s clocks air v (t / s.profile.frame) p
-      as_found (PowerOff boots) found = tt
-      as_found (PowerOn n) found = at_stage n found n.stage
-        where
-          at_stage : (n : Node) → (at_frame s v (clocks v) (heard_by air v) (t / s.profile.frame)).power ≡ PowerOn n → (st : Stage) → UnchangedAt s clocks air v (t / s.profile.frame) n st
-          at_stage n found Idle = tt
-          at_stage n found Scanning = λ same. found
-          at_stage n found AwaitFrame = tt
-          at_stage n found (AwaitSlot j) = λ first same. found
-          at_stage n found (InWindow j w) = tt
-  goes_on t at Hearings d is enters = is
-  goes_on t at End d is enters = is
-  goes_on t at Alarms d is enters = is
-  goes_on t at Start d is enters = is
-  goes_on t at Over d is enters = is
-
-  -- and to the next tick
-  passes : (t : ℕ) → AtTick s clocks air v t → (d : Device) → Unchanged t Over d → Unchanged (suc t) Lines d
-  passes t at d is began =
-      let ends = frame_ends s at.run.driven.sound (suc t) in
-      let same : t / s.profile.frame ≡ suc t / s.profile.frame = frame_is s (suc t / s.profile.frame) t (omega (arith, began)) (omega (arith, ends)) in
-      subst (λ (f : ℕ). UnchangedBy s clocks air v f d.power) same is
+  row_leaves = UnchangedNodes.row_leaves s clocks air v
 
   -- the windows behind a row
   same_firsts : (logs logs' : List WindowLog) → logs' ≡ logs → Firsts logs → Firsts logs'
   same_firsts logs logs' same firsts = subst Firsts (sym same) firsts
 
   one_more : (logs : List WindowLog) (x : WindowLog) → ComesFirst s clocks air v x → Firsts logs → Firsts (x ∷ logs)
-  one_more logs x first firsts w there = elim (contains_cases x logs w there) [ inl same ↦ subst (ComesFirst s clocks air v) same first | inr old ↦ firsts w old ]
+  one_more logs x first firsts w there = elim (contains_cases x logs w there) [
+    | inl same ↦ subst (ComesFirst s clocks air v) same first
+    | inr old ↦ firsts w old
+  ]
 
   goes_still : (x : WindowLog) (earlier : List WindowLog) (happenings : List Happening) (last : Window) (closed : Option Closing) → Firsts (x ∷ earlier)
       → Firsts (record x { happenings = happenings; last = last; closed = closed } ∷ earlier)
@@ -157,24 +87,29 @@ module _ (s : ScenarioParts) (clocks : ℕ → ℕ → ℕ) (air : List Entry) (
       (let is = firsts x (contains_head x earlier) in record { opening = is.opening; joining = is.joining })
       (λ w there. firsts w (contains_tail x earlier w there))
 
-  opens_first : (t : ℕ) → AtTick s clocks air v t → (d : Device) (n : Node) (j : ℕ) → Now All s t Alarms d → d.alarm ≡ Some t → d.power ≡ PowerOn n → n.stage ≡ AwaitSlot j → ComesFirst s clocks air v (begun_log (setup_of s v) t n j)
+  opens_first : (t : ℕ) → AtTick s clocks air v t → (d : Device) (n : Node) (j : ℕ) → Now All s t Alarms d → d.alarm ≡ Some t → d.power ≡ PowerOn n
+      → n.stage ≡ AwaitSlot j → ComesFirst s clocks air v (begun_log (setup_of s v) t n j)
   opens_first t at d n j here due on stage =
-      let frame : n.frame ≡ t / s.profile.frame = opens_now s clocks air v t at d n j (awaits s clocks air v t d n j (on_in s clocks air v t Alarms d n here.holds.0.0 on) stage due) in
+      let frame : n.frame ≡ t / s.profile.frame = opens_now s clocks air v t at d n j
+      (awaits s clocks air v t d n j (on_in s clocks air v t Alarms d n here.holds.0.0 on) stage due) in
       record {
         opening = λ alarm first. (
-            let found = subst (UnchangedAt s clocks air v (t / s.profile.frame) n) stage (subst (UnchangedBy s clocks air v (t / s.profile.frame)) on here.holds.1) first frame in
+            let found = subst (UnchangedAt s clocks air v (t / s.profile.frame) n) stage
+            (subst (UnchangedBy s clocks air v (t / s.profile.frame)) on here.holds.1) first frame in
             subst (λ (f : ℕ). IsAtStart s clocks air v f n) (sym frame) found);
         joining = λ heard. absurd (true≢false heard);
       }
 
-  joins_first : (t : ℕ) → AtTick s clocks air v t → (d : Device) (h : Reception) (n : Node) (y : Schedule) → Now All s t Hearings d → IsHeardNow s clocks air v t h d → d.power ≡ PowerOn n → n.stage ≡ Scanning
+  joins_first : (t : ℕ) → AtTick s clocks air v t → (d : Device) (h : Reception) (n : Node) (y : Schedule) → Now All s t Hearings d
+      → IsHeardNow s clocks air v t h d → d.power ≡ PowerOn n → n.stage ≡ Scanning
       → ComesFirst s clocks air v (joined_log (setup_of s v) t (clocks v t) n h.packet y)
   joins_first t at d h n y here now on stage =
       let frame : n.frame ≡ t / s.profile.frame = frame_now s clocks air v t h d now n (on_in s clocks air v t Hearings d n here.holds.0.0 on) in
       record {
         opening = λ alarm first. absurd (true≢false (sym alarm));
         joining = λ heard. (
-            let found = subst (UnchangedAt s clocks air v (t / s.profile.frame) n) stage (subst (UnchangedBy s clocks air v (t / s.profile.frame)) on here.holds.1) frame in
+            let found = subst (UnchangedAt s clocks air v (t / s.profile.frame) n) stage
+            (subst (UnchangedBy s clocks air v (t / s.profile.frame)) on here.holds.1) frame in
             subst (λ (f : ℕ). IsAtStart s clocks air v f n) (sym frame) found);
       }
 
@@ -191,16 +126,26 @@ module _ (s : ScenarioParts) (clocks : ℕ → ℕ → ℕ) (air : List Entry) (
               same_firsts d.made.windows _ (row_obeyed c S t Boot None (record d { power = PowerOn n }) n (boots S n (c t))).windows here.holds.2),
         );
         off = λ d l n here next act on. (k.off d l n (base t Lines d here) next act on, at_lines t at d l next (PowerOff n.core.boot), here.holds.2);
-        declaring = λ d l n i interval here next act on. (k.declaring d l n i interval (base t Lines d here) next act on, at_lines t at d l next (PowerOn (record n { core = declares i interval n.core })), here.holds.2);
-        leaving = λ d l n i here next act on. (k.leaving d l n i (base t Lines d here) next act on, at_lines t at d l next (PowerOn (record n { core = leaves i n.core })), here.holds.2);
-        putting = λ d l n i payload here next act on taken. (k.putting d l n i payload (base t Lines d here) next act on taken, at_lines t at d l next (PowerOn (record n { core = queues i payload n.core })), here.holds.2);
+        declaring = λ d l n i interval here next act on. (
+          k.declaring d l n i interval (base t Lines d here) next act on,
+          at_lines t at d l next (PowerOn (record n { core = declares i interval n.core })),
+          here.holds.2,
+        );
+        leaving = λ d l n i here next act on.
+            (k.leaving d l n i (base t Lines d here) next act on, at_lines t at d l next (PowerOn (record n { core = leaves i n.core })), here.holds.2);
+        putting = λ d l n i payload here next act on taken. (
+          k.putting d l n i payload (base t Lines d here) next act on taken,
+          at_lines t at d l next (PowerOn (record n { core = queues i payload n.core })),
+          here.holds.2,
+        );
         loss = λ d l i payload here next act lost. (k.loss d l i payload (base t Lines d here) next act lost, here.holds.1, here.holds.2);
         joining = λ d h n y here next on stage says rank. (
           k.joining d h n y (base t Hearings d here) next on stage says rank,
           row_leaves t (Heard h.packet) None d n (joins S n (c t) h.packet y) tt,
           same_firsts (joined_log S t (c t) n h.packet y ∷ d.made.windows) _
               ((row_obeyed c S t (Heard h.packet) None d n (joins S n (c t) h.packet y)).windows ∙ joined_after S (c t) t n h.packet y d.made.windows stage)
-              (one_more d.made.windows (joined_log S t (c t) n h.packet y) (joins_first t at d h n y here (heard_in_floods s clocks air v t at h d next) on stage) here.holds.2),
+              (one_more d.made.windows (joined_log S t (c t) n h.packet y)
+              (joins_first t at d h n y here (heard_in_floods s clocks air v t at h d next) on stage) here.holds.2),
         );
         hearing = λ d h n j w here next on stage. (
           k.hearing d h n j w (base t Hearings d here) next on stage,
@@ -230,11 +175,12 @@ module _ (s : ScenarioParts) (clocks : ℕ → ℕ → ℕ) (air : List Entry) (
         sent_elsewhere = λ d x here enters own ends none. (k.sent_elsewhere d x (base t End d here) enters own ends none, here.holds.1, here.holds.2);
         frame_alarm = λ d n here due on awaits. (
           k.frame_alarm d n (base t Alarms d here) due on awaits,
-          ends_frame t at d n (on_in s clocks air v t Alarms d n here.holds.0.0 on).frame,
+          ends_frame s clocks air v t at d n (on_in s clocks air v t Alarms d n here.holds.0.0 on).frame,
           (let r = frame_alarms S n in
               let core = frame_ended S n.frame n.core in
               same_firsts d.made.windows _ ((row_obeyed c S t Alarm None (record d { alarm = None }) n r).windows
-              ∙ unchanged t Alarm None n r.node n.stage r.node.stage d.made.windows (awaiting n.stage awaits) (after_frame core.tune (stopped_frame (n.frame + 1)))) here.holds.2),
+              ∙ unchanged t Alarm None n r.node n.stage r.node.stage d.made.windows (awaiting n.stage awaits)
+              (after_frame core.tune (stopped_frame (n.frame + 1)))) here.holds.2),
         );
         opening = λ d n j here due on stage. (
           k.opening d n j (base t Alarms d here) due on stage,
@@ -245,16 +191,19 @@ module _ (s : ScenarioParts) (clocks : ℕ → ℕ → ℕ) (air : List Entry) (
         );
         closing = λ d n j w here due on stage. (
           k.closing d n j w (base t Alarms d here) due on stage,
-          row_leaves t Alarm None (record d { alarm = None }) n (window_closes S n j w) (closes (t / s.profile.frame) (window_closes S n j w).node j (nat_lt j w.last)),
+          row_leaves t Alarm None (record d { alarm = None }) n (window_closes S n j w)
+              (closes s clocks air v (t / s.profile.frame) (window_closes S n j w).node j (nat_lt j w.last)),
           (let is = open_first s clocks v (IsOfRows s clocks v) t d n j w on stage here.holds.0.1 in
-              same_firsts _ _ ((row_obeyed c S t Alarm None (record d { alarm = None }) n (window_closes S n j w)).windows ∙ closed_after S (c t) t n j w d.made.windows is.first is.earlier stage is.is)
+              same_firsts _ _ ((row_obeyed c S t Alarm None (record d { alarm = None }) n (window_closes S n j w)).windows
+              ∙ closed_after S (c t) t n j w d.made.windows is.first is.earlier stage is.is)
               (goes_still is.first is.earlier is.first.happenings is.first.last _ (subst Firsts is.is here.holds.2))),
         );
         alarm_elsewhere = λ d n here due on stage. (k.alarm_elsewhere d n (base t Alarms d here) due on stage, here.holds.1, here.holds.2);
         beginning = λ d o l here enters order due radio none. (k.beginning d o l (base t Start d here) enters order due radio none, here.holds.1, here.holds.2);
         missed_start = λ d o here enters order due cannot. (k.missed_start d o (base t Start d here) enters order due cannot, here.holds.1, here.holds.2);
-        onwards = λ phase d here enters known. (k.onwards phase d (base t phase d here) enters known, goes_on t at phase d here.holds.1 enters, here.holds.2);
-        passing = λ d here is. (k.passing d (base t Over d here) is, passes t at d here.holds.1, here.holds.2);
+        onwards = λ phase d here enters known.
+            (k.onwards phase d (base t phase d here) enters known, goes_on s clocks air v t at phase d here.holds.1 enters, here.holds.2);
+        passing = λ d here is. (k.passing d (base t Over d here) is, passes s clocks air v t at d here.holds.1, here.holds.2);
       }
 
   module _ (rows : AllRows) (run : IsRun s clocks air) (known : knows s.nodes v ≡ true) where

@@ -1,6 +1,7 @@
 -- What the hearings of a tick leave of a node's windows.
 use Rattle.std.specs.Bool.{⊤}
-use Rattle.std.proofs.Common.{◌≡◌, ℕ, ◌⊎◌, inl, inr, List, [], ◌∷◌, ◌++◌, true, ◌==◌, Some, None, Option, is_some, Contains, fold, map, refl, sym, ◌∙◌, ap, subst, true≢false}
+use Rattle.std.proofs.Common.{◌≡◌, ℕ, ◌⊎◌, inl, inr, List, [], ◌∷◌, ◌++◌, true, ◌==◌, Some, None, Option, is_some, Contains, fold, map, refl, sym, ◌∙◌, ap}
+use Rattle.std.proofs.Common.{subst, true≢false}
 use Rattle.std.proofs.lemmas.List.{append_assoc, append-nil}
 use Rattle.std.proofs.lemmas.Bool.{cond_both}
 use Rattle.lwb_base.specs.Messages.{Schedule}
@@ -14,7 +15,7 @@ use Rattle.node_core.specs.declared.stage.Stage.TheVariants.{Idle, Scanning, Awa
 use Rattle.node_core.specs.Windows.{Window}
 use Rattle.node_core.specs.Nodes.{Node}
 use Rattle.node_core.specs.Rows.{Stepped, joins, window_hears, hearing, scanner_hears, at_heard}
-use Rattle.node_core.specs.Runs.{orders_by}
+use Rattle.node_core.specs.Rows.{orders_by}
 use Rattle.scenario_text.specs.ScenarioParts.{ScenarioParts}
 use Rattle.air_log.specs.WindowLogs.{WindowLog, Happening, HeardAt, Closing}
 use Rattle.air_log.specs.Devices.{Device, Power, PowerOff, PowerOn, event_by, moved, stepped, obeyed}
@@ -73,7 +74,8 @@ module _ (s : ScenarioParts) (clocks : ℕ → ℕ → ℕ) (v t : ℕ) where
   unheard : (d e : Device) (h : Reception) → e ≡ d → AreClosed d.made.windows → Has d → Step d h e
   unheard d e h same closed has = subst (Step d h) (sym same) (has, λ x there. inl (there, closed x there))
 
-  no_row : (d : Device) (h : Reception) (n : Node) (st : Stage) → d.power ≡ PowerOn n → n.stage ≡ st → NoWindow st → Has d → Step d h (moved t (Heard h.packet) None d n None)
+  no_row : (d : Device) (h : Reception) (n : Node) (st : Stage) → d.power ≡ PowerOn n → n.stage ≡ st → NoWindow st → Has d
+      → Step d h (moved t (Heard h.packet) None d n None)
   no_row d h n st on stage none has =
       unheard d (moved t (Heard h.packet) None d n None) h
       (unmoved t (Heard h.packet) None d n on (subst NoWindow (sym stage) none))
@@ -85,11 +87,20 @@ module _ (s : ScenarioParts) (clocks : ℕ → ℕ → ℕ) (v t : ℕ) where
       let r = joins S n (clocks v t) h.packet y in
       let e = after_row (clocks v) S t (Heard h.packet) None d n r in
       let x = joined_log S t (clocks v t) n h.packet y in
-      let logs : e.made.windows ≡ x ∷ d.made.windows = (row_obeyed (clocks v) S t (Heard h.packet) None d n r).windows ∙ joined_after S (clocks v t) t n h.packet y d.made.windows stage in
+      let logs : e.made.windows ≡ x ∷ d.made.windows = (row_obeyed (clocks v) S t (Heard h.packet) None d n r).windows
+      ∙ joined_after S (clocks v t) t n h.packet y d.made.windows stage in
       let closed = all_closed d.made.windows n Scanning tt (subst (StandAt d.made.windows n) stage (subst (StandBy d.made.windows) on has.stand)) in (
         joins_in s clocks v (λ w. ⊤) t d n h.packet y on stage tt has,
         λ w there. elim (contains_cases x d.made.windows w (subst (λ (l : List WindowLog). Contains l w) logs there)) [
-          | inl same ↦ inr (inr (subst (HasJoined t (h ∷ [])) same (record { earlier = []; first = h; later = []; is = refl; opened = refl; happenings = refl; still = refl })))
+          | inl same ↦ inr (inr (subst (HasJoined t (h ∷ [])) same (record {
+            earlier = [];
+            first = h;
+            later = [];
+            is = refl;
+            opened = refl;
+            happenings = refl;
+            still = refl;
+          })))
           | inr old ↦ inl (old, closed w old)
         ],
       )
@@ -103,7 +114,8 @@ module _ (s : ScenarioParts) (clocks : ℕ → ℕ → ℕ) (v t : ℕ) where
       let is = open_first s clocks v (λ w. ⊤) t d n j w on stage has in
       let x : WindowLog = record (is.first) { happenings = is.first.happenings ++ HeardAt t h.packet ∷ []; last = u } in
       let logs : e.made.windows ≡ x ∷ is.earlier =
-      (row_obeyed (clocks v) S t (Heard h.packet) None d n r).windows ∙ gone_on_after S (clocks v t) t (Heard h.packet) None n j w u r.node d.made.windows is.first is.earlier stage refl is.is in (
+      (row_obeyed (clocks v) S t (Heard h.packet) None d n r).windows
+      ∙ gone_on_after S (clocks v t) t (Heard h.packet) None n j w u r.node d.made.windows is.first is.earlier stage refl is.is in (
         hears_in s clocks v (λ w. ⊤) t d n j w h.packet stage is has tt,
         λ z there. elim (contains_cases x is.earlier z (subst (λ (l : List WindowLog). Contains l z) logs there)) [
           | inl same ↦ inr (inl (subst (HasGrown t d.made.windows (h ∷ [])) same (record {
@@ -150,7 +162,8 @@ module _ (s : ScenarioParts) (clocks : ℕ → ℕ → ℕ) (v t : ℕ) where
   one d h (PowerOn n) on has = by_stage d h n n.stage on refl has
 
   -- one behind another
-  then_all : (d e : Device) (h : Reception) (hs : List Reception) → Step d h e → (x : WindowLog) → HasComeOf t e.made.windows hs x → HasComeOf t d.made.windows (h ∷ hs) x
+  then_all : (d e : Device) (h : Reception) (hs : List Reception) → Step d h e → (x : WindowLog) → HasComeOf t e.made.windows hs x
+      → HasComeOf t d.made.windows (h ∷ hs) x
   then_all d e h hs step x (inl old) = elim (step.1 x old.0) [
     | inl older ↦ inl older
     | inr new ↦ absurd (opens_not x old.1 new)
@@ -175,7 +188,8 @@ module _ (s : ScenarioParts) (clocks : ℕ → ℕ → ℕ) (v t : ℕ) where
       there = before.there;
       open_ = before.open_;
       opened = grown.opened ∙ before.opened;
-      happenings = grown.happenings ∙ ap (λ (l : List Happening). l ++ map (heard_at t) hs) before.happenings ∙ append_assoc before.old.happenings (heard_at t h ∷ []) (map (heard_at t) hs);
+      happenings = grown.happenings ∙ ap (λ (l : List Happening). l ++ map (heard_at t) hs) before.happenings
+          ∙ append_assoc before.old.happenings (heard_at t h ∷ []) (map (heard_at t) hs);
       still = grown.still;
     }))
     | inr (inr joined) ↦ inr (inr (record {
@@ -198,7 +212,8 @@ module _ (s : ScenarioParts) (clocks : ℕ → ℕ → ℕ) (v t : ℕ) where
 
   -- all hearings of the tick, and those before one of them
   pub grown : (hs : List Reception) (d : Device) → Has d
-      → Has (fold (hears (clocks v) (setup_of s v) t) d hs) × ((x : WindowLog) → Contains (fold (hears (clocks v) (setup_of s v) t) d hs).made.windows x → HasComeOf t d.made.windows hs x)
+      → Has (fold (hears (clocks v) (setup_of s v) t) d hs)
+      × ((x : WindowLog) → Contains (fold (hears (clocks v) (setup_of s v) t) d hs).made.windows x → HasComeOf t d.made.windows hs x)
   grown [] d has = (has, λ x there. by_closed d has x there)
     where
       by_closed : (d : Device) → Has d → (x : WindowLog) → Contains d.made.windows x → HasComeOf t d.made.windows [] x

@@ -43,7 +43,13 @@ module _ (s : ScenarioParts) (clocks : ℕ → ℕ → ℕ) (v : ℕ) where
     slot_before y is = record { channel = is.channel; frame = is.frame; slot = is.slot }
 
     pub sent_still : (sent : List Sending) (tick : ℕ) (packet : List ℕ) → IsSent s clocks v sent x tick packet → IsSent s clocks v sent later tick packet
-    sent_still sent tick packet is = record { sending = is.sending; there = is.there; of_slot = slot_still is.sending is.of_slot; start = is.start; packet_is = is.packet_is }
+    sent_still sent tick packet is = record {
+      sending = is.sending;
+      there = is.there;
+      of_slot = slot_still is.sending is.of_slot;
+      start = is.start;
+      packet_is = is.packet_is;
+    }
 
     begins_still : (tick : ℕ) (packet : List ℕ) → BeginsIn s clocks v x tick packet → BeginsIn s clocks v later tick packet
     begins_still tick packet is = record { by_alarm = is.by_alarm; message = is.message; said = is.said; packet_is = is.packet_is; at = is.at }
@@ -51,7 +57,8 @@ module _ (s : ScenarioParts) (clocks : ℕ → ℕ → ℕ) (v : ℕ) where
     begins_before : (tick : ℕ) (packet : List ℕ) → BeginsIn s clocks v later tick packet → BeginsIn s clocks v x tick packet
     begins_before tick packet is = record { by_alarm = is.by_alarm; message = is.message; said = is.said; packet_is = is.packet_is; at = is.at }
 
-    flood_still : (es : List Happening) → fold after_happening (flood_at_first (setup_of s v) x.by_alarm later) es ≡ fold after_happening (flood_at_first (setup_of s v) x.by_alarm x) es
+    flood_still : (es : List Happening) → fold after_happening (flood_at_first (setup_of s v) x.by_alarm later) es ≡ fold after_happening
+        (flood_at_first (setup_of s v) x.by_alarm x) es
     flood_still es = ap (λ (f : FloodState). fold after_happening f es) (first_same (setup_of s v) x.by_alarm x happenings last closed)
 
     -- and it calls for nothing new but where something was heard
@@ -87,13 +94,15 @@ module _ (s : ScenarioParts) (clocks : ℕ → ℕ → ℕ) (v : ℕ) where
             there = contains_head later earlier;
             of_slot = slot_still y (subst (λ (w : WindowLog). IsOfSlot s w y) (sym same) e.of_slot);
             event = subst (λ (l : List Happening). Contains l (SentAt y.end y.packet)) (sym is)
-                (Contains-append_left x.happenings more (SentAt y.end y.packet) (subst (λ (w : WindowLog). Contains w.happenings (SentAt y.end y.packet)) (sym same) e.event));
+                (Contains-append_left x.happenings more (SentAt y.end y.packet)
+                (subst (λ (w : WindowLog). Contains w.happenings (SentAt y.end y.packet)) (sym same) e.event));
           }
           | inr old ↦ record { window = e.window; there = contains_tail later earlier e.window old; of_slot = e.of_slot; event = e.event }
         ]
 
         -- while it stays open
-        pub ordered_on : closed ≡ None → (o : Option Ordered) → IfSome o (IsOrderedIn s clocks v (x ∷ earlier)) → IfSome o (IsOrderedIn s clocks v (later ∷ earlier))
+        pub ordered_on : closed ≡ None → (o : Option Ordered) → IfSome o (IsOrderedIn s clocks v (x ∷ earlier))
+            → IfSome o (IsOrderedIn s clocks v (later ∷ earlier))
         ordered_on none None is_for = tt
         ordered_on none (Some o) is_for = elim (contains_cases x earlier is_for.window is_for.there) [
           | inl same ↦ record {
@@ -117,7 +126,8 @@ module _ (s : ScenarioParts) (clocks : ℕ → ℕ → ℕ) (v : ℕ) where
       at = relays.at;
     })
 
-    pub new_calls : (e : Happening) → happenings ≡ x.happenings ++ e ∷ [] → (tick : ℕ) (packet : List ℕ) → Calls later tick packet → Calls x tick packet ⊎ NewRelay x e tick packet
+    pub new_calls : (e : Happening) → happenings ≡ x.happenings ++ e ∷ [] → (tick : ℕ) (packet : List ℕ) → Calls later tick packet
+        → Calls x tick packet ⊎ NewRelay x e tick packet
     new_calls e more tick packet (inl begins) = inl (inl (begins_before tick packet begins))
     new_calls e more tick packet (inr relays) =
         let answer = ap (λ (f : FloodState). reply_to f relays.heard) (sym (flood_still relays.earlier)) ∙ relays.answer in
@@ -135,7 +145,8 @@ module _ (s : ScenarioParts) (clocks : ℕ → ℕ → ℕ) (v : ℕ) where
             until = relays.until;
             heard = relays.heard;
             is = sym end.same;
-            answer = ap (λ (es : List Happening). reply_to (fold after_happening (flood_at_first (setup_of s v) x.by_alarm x) es) relays.heard) (sym end.before_is) ∙ answer;
+            answer = ap (λ (es : List Happening). reply_to (fold after_happening (flood_at_first (setup_of s v) x.by_alarm x) es) relays.heard)
+                (sym end.before_is) ∙ answer;
             at = relays.at;
           })
         ]

@@ -10,6 +10,8 @@ pub mod HeardThroughout
 pub mod TunedByDevices
 pub mod CountedEnds
 pub mod ClosedByFrame
+pub mod AcceptedRanks
+pub mod WindowRadios
 -- for this crate alone
 mod OpenedByRows
 mod OwnSchedules
@@ -17,11 +19,9 @@ mod WindowFloods
 mod WindowHistory
 mod SlotTimes
 mod OneWindow
-mod AcceptedRanks
 mod ChainedWindows
 mod ChainWalk
 mod WindowsSince
-mod WindowRadios
 mod DistinctHearings
 mod DistinctHappenings
 mod GrownWindows
@@ -30,6 +30,7 @@ mod ListEnds
 mod KeptCalls
 mod AnsweredCalls
 mod CallsInWindows
+mod UnchangedNodes
 mod FirstWindows
 mod ScannerWalk
 mod SlotHearings

@@ -16,10 +16,15 @@ pub record IsAtEnd {X : Type 0} (xs : List X) (e x : X) (before after : List X) 
   pub same : x ≡ e
   pub none : after ≡ []
 
-pub where_in : {X : Type 0} (xs : List X) (e x : X) (before after : List X) → xs ++ e ∷ [] ≡ before ++ x ∷ after → IsWithin xs e x before after ⊎ IsAtEnd xs e x before after
+pub where_in : {X : Type 0} (xs : List X) (e x : X) (before after : List X) → xs ++ e ∷ [] ≡ before ++ x ∷ after
+    → IsWithin xs e x before after ⊎ IsAtEnd xs e x before after
 where_in [] e x [] after is = let same : e ≡ x = cc in let none : [] ≡ after = cc in inr (record { before_is = refl; same = sym same; none = sym none })
 where_in [] e x (y ∷ before) after is = let rest : [] ≡ before ++ x ∷ after = cc in absurd (nothing_in x before after rest)
-where_in (z ∷ xs) e x [] after is = let same : z ≡ x = cc in let rest : xs ++ e ∷ [] ≡ after = cc in inl (record { rest = xs; is = ap (λ y. y ∷ xs) same; after_is = sym rest })
+where_in (z ∷ xs) e x [] after is = let same : z ≡ x = cc in let rest : xs ++ e ∷ [] ≡ after = cc in inl (record {
+  rest = xs;
+  is = ap (λ y. y ∷ xs) same;
+  after_is = sym rest;
+})
 where_in {X = X} (z ∷ xs) e x (y ∷ before) after is =
     let same : z ≡ y = cc in
     let rest : xs ++ e ∷ [] ≡ before ++ x ∷ after = cc in

@@ -1,5 +1,6 @@
 -- A node has one window of a slot at most.
-use Rattle.std.proofs.Common.{◌≡◌, ℕ, ◌<◌, ◌⊎◌, inl, inr, List, [], ◌∷◌, Bool, true, false, None, Option, IfSome, Contains, sym, ◌∙◌, ap, subst, arith, is_some, true≢false}
+use Rattle.std.proofs.Common.{◌≡◌, ℕ, ◌<◌, ◌⊎◌, inl, inr, List, [], ◌∷◌, Bool, true, false, None, Option, IfSome, Contains, sym, ◌∙◌, ap, subst, arith, is_some}
+use Rattle.std.proofs.Common.{true≢false}
 use Rattle.std.specs.Prelude.{slice_index}
 use Rattle.tick_clock.specs.Clocks.{IsClock}
 use Rattle.time_reference.specs.Budgets.{Fits, budget_of}
@@ -45,7 +46,8 @@ module _ (rows : AllRows) (s : ScenarioParts) (clocks : ℕ → ℕ → ℕ) (ai
   own_drifts = run.driven.drift v known
 
   -- a window of the same slot is open while another one opens
-  module _ (x y : WindowLog) (same : SameWindowSlot x y) (x_row : IsOpened s clocks v x) (x_time : IsInTime s clocks air v x) (y_row : IsOpened s clocks v y) (y_time : IsInTime s clocks air v y) where
+  module _ (x y : WindowLog) (same : SameWindowSlot x y) (x_row : IsOpened s clocks v x) (x_time : IsInTime s clocks air v x)
+      (y_row : IsOpened s clocks v y) (y_time : IsInTime s clocks air v y) where
     abbrev host : ℕ → ℕ
     host = clocks (slice_index s.hosts y.rank)
 
@@ -56,7 +58,8 @@ module _ (rows : AllRows) (s : ScenarioParts) (clocks : ℕ → ℕ → ℕ) (ai
     good =
         subst (λ (r : ℕ). GoodFor s clocks r v x.after.zero y.frame (closing s.profile y.slot)) same.rank
         (subst (λ (f : ℕ). GoodFor s clocks x.rank v x.after.zero f (closing s.profile y.slot)) same.frame
-        (subst (λ (i : ℕ). GoodFor s clocks x.rank v x.after.zero x.frame (closing s.profile i)) same.slot (closes_good rows s clocks air run v known x x_row x_time)))
+        (subst (λ (i : ℕ). GoodFor s clocks x.rank v x.after.zero x.frame (closing s.profile i)) same.slot
+        (closes_good rows s clocks air run v known x x_row x_time)))
 
     closing_same : closing_of s clocks air v x ≡ point (clocks v) x.after.zero (closing s.profile y.slot)
     closing_same = ap (λ (i : ℕ). point (clocks v) x.after.zero (closing s.profile i)) same.slot
@@ -67,17 +70,21 @@ module _ (rows : AllRows) (s : ScenarioParts) (clocks : ℕ → ℕ → ℕ) (ai
         let b = budget_of s.profile in
         let j = y.slot in
         let begins = good_later p b fits host (clocks v) y.after.zero y.frame (opening p j) (starting p j) (omega arith) opens.good in
-        let closes = closes_after_relays p b fits host (clocks v) (clocks v) y.after.zero x.after.zero y.frame host_drifts own_drifts own_drifts j 0 y_time.in_round (omega arith) begins good in
+        let closes = closes_after_relays p b fits host (clocks v)
+        (clocks v) y.after.zero x.after.zero y.frame host_drifts own_drifts own_drifts j 0 y_time.in_round (omega arith) begins good in
         let end = closing_same in
         elim opens.at [
           | inl now ↦ (
-              let here : point (clocks v) y.before.zero (opening p j) ≡ point (clocks v) y.after.zero (opening p j) = ap (λ (z : ℕ). point (clocks v) z (opening p j)) opens.zero in
-              let starts = opens_before_starts p b fits host (clocks v) (clocks v) y.after.zero y.after.zero y.frame host_drifts own_drifts own_drifts j y_time.in_round opens.good begins in
+              let here : point (clocks v) y.before.zero (opening p j) ≡ point (clocks v) y.after.zero (opening p j) =
+              ap (λ (z : ℕ). point (clocks v) z (opening p j)) opens.zero in
+              let starts = opens_before_starts p b fits host (clocks v)
+              (clocks v) y.after.zero y.after.zero y.frame host_drifts own_drifts own_drifts j y_time.in_round opens.good begins in
               omega (arith, now, here, starts, closes, end)
               )
           | inr late ↦ (
               let less : late.before < j = (let next = late.next in omega (arith, next)) in
-              let starts = closes_before_next_starts p b fits host (clocks v) (clocks v) late.zero y.after.zero y.frame host_drifts own_drifts own_drifts late.before j less y_time.in_round
+              let starts = closes_before_next_starts p b fits host (clocks v)
+              (clocks v) late.zero y.after.zero y.frame host_drifts own_drifts own_drifts late.before j less y_time.in_round
               (before_good rows s clocks air run v known y y_row y_time late) begins in
               let set = late.at in
               omega (arith, set, starts, closes, end)

@@ -81,7 +81,16 @@ module _ (s : ScenarioParts) (clocks : ℕ → ℕ → ℕ) (v : ℕ) where
         frame_after = refl;
         rank_before = refl;
         rank_after = refl;
-        by = record { scanned = stage; packet = h.packet; schedule = y; says = says; of_rank = rank; in_slot = refl; happened = contains_head (HeardAt t h.packet) []; after = refl };
+        by = record {
+          scanned = stage;
+          packet = h.packet;
+          schedule = y;
+          says = says;
+          of_rank = rank;
+          in_slot = refl;
+          happened = contains_head (HeardAt t h.packet) [];
+          after = refl;
+        };
       };
       closes = tt;
     };

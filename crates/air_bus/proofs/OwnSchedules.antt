@@ -22,7 +22,8 @@ use Rattle.air_invariant.specs.NodesInOrder.{IsOn}
 use Rattle.air_invariant.specs.KnownInRows.{IsHeardNow}
 use Rattle.air_invariant.proofs.HeardPlaces.{listened, silent}
 
-module _ (s : ScenarioParts) (clocks : ℕ → ℕ → ℕ) (air : List Entry) (v t : ℕ) (h : Reception) (d : Device) (now : IsHeardNow s clocks air v t h d) (n : Node) where
+module _ (s : ScenarioParts) (clocks : ℕ → ℕ → ℕ) (air : List Entry) (v t : ℕ) (h : Reception) (d : Device) (now : IsHeardNow s clocks air v t h d)
+    (n : Node) where
   pub own_channel : (j : ℕ) (w : Window) → IsOn s clocks air v t (suc t) d n → n.stage ≡ InWindow j w → now.sending.rank ≡ rank_at n
   own_channel j w on stage = by_radio (nat_lt w.flood.sent w.flood.limit) (subst (RadioFor n d) stage on.radio.at)
     where
@@ -31,12 +32,14 @@ module _ (s : ScenarioParts) (clocks : ℕ → ℕ → ℕ) (air : List Entry) (
       by_radio false is = absurd (silent d.listening now.sending.rank now.channel is)
 
   -- by what its flood began with
-  of_own : (m : Message) (u rank f z j : ℕ) (hosting : Bool) → MaySay s clocks air u rank f z j hosting (Some m) → rank ≡ rank_at n → is_foreign (rank_at n) (Some m) ≡ false
+  of_own : (m : Message) (u rank f z j : ℕ) (hosting : Bool) → MaySay s clocks air u rank f z j hosting (Some m) → rank ≡ rank_at n
+      → is_foreign (rank_at n) (Some m) ≡ false
   of_own (ScheduleOf y) u rank f z j hosting says own = not_from_true (y.plan.rank == rank_at n) (eq-eqb y.plan.rank (rank_at n) (says.fits.of_rank ∙ own))
   of_own (DataOf e) u rank f z j hosting says own = refl
   of_own (RequestOf a) u rank f z j hosting says own = refl
 
-  not_foreign_by : (m : Option Message) (u rank f z j : ℕ) (hosting : Bool) → MaySay s clocks air u rank f z j hosting m → rank ≡ rank_at n → is_foreign (rank_at n) m ≡ false
+  not_foreign_by : (m : Option Message) (u rank f z j : ℕ) (hosting : Bool) → MaySay s clocks air u rank f z j hosting m → rank ≡ rank_at n
+      → is_foreign (rank_at n) m ≡ false
   not_foreign_by None u rank f z j hosting says own = absurd says
   not_foreign_by (Some m) u rank f z j hosting says own = of_own m u rank f z j hosting says own
 
@@ -48,4 +51,5 @@ module _ (s : ScenarioParts) (clocks : ℕ → ℕ → ℕ) (air : List Entry) (
       let same : message_of h.packet ≡ message_of o.packet =
       ap message_of now.packet ∙ bodies_same now.sending.packet o.packet flood.few (omega (arith, first)) flood.same in
       ap (is_foreign (rank_at n)) same
-      ∙ not_foreign_by (message_of o.packet) o.node o.rank (frame_of s.profile o) flood.zero (slot_of o) (by_host s clocks air o) flood.begins.start.says (sym flood.slot.channel ∙ own)
+      ∙ not_foreign_by (message_of o.packet) o.node o.rank (frame_of s.profile o) flood.zero (slot_of o)
+      (by_host s clocks air o) flood.begins.start.says (sym flood.slot.channel ∙ own)

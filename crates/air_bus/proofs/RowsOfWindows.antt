@@ -1,5 +1,6 @@
 -- What each row leaves of a node's windows.
-use Rattle.std.proofs.Common.{◌≡◌, ℕ, ◌+◌, ◌≤◌, arith, IfSome, inl, inr, List, [], ◌∷◌, ◌++◌, Bool, true, false, if◌then◌else◌, nat_lt, is_some, Some, None, Option, Contains, refl, sym, ◌∙◌, ap, subst, option_to_list, option_map, true≢false}
+use Rattle.std.proofs.Common.{◌≡◌, ℕ, ◌+◌, ◌≤◌, arith, IfSome, inl, inr, List, [], ◌∷◌, ◌++◌, Bool, true, false, if◌then◌else◌, nat_lt, is_some, Some, None}
+use Rattle.std.proofs.Common.{Option, Contains, refl, sym, ◌∙◌, ap, subst, option_to_list, option_map, true≢false}
 use Rattle.std.proofs.lemmas.List.{append-nil}
 use Rattle.lwb_base.specs.Messages.{Schedule}
 use Rattle.lwb_base.specs.declared.event.Event.{Event}
@@ -72,10 +73,12 @@ module _ (s : Setup) (now t : ℕ) where
 
   pub joined_after : (n : Node) (p : List ℕ) (y : Schedule) (logs : List WindowLog) → n.stage ≡ Scanning
       → windows_after t (Heard p) None n (joins s n now p y).node n.stage (joins s n now p y).node.stage logs ≡ joined_log s t now n p y ∷ logs
-  joined_after n p y logs stage = ap (λ (st : Stage). windows_after t (Heard p) None n (joins s n now p y).node st (InWindow (slot_of p) (joined_window s now p y)) logs) stage
+  joined_after n p y logs stage =
+      ap (λ (st : Stage). windows_after t (Heard p) None n (joins s n now p y).node st (InWindow (slot_of p) (joined_window s now p y)) logs) stage
 
   -- a window that goes on
-  pub gone_on_after : (e : Event) (x : Option Sending) (n : Node) (j : ℕ) (w u : Window) (m : Node) (logs : List WindowLog) (first : WindowLog) (earlier : List WindowLog)
+  pub gone_on_after : (e : Event) (x : Option Sending) (n : Node) (j : ℕ) (w u : Window) (m : Node) (logs : List WindowLog) (first : WindowLog)
+      (earlier : List WindowLog)
       → n.stage ≡ InWindow j w → m.stage ≡ InWindow j u → logs ≡ first ∷ earlier
       → windows_after t e x n m n.stage m.stage logs ≡ record first { happenings = first.happenings ++ happening t e x; last = u } ∷ earlier
   gone_on_after e x n j w u m logs first earlier stage later is =
@@ -146,7 +149,8 @@ module _ (s : ScenarioParts) (clocks : ℕ → ℕ → ℕ) (v : ℕ) (K : Windo
     ];
     apart = apart;
     stand = subst (StandAt (x ∷ logs) n) (sym stage) (record { first = x; earlier = logs; is = refl; now = is; closed = closed });
-    delivered = ap (λ (l : List Delivery). l ++ []) delivered ∙ ap (λ (l : List Delivery). delivered_in (setup_of s v) logs ++ l) (sym (nothing_yet (setup_of s v) x x.closed is.open_));
+    delivered = ap (λ (l : List Delivery). l ++ []) delivered
+        ∙ ap (λ (l : List Delivery). delivered_in (setup_of s v) logs ++ l) (sym (nothing_yet (setup_of s v) x x.closed is.open_));
   }
 
   pub begins : (d : Device) (n : Node) (j : ℕ) → d.power ≡ PowerOn n → n.stage ≡ AwaitSlot j → K (begun_log (setup_of s v) t n j)
@@ -159,7 +163,8 @@ module _ (s : ScenarioParts) (clocks : ℕ → ℕ → ℕ) (v : ℕ) (K : Windo
       let rank = (same_standing S n.frame n.core j (opened S n.frame (part_of n.core.plan j) n.core) (role_of S n.frame n.core j)).rank in
       of_row Alarm None (record d { alarm = None }) n r (begun_log S t n j ∷ logs)
       (begun_after S (clocks v t) t n j logs stage)
-      (one_more logs d.made.deliveries r.node j (begun_window S n j) (begun_log S t n j) have.each known closed have.delivered have.past (λ y there. by_then t y (closed y there) (have.past y there), have.apart) refl
+      (one_more logs d.made.deliveries r.node j (begun_window S n j) (begun_log S t n j) have.each known closed have.delivered have.past
+      (λ y there. by_then t y (closed y there) (have.past y there), have.apart) refl
       (record { slot = refl; last = refl; open_ = refl; node = refl; frame = refl; rank = sym rank }))
 
   pub joins_in : (d : Device) (n : Node) (p : List ℕ) (y : Schedule) → d.power ≡ PowerOn n → n.stage ≡ Scanning
@@ -172,7 +177,8 @@ module _ (s : ScenarioParts) (clocks : ℕ → ℕ → ℕ) (v : ℕ) (K : Windo
       let closed = all_closed logs n Scanning tt (subst (StandAt logs n) stage (subst (StandBy logs) on have.stand)) in
       of_row (Heard p) None d n r (joined_log S t (clocks v t) n p y ∷ logs)
       (joined_after S (clocks v t) t n p y logs stage)
-      (one_more logs d.made.deliveries r.node (slot_of p) w (joined_log S t (clocks v t) n p y) have.each known closed have.delivered have.past (λ y there. by_then t y (closed y there) (have.past y there), have.apart) refl
+      (one_more logs d.made.deliveries r.node (slot_of p) w (joined_log S t (clocks v t) n p y) have.each known closed have.delivered have.past
+      (λ y there. by_then t y (closed y there) (have.past y there), have.apart) refl
       (record { slot = refl; last = refl; open_ = refl; node = refl; frame = refl; rank = refl }))
 
   -- the open window is found, and it stays open
@@ -194,28 +200,33 @@ module _ (s : ScenarioParts) (clocks : ℕ → ℕ → ℕ) (v : ℕ) (K : Windo
       let later : WindowLog = record first { happenings = first.happenings ++ happening t e x; last = u } in
       let m : Node = record n { stage = InWindow j u } in
       let before : d.made.deliveries ≡ delivered_in S is.earlier =
-      have.delivered ∙ ap (delivered_in S) is.is ∙ ap (λ (l : List Delivery). delivered_in S is.earlier ++ l) (nothing_yet S first first.closed is.now.open_) ∙ append-nil (delivered_in S is.earlier) in
+      have.delivered ∙ ap (delivered_in S) is.is ∙ ap (λ (l : List Delivery). delivered_in S is.earlier ++ l)
+      (nothing_yet S first first.closed is.now.open_) ∙ append-nil (delivered_in S is.earlier) in
       let all = one_more is.earlier d.made.deliveries m j u later
       (λ y there. have.each y (subst (λ (l : List WindowLog). Contains l y) (sym is.is) (contains_tail first is.earlier y there))) known is.closed before
-      (λ y there. have.past y (subst (λ (l : List WindowLog). Contains l y) (sym is.is) (contains_tail first is.earlier y there))) (subst AreApart is.is have.apart) refl
+      (λ y there. have.past y (subst (λ (l : List WindowLog). Contains l y) (sym is.is) (contains_tail first is.earlier y there)))
+      (subst AreApart is.is have.apart) refl
       (record {
         slot = is.now.slot;
         last = refl;
         open_ = is.now.open_;
-        node = ap (λ (k : Node). record k { stage = InWindow j u }) is.now.node ∙ ap (λ (i : ℕ). record (first.after) { stage = InWindow i u }) (sym is.now.slot);
+        node = ap (λ (k : Node). record k { stage = InWindow j u }) is.now.node
+            ∙ ap (λ (i : ℕ). record (first.after) { stage = InWindow i u }) (sym is.now.slot);
         frame = is.now.frame;
         rank = is.now.rank;
       }) in
       of_row e x d n r (later ∷ is.earlier)
       (gone_on_after S (clocks v t) t e x n j w u r.node logs first is.earlier stage (ap (λ (k : Node). k.stage) node) is.is)
-      (same_windows (later ∷ is.earlier) (later ∷ is.earlier) (d.made.deliveries ++ []) (d.made.deliveries ++ option_to_list r.delivery) (PowerOn m) (PowerOn r.node)
+      (same_windows (later ∷ is.earlier) (later ∷ is.earlier) (d.made.deliveries ++ []) (d.made.deliveries ++ option_to_list r.delivery) (PowerOn m)
+      (PowerOn r.node)
       refl (ap (λ (o : Option Delivery). d.made.deliveries ++ option_to_list o) nothing) (ap PowerOn node) all)
 
   pub hears_in : (d : Device) (n : Node) (j : ℕ) (w : Window) (p : List ℕ) → n.stage ≡ InWindow j w → (is : IsOpenFirst d.made.windows n j w)
       → HasWindows s v K t d → K (heard_log (setup_of s v) t (clocks v t) n w p is.first)
       → HasWindows s v K t (after_row (clocks v) (setup_of s v) t (Heard p) None d n (window_hears (setup_of s v) n (clocks v t) j w p))
   hears_in d n j w p stage is have known =
-      goes_on (Heard p) None d n j w (hearing s.profile (rank_of n.core.tune) (clocks v t) w p) (window_hears S n (clocks v t) j w p) stage refl refl is have known
+      goes_on (Heard p) None d n j w (hearing s.profile (rank_of n.core.tune) (clocks v t) w p)
+      (window_hears S n (clocks v t) j w p) stage refl refl is have known
 
   pub sends_in : (d : Device) (y : Sending) (n : Node) (j : ℕ) (w : Window) → n.stage ≡ InWindow j w → (is : IsOpenFirst d.made.windows n j w)
       → HasWindows s v K t d → K (sent_log t w y.packet is.first)
@@ -234,8 +245,12 @@ module _ (s : ScenarioParts) (clocks : ℕ → ℕ → ℕ) (v : ℕ) (K : Windo
       let later : WindowLog = closed_log S t n j w first in
       let rests = rests_then (j + 1) (nat_lt j w.last) in
       let before : d.made.deliveries ≡ delivered_in S is.earlier =
-      have.delivered ∙ ap (delivered_in S) is.is ∙ ap (λ (l : List Delivery). delivered_in S is.earlier ++ l) (nothing_yet S first first.closed is.now.open_) ∙ append-nil (delivered_in S is.earlier) in
-      let closed : AreClosed (later ∷ is.earlier) = λ y there. elim (contains_cases later is.earlier y there) [ inl same ↦ subst (λ (z : WindowLog). is_some z.closed ≡ true) same refl | inr old ↦ is.closed y old ] in
+      have.delivered ∙ ap (delivered_in S) is.is ∙ ap (λ (l : List Delivery). delivered_in S is.earlier ++ l)
+      (nothing_yet S first first.closed is.now.open_) ∙ append-nil (delivered_in S is.earlier) in
+      let closed : AreClosed (later ∷ is.earlier) = λ y there. elim (contains_cases later is.earlier y there) [
+        | inl same ↦ subst (λ (z : WindowLog). is_some z.closed ≡ true) same refl
+        | inr old ↦ is.closed y old
+      ] in
       of_row Alarm None (record d { alarm = None }) n r (later ∷ is.earlier)
       (closed_after S (clocks v t) t n j w logs first is.earlier stage is.is)
       (record {

@@ -1,5 +1,6 @@
 -- A node that still scans behind the hearings of a tick has heard no schedule of its rank among them.
-use Rattle.std.proofs.Common.{◌≡◌, ◌⊎◌, ℕ, inl, inr, List, [], ◌∷◌, false, ◌==◌, Some, None, Option, Contains, fold, refl, sym, ◌∙◌, ap, subst, eq-eqb, true≢false}
+use Rattle.std.proofs.Common.{◌≡◌, ◌⊎◌, ℕ, inl, inr, List, [], ◌∷◌, false, ◌==◌, Some, None, Option, Contains, fold, refl, sym, ◌∙◌, ap, subst, eq-eqb}
+use Rattle.std.proofs.Common.{true≢false}
 use Rattle.std.proofs.lemmas.Bool.{cond_both}
 use Rattle.lwb_base.specs.Messages.{Schedule}
 use Rattle.lwb_base.specs.declared.event.Event.TheVariants.{Heard}
@@ -12,7 +13,7 @@ use Rattle.node_core.specs.declared.stage.Stage.TheVariants.{Idle, Scanning, Awa
 use Rattle.node_core.specs.Windows.{Window}
 use Rattle.node_core.specs.Nodes.{Node}
 use Rattle.node_core.specs.Rows.{Stepped, at_heard, scanner_hears, joins}
-use Rattle.node_core.specs.Runs.{node_after}
+use Rattle.node_core.specs.Rows.{node_after}
 use Rattle.air_log.specs.Devices.{Device, Power, PowerOff, PowerOn, event_by}
 use Rattle.air_log.specs.Trails.{Reception, hears}
 use Rattle.air_log.proofs.Elements.{not_in_none, contains_cases}
@@ -124,8 +125,13 @@ module _ (clock : ℕ → ℕ) (s : Setup) (t : ℕ) where
   scanned [] p n is scans = (is, λ h there. absurd (not_in_none h there))
   scanned (h ∷ hs) p n is scans =
       let rest = scanned hs (power_after p h.packet) n is scans in
-      let one = one_back p h.packet n rest.0 scans in
-      (one.0, λ g there. elim (contains_cases h hs g there) [ inl same ↦ subst (λ (r : Reception). NotOurs n (message_of r.packet)) same one.1 | inr later ↦ rest.1 g later ])
+      let one = one_back p h.packet n rest.0 scans in (
+        one.0,
+        λ g there. elim (contains_cases h hs g there) [
+          | inl same ↦ subst (λ (r : Reception). NotOurs n (message_of r.packet)) same one.1
+          | inr later ↦ rest.1 g later
+        ],
+      )
 
   pub scanned_device : (hs : List Reception) (d : Device) (n : Node) → (fold (hears clock s t) d hs).power ≡ PowerOn n → n.stage ≡ Scanning
       → (d.power ≡ PowerOn n) × ((h : Reception) → Contains hs h → NotOurs n (message_of h.packet))

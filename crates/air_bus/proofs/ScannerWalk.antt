@@ -1,5 +1,6 @@
 -- A scanner joins by the first schedule of its rank that it hears in a frame.
-use Rattle.std.proofs.Common.{◌≡◌, ℕ, zero, suc, ◌+◌, ◌/◌, ◌<◌, ◌≤◌, inl, inr, List, ◌∷◌, Bool, true, false, ◌==◌, nat_lt, if◌then◌else◌, min, Some, None, Option, Contains, refl, sym, ◌∙◌, ap, subst, arith, true≢false, eq-eqb}
+use Rattle.std.proofs.Common.{◌≡◌, ℕ, zero, suc, ◌+◌, ◌/◌, ◌<◌, ◌≤◌, inl, inr, List, ◌∷◌, Bool, true, false, ◌==◌, nat_lt, if◌then◌else◌, min, Some, None}
+use Rattle.std.proofs.Common.{Option, Contains, refl, sym, ◌∙◌, ap, subst, arith, true≢false, eq-eqb}
 use Rattle.std.proofs.Math.Nat.{mul-le-mul_right}
 use Rattle.std.proofs.lemmas.Bool.{cases_lt}
 use Rattle.lwb_base.specs.declared.event.Event.{Event}
@@ -76,7 +77,8 @@ module _ (s : ScenarioParts) (clocks : ℕ → ℕ → ℕ) (air : List Entry) (
       let start : frame_start s (frame_of s.profile x) ≡ frame_start s frame = ap (λ (f : ℕ). frame_start s f) of_frame in
       omega (arith, lasts, begins, start, early, ends)
 
-  in_frame : (t : ℕ) → AtTick s clocks air v t → (until : ℕ) → until ≤ suc t → (n : Node) → until ≤ frame_start s n.frame → (st : Stage) → ScansAt s air v until n st
+  in_frame : (t : ℕ) → AtTick s clocks air v t → (until : ℕ) → until ≤ suc t → (n : Node) → until ≤ frame_start s n.frame → (st : Stage)
+      → ScansAt s air v until n st
   in_frame t at until now n early Idle = tt
   in_frame t at until now n early Scanning = not_yet t at (rank_at n) n.frame until now early
   in_frame t at until now n early AwaitFrame = tt
@@ -91,18 +93,21 @@ module _ (s : ScenarioParts) (clocks : ℕ → ℕ → ℕ) (air : List Entry) (
       let frames = mul-le-mul_right s.profile.frame from in
       omega (arith, start, frames)
 
-  told : (t : ℕ) → AtTick s clocks air v t → (d : Device) (l : ScriptLine) (n : Node) (core : Core) → Now All s t Lines d → IsNextLine s v (clocks v) (heard_by air v) t l d → d.power ≡ PowerOn n
+  told : (t : ℕ) → AtTick s clocks air v t → (d : Device) (l : ScriptLine) (n : Node) (core : Core) → Now All s t Lines d
+      → IsNextLine s v (clocks v) (heard_by air v) t l d → d.power ≡ PowerOn n
       → ScansBy s air v t (PowerOn (record n { core = core }))
   told t at d l n core here next on =
       in_frame t at t (omega arith) (record n { core = core }) (at_start t at l next.now n (on_in s clocks air v t Lines d n here.holds.0.0 on).frame) n.stage
 
   comes_on : (t : ℕ) → AtTick s clocks air v t → (count : ℕ) (d : Device) (l : ScriptLine) → IsNextLine s v (clocks v) (heard_by air v) t l d
-      → IsFine s clocks air v t Lines (switched_on (clocks v) (setup_of s v) t count d) → ScansBy s air v t (switched_on (clocks v) (setup_of s v) t count d).power
+      → IsFine s clocks air v t Lines (switched_on (clocks v) (setup_of s v) t count d)
+      → ScansBy s air v t (switched_on (clocks v) (setup_of s v) t count d).power
   comes_on t at count d l next fine =
       let e = switched_on (clocks v) S t count d in
       let n = (boots S (rebooted (count + 1)) (clocks v t)).node in
       let power : e.power ≡ PowerOn n = (switched_on_is (clocks v) S t count d).power in
-      subst (ScansBy s air v t) (sym power) (in_frame t at t (omega arith) n (at_start t at l next.now n (on_in s clocks air v t Lines e n fine power).frame) Scanning)
+      subst (ScansBy s air v t) (sym power)
+      (in_frame t at t (omega arith) n (at_start t at l next.now n (on_in s clocks air v t Lines e n fine power).frame) Scanning)
 
   row_leaves : (t until : ℕ) (e : Event) (x : Option Sending) (d : Device) (n : Node) (r : Stepped) → ScansAt s air v until r.node r.node.stage
       → ScansBy s air v until (after_row (clocks v) (setup_of s v) t e x d n r).power
@@ -114,7 +119,10 @@ module _ (s : ScenarioParts) (clocks : ℕ → ℕ → ℕ) (air : List Entry) (
       let r = frame_alarms S n in
       let early = frame_in_run s at.run.driven.sound t at.in_run in
       let from : t / s.profile.frame ≤ n.frame = elim frame.at [ inl now ↦ omega (arith, now) | inr over ↦ (let next = over.frame in omega (arith, next)) ] in
-      let until : n.frame ≤ t / s.profile.frame + 1 = elim frame.at [ inl now ↦ omega (arith, now) | inr over ↦ (let next = over.frame in omega (arith, next)) ] in
+      let until : n.frame ≤ t / s.profile.frame + 1 = elim frame.at [
+        | inl now ↦ omega (arith, now)
+        | inr over ↦ (let next = over.frame in omega (arith, next))
+      ] in
       let next : t / s.profile.frame + 1 ≤ min (n.frame + 1) 16777215 = omega (arith, from, until, early) in
       let frames = mul-le-mul_right s.profile.frame next in
       let ends = frame_ends s at.run.driven.sound t in
@@ -143,13 +151,17 @@ module _ (s : ScenarioParts) (clocks : ℕ → ℕ → ℕ) (air : List Entry) (
                 let now : x.end ≡ t = omega (arith, late, ends) in
                 let h : Reception = record { packet = x.packet; end = x.end } in
                 let known : Contains (heard_by air v) h = (reception_is air v h).1 (record { sending = x; there = heard; packet = refl; end = refl }) in
-                let among : Contains (ending_at t (heard_by air v)) h = in_filtered (λ (r : Reception). r.end == t) (heard_by air v) h known (eq-eqb x.end t now) in
-                let power : (heard_all (clocks v) S t (heard_by air v) (scripted s v (clocks v) t (device_in s clocks air v t))).power ≡ PowerOn n = ap (λ (e : Device). e.power) (sym enters) ∙ on in
-                (scanned_device (clocks v) S t (ending_at t (heard_by air v)) (scripted s v (clocks v) t (device_in s clocks air v t)) n power stage).1 h among y says own
+                let among : Contains (ending_at t (heard_by air v)) h =
+                in_filtered (λ (r : Reception). r.end == t) (heard_by air v) h known (eq-eqb x.end t now) in
+                let power : (heard_all (clocks v) S t (heard_by air v) (scripted s v (clocks v) t (device_in s clocks air v t))).power ≡ PowerOn n =
+                ap (λ (e : Device). e.power) (sym enters) ∙ on in
+                (scanned_device (clocks v) S t (ending_at t (heard_by air v))
+                (scripted s v (clocks v) t (device_in s clocks air v t)) n power stage).1 h among y says own
                 )
           ]
 
-  goes_on : (t : ℕ) (phase : Phase) (d : Device) → Scanned t phase d → d ≡ device_at s v (clocks v) (heard_by air v) t (next_phase phase) → Scanned t (next_phase phase) d
+  goes_on : (t : ℕ) (phase : Phase) (d : Device) → Scanned t phase d → d ≡ device_at s v (clocks v) (heard_by air v) t (next_phase phase)
+      → Scanned t (next_phase phase) d
   goes_on t Lines d is enters = is
   goes_on t Hearings d is enters = all_taken t d is enters
   goes_on t End d is enters = is
@@ -179,21 +191,29 @@ module _ (s : ScenarioParts) (clocks : ℕ → ℕ → ℕ) (air : List Entry) (
       record {
         boot = λ d l count here next act off. (
           k.boot d l count (base t Lines d here) next act off,
-          comes_on t at count d l next (rows.boot s clocks air v t at d l count (record { in_run = here.in_run; known = here.known; holds = here.holds.0.0 }) next act off),
+          comes_on t at count d l next (rows.boot s clocks air v t at d l count (record {
+            in_run = here.in_run;
+            known = here.known;
+            holds = here.holds.0.0;
+          }) next act off),
           (let n = rebooted (count + 1) in
               same_firsts d.made.windows _ (row_obeyed c S t Boot None (record d { power = PowerOn n }) n (boots S n (c t))).windows here.holds.2),
         );
         off = λ d l n here next act on. (k.off d l n (base t Lines d here) next act on, tt, here.holds.2);
-        declaring = λ d l n i interval here next act on. (k.declaring d l n i interval (base t Lines d here) next act on, told t at d l n (declares i interval n.core) here next on, here.holds.2);
-        leaving = λ d l n i here next act on. (k.leaving d l n i (base t Lines d here) next act on, told t at d l n (leaves i n.core) here next on, here.holds.2);
-        putting = λ d l n i payload here next act on taken. (k.putting d l n i payload (base t Lines d here) next act on taken, told t at d l n (queues i payload n.core) here next on, here.holds.2);
+        declaring = λ d l n i interval here next act on.
+            (k.declaring d l n i interval (base t Lines d here) next act on, told t at d l n (declares i interval n.core) here next on, here.holds.2);
+        leaving = λ d l n i here next act on.
+            (k.leaving d l n i (base t Lines d here) next act on, told t at d l n (leaves i n.core) here next on, here.holds.2);
+        putting = λ d l n i payload here next act on taken.
+            (k.putting d l n i payload (base t Lines d here) next act on taken, told t at d l n (queues i payload n.core) here next on, here.holds.2);
         loss = λ d l i payload here next act lost. (k.loss d l i payload (base t Lines d here) next act lost, here.holds.1, here.holds.2);
         joining = λ d h n y here next on stage says rank. (
           k.joining d h n y (base t Hearings d here) next on stage says rank,
           row_leaves t t (Heard h.packet) None d n (joins S n (c t) h.packet y) tt,
           same_firsts (joined_log S t (c t) n h.packet y ∷ d.made.windows) _
               ((row_obeyed c S t (Heard h.packet) None d n (joins S n (c t) h.packet y)).windows ∙ joined_after S (c t) t n h.packet y d.made.windows stage)
-              (one_more d.made.windows (joined_log S t (c t) n h.packet y) (λ heard. subst (ScansAt s air v t n) stage (subst (ScansBy s air v t) on here.holds.1)) here.holds.2),
+              (one_more d.made.windows (joined_log S t (c t) n h.packet y)
+              (λ heard. subst (ScansAt s air v t n) stage (subst (ScansBy s air v t) on here.holds.1)) here.holds.2),
         );
         hearing = λ d h n j w here next on stage. (
           k.hearing d h n j w (base t Hearings d here) next on stage,
@@ -227,7 +247,8 @@ module _ (s : ScenarioParts) (clocks : ℕ → ℕ → ℕ) (air : List Entry) (
           (let r = frame_alarms S n in
               let core = frame_ended S n.frame n.core in
               same_firsts d.made.windows _ ((row_obeyed c S t Alarm None (record d { alarm = None }) n r).windows
-              ∙ unchanged t Alarm None n r.node n.stage r.node.stage d.made.windows (awaiting n.stage awaits) (after_frame core.tune (stopped_frame (n.frame + 1)))) here.holds.2),
+              ∙ unchanged t Alarm None n r.node n.stage r.node.stage d.made.windows (awaiting n.stage awaits)
+              (after_frame core.tune (stopped_frame (n.frame + 1)))) here.holds.2),
         );
         opening = λ d n j here due on stage. (
           k.opening d n j (base t Alarms d here) due on stage,
@@ -238,9 +259,11 @@ module _ (s : ScenarioParts) (clocks : ℕ → ℕ → ℕ) (air : List Entry) (
         );
         closing = λ d n j w here due on stage. (
           k.closing d n j w (base t Alarms d here) due on stage,
-          row_leaves t (suc t) Alarm None (record d { alarm = None }) n (window_closes S n j w) (closes (suc t) (window_closes S n j w).node j (nat_lt j w.last)),
+          row_leaves t (suc t) Alarm None (record d { alarm = None }) n (window_closes S n j w)
+              (closes (suc t) (window_closes S n j w).node j (nat_lt j w.last)),
           (let is = open_first s clocks v (IsOfRows s clocks v) t d n j w on stage here.holds.0.1 in
-              same_firsts _ _ ((row_obeyed c S t Alarm None (record d { alarm = None }) n (window_closes S n j w)).windows ∙ closed_after S (c t) t n j w d.made.windows is.first is.earlier stage is.is)
+              same_firsts _ _ ((row_obeyed c S t Alarm None (record d { alarm = None }) n (window_closes S n j w)).windows
+              ∙ closed_after S (c t) t n j w d.made.windows is.first is.earlier stage is.is)
               (goes_still is.first is.earlier is.first.happenings is.first.last _ (subst Firsts is.is here.holds.2))),
         );
         alarm_elsewhere = λ d n here due on stage. (k.alarm_elsewhere d n (base t Alarms d here) due on stage, here.holds.1, here.holds.2);

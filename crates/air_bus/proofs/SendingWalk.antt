@@ -83,7 +83,8 @@ module _ (s : ScenarioParts) (clocks : ℕ → ℕ → ℕ) (air : List Entry) (
   goes_off : (t : ℕ) → AtTick s clocks air v t → (d : Device) (l : ScriptLine) (n : Node) → Now All s t Lines d
       → IsNextLine s v (clocks v) (heard_by air v) t l d → d.power ≡ PowerOn n → R d.made.windows None d.sending d.made.sent
   goes_off t at d l n here next on =
-      let still = still_at n d n.stage (told_rests s clocks air v t at d l n here.holds.0.0 next on) (on_in s clocks air v t Lines d n here.holds.0.0 on).radio.at in
+      let still = still_at n d n.stage (told_rests s clocks air v t at d l n here.holds.0.0 next on)
+      (on_in s clocks air v t Lines d n here.holds.0.0 on).radio.at in
       subst (λ (o : Option Ordered). R d.made.windows o d.sending d.made.sent) still.ordered here.holds.1
 
   comes_on : (t count : ℕ) (d : Device) → Has d → Has (switched_on (clocks v) (setup_of s v) t count d)
@@ -110,8 +111,10 @@ module _ (s : ScenarioParts) (clocks : ℕ → ℕ → ℕ) (air : List Entry) (
       is.ordered_is is.sending is.sent has
 
   -- no window is open where one opens
-  none_open : (t : ℕ) (d : Device) (n : Node) (st : Stage) → d.power ≡ PowerOn n → n.stage ≡ st → NoWindow st → HasWindows s v (HasFlood (setup_of s v)) t d → AreClosed d.made.windows
-  none_open t d n st on stage none have = all_closed d.made.windows n st none (subst (StandAt d.made.windows n) stage (subst (StandBy d.made.windows) on have.stand))
+  none_open : (t : ℕ) (d : Device) (n : Node) (st : Stage) → d.power ≡ PowerOn n → n.stage ≡ st → NoWindow st
+      → HasWindows s v (HasFlood (setup_of s v)) t d → AreClosed d.made.windows
+  none_open t d n st on stage none have = all_closed d.made.windows n st none
+      (subst (StandAt d.made.windows n) stage (subst (StandBy d.made.windows) on have.stand))
 
   -- a node with no window sends nothing
   silent_by : (t : ℕ) (d : Device) (p : Power) → HasNoWindow p → InOrderBy s clocks air v t (suc t) d p → d.sending ≡ None
@@ -127,7 +130,8 @@ module _ (s : ScenarioParts) (clocks : ℕ → ℕ → ℕ) (air : List Entry) (
         | inr other ↦ absurd (about.silent other.0 other.1)
       ]
 
-  keeps_all : (t : ℕ) → AtTick s clocks air v t → AllRows → HasWindows s v (HasFlood (setup_of s v)) t (device_in s clocks air v t) → KeepsSendings s clocks air v R t
+  keeps_all : (t : ℕ) → AtTick s clocks air v t → AllRows → HasWindows s v (HasFlood (setup_of s v)) t (device_in s clocks air v t)
+      → KeepsSendings s clocks air v R t
       → Keeps All s v (clocks v) (heard_by air v) t
   keeps_all t at rows before steps =
       let c = clocks v in
@@ -156,7 +160,8 @@ module _ (s : ScenarioParts) (clocks : ℕ → ℕ → ℕ) (air : List Entry) (
               let r = window_hears S n (c t) j w h.packet in
               moved_on _ _ _ _ (after_row c S t (Heard h.packet) None d n r)
               ((row_obeyed c S t (Heard h.packet) None d n r).windows
-              ∙ gone_on_after S (c t) t (Heard h.packet) None n j w (hearing s.profile (rank_of n.core.tune) (c t) w h.packet) r.node d.made.windows open_.first open_.earlier stage refl open_.is)
+              ∙ gone_on_after S (c t) t (Heard h.packet) None n j w
+              (hearing s.profile (rank_of n.core.tune) (c t) w h.packet) r.node d.made.windows open_.first open_.earlier stage refl open_.is)
               is.ordered_is is.sending is.sent
               (steps.heard_kept d h n j w (fine t Hearings d here) next (heard_in_floods s clocks air v t at h d next) on stage open_
               (first_known s clocks v (HasFlood (setup_of s v)) t d n j w here.holds.0.1 open_) here.holds.1)),
@@ -169,7 +174,8 @@ module _ (s : ScenarioParts) (clocks : ℕ → ℕ → ℕ) (air : List Entry) (
               let r = sends n j w in
               moved_on _ _ _ _ (after_row c S t Sent (Some x) dd n r)
               ((row_obeyed c S t Sent (Some x) dd n r).windows
-              ∙ gone_on_after S (c t) t Sent (Some x) n j w (record w { flood = after_sent w.flood }) r.node d.made.windows open_.first open_.earlier stage refl open_.is)
+              ∙ gone_on_after S (c t) t Sent (Some x) n j w
+              (record w { flood = after_sent w.flood }) r.node d.made.windows open_.first open_.earlier stage refl open_.is)
               is.ordered_is is.sending is.sent
               (steps.ended_kept d x n j w (fine t End d here) enters own ends on stage open_ here.holds.1)),
         );

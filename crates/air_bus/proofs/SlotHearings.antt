@@ -74,7 +74,8 @@ module _ (s : ScenarioParts) (clocks : ℕ → ℕ → ℕ) (air : List Entry) (
     one_origin : (x : Sending) (mine : Contains (sendings_of air) x) → IsOfSlot s w x
         → (of_flood s clocks air whole x mine).origin ≡ (of_flood s clocks air whole was.heard sent).origin
     one_origin x mine of_slot =
-        elim (one_flood_says s clocks air whole x was.heard (of_flood s clocks air whole x mine) (of_flood s clocks air whole was.heard sent) (same_slot x of_slot)) [
+        elim (one_flood_says s clocks air whole x was.heard (of_flood s clocks air whole x mine) (of_flood s clocks air whole was.heard sent)
+        (same_slot x of_slot)) [
           | inl one ↦ one
           | inr both ↦ absurd (no_request opens.schedule both.1.0 (sym says ∙ both.1.1))
         ]

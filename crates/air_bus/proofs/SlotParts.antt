@@ -63,9 +63,12 @@ module _ (s : ScenarioParts) (clocks : ℕ → ℕ → ℕ) (air : List Entry) (
         (let x = now.sending in
         let flood = now.of_flood in
         let o = flood.origin in
-        let same : message_of o.packet ≡ Some (ScheduleOf y) = sym (says_as_origin s clocks air x flood) ∙ sym (ap (λ (p : List ℕ). message_of p) now.packet) ∙ says in
-        let is = joins_for o.node o.rank (frame_of s.profile o) flood.zero (slot_of o) (by_host s clocks air o) (message_of o.packet) y flood.begins.start.says same in
-        let of_frame : frame_of s.profile o ≡ n.frame = sym flood.slot.frame ∙ now.frame ∙ sym (frame s clocks air v t at d h n y fine next now on stage says) in
+        let same : message_of o.packet ≡ Some (ScheduleOf y) = sym (says_as_origin s clocks air x flood)
+        ∙ sym (ap (λ (p : List ℕ). message_of p) now.packet) ∙ says in
+        let is = joins_for o.node o.rank (frame_of s.profile o) flood.zero (slot_of o) (by_host s clocks air o)
+        (message_of o.packet) y flood.begins.start.says same in
+        let of_frame : frame_of s.profile o ≡ n.frame = sym flood.slot.frame ∙ now.frame
+        ∙ sym (frame s clocks air v t at d h n y fine next now on stage says) in
         let of_slot : slot_of o ≡ slice_index h.packet 1 = sym flood.slot.slot ∙ sym (ap (λ (p : List ℕ). slice_index p 1) now.packet) in
         subst (λ (r : ℕ). IsPartOf s air r n.frame (slice_index h.packet 1) (part_by y)) (sym is.0 ∙ of_rank)
         (subst (λ (f : ℕ). IsPartOf s air o.rank f (slice_index h.packet 1) (part_by y)) of_frame

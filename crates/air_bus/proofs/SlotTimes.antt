@@ -84,10 +84,13 @@ module _ (rows : AllRows) (s : ScenarioParts) (clocks : ℕ → ℕ → ℕ) (ai
 
       begins : Good s.profile (budget_of s.profile) host first flood.zero w.frame (starting s.profile (slot_of x))
       begins =
-          subst (λ (r : ℕ). Good s.profile (budget_of s.profile) (clocks (slice_index s.hosts r)) first flood.zero w.frame (starting s.profile (slot_of x))) channel
-          (subst (λ (f : ℕ). Good s.profile (budget_of s.profile) (clocks (slice_index s.hosts x.rank)) first flood.zero f (starting s.profile (slot_of x))) frame (zero_good s clocks air run x flood))
+          subst (λ (r : ℕ). Good s.profile (budget_of s.profile) (clocks (slice_index s.hosts r)) first flood.zero w.frame
+          (starting s.profile (slot_of x))) channel
+          (subst (λ (f : ℕ). Good s.profile (budget_of s.profile) (clocks (slice_index s.hosts x.rank)) first flood.zero f
+          (starting s.profile (slot_of x))) frame (zero_good s clocks air run x flood))
 
-      bounds : (x.start + airtime s.profile (length x.packet) ≤ point first flood.zero (starting s.profile (slot_of x)) + span s.profile (length x.packet) + 11) × (point first flood.zero (starting s.profile (slot_of x)) ≤ x.start)
+      bounds : (x.start + airtime s.profile (length x.packet) ≤ point first flood.zero (starting s.profile (slot_of x)) + span s.profile
+          (length x.packet) + 11) × (point first flood.zero (starting s.profile (slot_of x)) ≤ x.start)
       bounds =
           let inside = in_flood s clocks air run x flood in
           let some = packets_last p b fits (length x.packet) in
@@ -102,7 +105,8 @@ module _ (rows : AllRows) (s : ScenarioParts) (clocks : ℕ → ℕ → ℕ) (ai
       -- a sending of a later slot starts when the window has closed
       not_later : w.slot < slot_of x → closing_of s clocks air v w < x.start
       not_later less =
-          let starts = closes_before_next_starts p b fits host (clocks v) first w.after.zero flood.zero w.frame host_is_clock own_drifts first_drifts w.slot (slot_of x) less
+          let starts = closes_before_next_starts p b fits host
+          (clocks v) first w.after.zero flood.zero w.frame host_is_clock own_drifts first_drifts w.slot (slot_of x) less
           (slot_in_round s clocks air run x flood) closes_good begins in
           let begun = bounds in
           omega (arith, starts, begun)
@@ -110,7 +114,8 @@ module _ (rows : AllRows) (s : ScenarioParts) (clocks : ℕ → ℕ → ℕ) (ai
       -- one of an earlier slot has ended before the window opens
       ends_before : (by : Bool) → OpensInTime s clocks air v by w → slot_of x < w.slot → x.end < w.opened
       ends_before true opens less =
-          let before = relays_before_next_opens p b fits host first (clocks v) flood.zero w.after.zero w.frame host_is_clock first_drifts own_drifts (slot_of x) w.slot (length x.packet) less
+          let before = relays_before_next_opens p b fits host first (clocks v) flood.zero w.after.zero w.frame host_is_clock first_drifts own_drifts
+          (slot_of x) w.slot (length x.packet) less
           is.in_round short begins opens.good in
           let ends = bounds in
           let end = lasts in
@@ -125,11 +130,14 @@ module _ (rows : AllRows) (s : ScenarioParts) (clocks : ℕ → ℕ → ℕ) (ai
           let sent = (run.heedful.heard v y opens.there).sent in
           let other = of_flood y sent in
           let apart : x.start + airtime p (length x.packet) < y.start =
-          slots_apart p b fits host first (clocks other.origin.node) flood.zero other.zero w.frame (slot_of x) (slot_of y) (length x.packet) (length y.packet) (counter_of x) (counter_of y)
+          slots_apart p b fits host first (clocks other.origin.node) flood.zero other.zero w.frame (slot_of x) (slot_of y) (length x.packet)
+          (length y.packet) (counter_of x) (counter_of y)
           x.start y.start host_is_clock first_drifts (origin_drifts s clocks air run y other)
           (let same = opens.of_slot.slot in omega (arith, less, same)) (slot_in_round s clocks air run y other) short begins
-          (subst (λ (r : ℕ). Good s.profile (budget_of s.profile) (clocks (slice_index s.hosts r)) (clocks other.origin.node) other.zero w.frame (starting s.profile (slot_of y))) opens.of_slot.channel
-          (subst (λ (f : ℕ). Good s.profile (budget_of s.profile) (clocks (slice_index s.hosts y.rank)) (clocks other.origin.node) other.zero f (starting s.profile (slot_of y))) opens.of_slot.frame
+          (subst (λ (r : ℕ). Good s.profile (budget_of s.profile) (clocks (slice_index s.hosts r)) (clocks other.origin.node) other.zero w.frame
+          (starting s.profile (slot_of y))) opens.of_slot.channel
+          (subst (λ (f : ℕ). Good s.profile (budget_of s.profile) (clocks (slice_index s.hosts y.rank)) (clocks other.origin.node) other.zero f
+          (starting s.profile (slot_of y))) opens.of_slot.frame
           (zero_good s clocks air run y other)))
           (in_flood s clocks air run x flood) (in_flood s clocks air run y other) in
           let end = lasts in
@@ -156,9 +164,11 @@ module _ (rows : AllRows) (s : ScenarioParts) (clocks : ℕ → ℕ → ℕ) (ai
         ends_early =
             let ends = ends_in_slot p b fits host first (clocks v) flood.zero w.after.zero w.frame (slot_of x) (length x.packet) (counter_of x) x.start
             host_is_clock first_drifts own_drifts (slot_in_round s clocks air run x flood) short begins
-            (subst (λ (i : ℕ). Good s.profile (budget_of s.profile) host (clocks v) w.after.zero w.frame (closing s.profile i)) (sym at) closes_good) (in_flood s clocks air run x flood) in
+            (subst (λ (i : ℕ). Good s.profile (budget_of s.profile) host (clocks v) w.after.zero w.frame (closing s.profile i)) (sym at) closes_good)
+            (in_flood s clocks air run x flood) in
             let end = lasts in
-            let same : point (clocks v) w.after.zero (closing p (slot_of x)) ≡ closing_of s clocks air v w = ap (λ (i : ℕ). point (clocks v) w.after.zero (closing p i)) at in
+            let same : point (clocks v) w.after.zero (closing p (slot_of x)) ≡ closing_of s clocks air v w =
+            ap (λ (i : ℕ). point (clocks v) w.after.zero (closing p i)) at in
             omega (arith, ends, end, same)
 
         starts_by : (by : Bool) → by ≡ true → OpensInTime s clocks air v by w → w.opened < x.start
@@ -168,13 +178,15 @@ module _ (rows : AllRows) (s : ScenarioParts) (clocks : ℕ → ℕ → ℕ) (ai
               | inl now ↦ (
                   let here : point (clocks v) w.before.zero (opening p w.slot) ≡ point (clocks v) w.after.zero (opening p w.slot) =
                   ap (λ (z : ℕ). point (clocks v) z (opening p w.slot)) opens.zero in
-                  let starts = opens_before_starts p b fits host (clocks v) first w.after.zero flood.zero w.frame host_is_clock own_drifts first_drifts w.slot is.in_round opens.good begins_here in
+                  let starts = opens_before_starts p b fits host
+                  (clocks v) first w.after.zero flood.zero w.frame host_is_clock own_drifts first_drifts w.slot is.in_round opens.good begins_here in
                   omega (arith, starts, from, here, now)
                   )
               | inr late ↦ (
                   let less : late.before < w.slot = (let next = late.next in omega (arith, next)) in
                   let starts =
-                  closes_before_next_starts p b fits host (clocks v) first late.zero flood.zero w.frame host_is_clock own_drifts first_drifts late.before w.slot less is.in_round
+                  closes_before_next_starts p b fits host
+                  (clocks v) first late.zero flood.zero w.frame host_is_clock own_drifts first_drifts late.before w.slot less is.in_round
                   (before_good late) begins_here in
                   let set = late.at in
                   omega (arith, starts, from, set)

@@ -66,7 +66,8 @@ module _ (s : ScenarioParts) (clocks : ℕ → ℕ → ℕ) (air : List Entry) (
     }
 
   -- the alarm that closes it
-  closes_then : (t : ℕ) (n : Node) (j : ℕ) (w : Window) (x : WindowLog) → IsOpen n j w x → t ≡ tick_by s clocks v n (closing s.profile j) → t ≡ closing_of s clocks air v x
+  closes_then : (t : ℕ) (n : Node) (j : ℕ) (w : Window) (x : WindowLog) → IsOpen n j w x → t ≡ tick_by s clocks v n (closing s.profile j)
+      → t ≡ closing_of s clocks air v x
   closes_then t n j w x is at =
       at ∙ ap (λ (m : Node). tick_by s clocks v m (closing s.profile j)) is.node
       ∙ ap (λ (i : ℕ). point (clocks v) x.after.zero (closing s.profile i)) (sym is.slot)
@@ -89,7 +90,8 @@ module _ (s : ScenarioParts) (clocks : ℕ → ℕ → ℕ) (air : List Entry) (
         }
 
     module _ (d : Device) (h : Reception) (n : Node) (y : Schedule) (fine : IsFine s clocks air v t Hearings d)
-        (next : IsNextHearing s v (clocks v) (heard_by air v) t h d) (now : IsHeardNow s clocks air v t h d) (on : d.power ≡ PowerOn n) (stage : n.stage ≡ Scanning)
+        (next : IsNextHearing s v (clocks v) (heard_by air v) t h d) (now : IsHeardNow s clocks air v t h d) (on : d.power ≡ PowerOn n)
+        (stage : n.stage ≡ Scanning)
         (says : message_of h.packet ≡ Some (ScheduleOf y)) where
       is_on : IsOn s clocks air v t (suc t) d n
       is_on = on_in s clocks air v t Hearings d n fine on
@@ -112,10 +114,12 @@ module _ (s : ScenarioParts) (clocks : ℕ → ℕ → ℕ) (air : List Entry) (
       ref : RefFor s clocks (rank_at n) v zero_now n.frame n.frame slot
       ref =
           subst (λ (r : ℕ). RefFor s clocks r v zero_now n.frame n.frame slot) rank
-          (subst (λ (f : ℕ). RefFor s clocks now.sending.rank v zero_now f f slot) (sym frame) (reference s clocks air v t at h d now y next.there next.now says))
+          (subst (λ (f : ℕ). RefFor s clocks now.sending.rank v zero_now f f slot) (sym frame)
+          (reference s clocks air v t at h d now y next.there next.now says))
 
       good : GoodFor s clocks (rank_at n) v zero_now n.frame (closing s.profile slot)
-      good = good_now s.profile (budget_of s.profile) (run_fits s at.run.driven.sound) (clocks (slice_index s.hosts (rank_at n))) (clocks v) zero_now n.frame slot ref
+      good = good_now s.profile (budget_of s.profile) (run_fits s at.run.driven.sound) (clocks (slice_index s.hosts (rank_at n)))
+          (clocks v) zero_now n.frame slot ref
 
       same_slot : slot_of now.sending ≡ slot
       same_slot = ap (λ (q : List ℕ). slice_index q 1) (sym now.packet)
@@ -151,10 +155,16 @@ module _ (s : ScenarioParts) (clocks : ℕ → ℕ → ℕ) (air : List Entry) (
     times_steps = record {
       begun = opens_timed;
       joined = λ d h n y fine next now on stage says rank. joins_timed d h n y fine next now on stage says;
-      heard = λ d h n j w x fine next now on stage is in_it known. record { opens = timed_still x _ _ x.closed known.opens; closes = not_closed s clocks v _ n j w x is };
+      heard = λ d h n j w x fine next now on stage is in_it known. record {
+        opens = timed_still x _ _ x.closed known.opens;
+        closes = not_closed s clocks v _ n j w x is;
+      };
       taken = λ d fine is before now x there. now.each x there;
       passed = λ x known. known;
-      sent = λ d y n j w x fine enters own ends on stage waiting is in_it known. record { opens = timed_still x _ _ x.closed known.opens; closes = not_closed s clocks v _ n j w x is };
+      sent = λ d y n j w x fine enters own ends on stage waiting is in_it known. record {
+        opens = timed_still x _ _ x.closed known.opens;
+        closes = not_closed s clocks v _ n j w x is;
+      };
       closed = λ d n j w x fine due on stage is known. record {
         opens = timed_still x x.happenings x.last _ known.opens;
         closes = closes_timed d n j w x fine due on stage is;

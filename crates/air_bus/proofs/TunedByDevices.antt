@@ -12,42 +12,28 @@ use Rattle.air_log.specs.HearsAir.{scene_of}
 use Rattle.air_log.specs.Devices.{Listening}
 use Rattle.air_log.specs.Lawful.{FollowsTrails, heard_by, tuned_by}
 use Rattle.air_log.specs.TunedTimes.{listened}
-use Rattle.air_log.specs.Trails.{Reception, setup_of, run_end, before_start, before_tick, trail}
-use Rattle.air_log.proofs.KeptByEvents.{in_tick}
-use Rattle.air_log.proofs.TunedBefore.{TunedAt, Stays, IsTunedAs, stays_same, stays_on, silenced_stays, kept, As, begun_stays, tick_by}
+use Rattle.air_log.specs.Trails.{Reception, run_end, before_tick, trail}
+use Rattle.air_log.proofs.TunedBefore.{silenced_stays, tick_by}
 use Rattle.air_safety.specs.Obeying.{channel_of}
 use Rattle.air_safety.specs.TrailLinks.{device_in}
-use Rattle.air_safety.proofs.FilteredElements.{filtered}
 use Rattle.air_safety.proofs.SentInTrails.{holds_if}
+use Rattle.air_safety.proofs.TunedInTrails.{Tuned, step_stays}
+use Rattle.air_log.proofs.Elements.{filtered}
 
 module _ (s : ScenarioParts) (v : ℕ) (clock : ℕ → ℕ) (hs : List Reception) where
-  abbrev Tuned : ℕ → ℕ → ℕ → Type 0
-  Tuned t r k = let d = before_tick s v clock hs t in TunedAt d.made.tuned d.listening r k
-
-  step_stays : (t : ℕ) → IsTunedAs t (before_tick s v clock hs t) (before_tick s v clock hs (suc t))
-  unfolding before_tick
-  step_stays t =
-      let d = before_tick s v clock hs t in
-      let x = before_start s v clock hs t d in
-      let node = setup_of s v in
-      let by = stays_same t d.made.tuned d.listening (tick_by s v clock hs t) in
-      let within : Stays t d.made.tuned d.listening x.made.tuned x.listening =
-      in_tick (As clock node t d.made.tuned d.listening) s v clock hs t d (kept clock node t d.made.tuned d.listening) by in
-      stays_on t d.made.tuned d.listening x.made.tuned x.listening _ _ within (begun_stays (setup_of s v) t x within.by)
-
-  later : (t u : ℕ) → t ≤ u → (r k : ℕ) → k < t → Tuned t r k → Tuned u r k
+  later : (t u : ℕ) → t ≤ u → (r k : ℕ) → k < t → Tuned s v clock hs t r k → Tuned s v clock hs u r k
   later t zero order r k below is = absurd (omega (arith, order, below))
   later t (suc u) order r k below is =
       elim (cases_lt u t) [
-        | inl at ↦ subst (λ (m : ℕ). Tuned m r k) (omega (arith, order, at)) is
-        | inr before ↦ ((step_stays u).same r k (omega (arith, before, below))).1 (later t u before r k below is)
+        | inl at ↦ subst (λ (m : ℕ). Tuned s v clock hs m r k) (omega (arith, order, at)) is
+        | inr before ↦ ((step_stays s v clock hs u).same r k (omega (arith, before, below))).1 (later t u before r k below is)
       ]
 
   -- a device that listens has done so since its last tick at the latest
   since_by : (k r : ℕ) (l : Option Listening) → (before_tick s v clock hs (suc k)).listening ≡ l → channel_of l ≡ Some r → listened r k l
   since_by k r None is on = absurd cc
   since_by k r (Some l) is on =
-      let all = (step_stays k).by.since in
+      let all = (step_stays s v clock hs k).by.since in
       let since : l.since ≤ k = subst (λ (o : Option Listening). IfSome o (λ l. l.since ≤ k)) is all in
       let same : l.rank ≡ r = cc in
       (same, since)
@@ -56,7 +42,7 @@ module _ (s : ScenarioParts) (v : ℕ) (clock : ℕ → ℕ) (hs : List Receptio
       → (e : Tuning) × Contains (trail s v clock hs).made.tuned e × (e.rank ≡ r) × (e.start ≤ k) × (k < e.end)
   in_trail k r below on =
       let d = before_tick s v clock hs (suc k) in
-      let now : Tuned (suc k) r k = inr (since_by k r d.listening refl on) in
+      let now : Tuned s v clock hs (suc k) r k = inr (since_by k r d.listening refl on) in
       let e = before_tick s v clock hs (run_end s) in
       let off = silenced_stays v (run_end s) e (tick_by s v clock hs (run_end s)) in
       elim ((off.same r k below).1 (later (suc k) (run_end s) (omega (arith, below)) r k (omega arith) now)) [
@@ -71,6 +57,7 @@ module _ (s : ScenarioParts) (clocks : ℕ → ℕ → ℕ) (air : List Entry) (
       let hs = heard_by air v in
       let is = in_trail s v (clocks v) hs k rank below on in
       let e = is.0 in
-      let own : Contains (tuned_by air v) e = Contains-permutation _ _ e (follows.tuned v) (holds_if (knows s.nodes v) (trail s v (clocks v) hs).made.tuned e known is.1) in
+      let own : Contains (tuned_by air v) e = Contains-permutation _ _ e (follows.tuned v)
+      (holds_if (knows s.nodes v) (trail s v (clocks v) hs).made.tuned e known is.1) in
       let both = filtered (λ (y : Tuning). y.node == v) (tunings_of air) e own in
       record { tuning = e; there = both.0; node = eqb-true e.node v both.1; rank = is.2; since = is.3; until = is.4 }

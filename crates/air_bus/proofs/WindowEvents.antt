@@ -1,5 +1,6 @@
 -- The events of each window.
-use Rattle.std.proofs.Common.{◌≡◌, ◌≢◌, ℕ, zero, suc, ◌<◌, ◌≤◌, inl, inr, List, [], ◌∷◌, true, Some, None, Option, is_some, Contains, AllPairs, fold, map, length, get_or, refl, sym, ◌∙◌, ap, subst, arith, true≢false}
+use Rattle.std.proofs.Common.{◌≡◌, ◌≢◌, ℕ, zero, suc, ◌<◌, ◌≤◌, inl, inr, List, [], ◌∷◌, true, Some, None, Option, is_some, Contains, AllPairs, fold, map}
+use Rattle.std.proofs.Common.{length, get_or, refl, sym, ◌∙◌, ap, subst, arith, true≢false}
 use Rattle.std.specs.Option.{IfSome}
 use Rattle.std.proofs.lemmas.List.Kept.{AllPairs-cons}
 use Rattle.lwb_base.specs.Profile.{airtime}
@@ -32,7 +33,8 @@ use Rattle.air_bus.proofs.ClosedByFrame.{closed_at_end}
 use Rattle.air_bus.proofs.DistinctHappenings.{distinct_steps}
 use Rattle.air_bus.proofs.DistinctHearings.{same_heard}
 use Rattle.air_bus.proofs.SlotHearings.{since_or_happened}
-use Rattle.air_bus.proofs.WindowFacts.{close_in_time, slots_apart, slot_covered, floods_of_windows, history_on_air, hearings_happen, one_a_slot, sends_as_called}
+use Rattle.air_bus.proofs.WindowFacts.{close_in_time, slots_apart, slot_covered, floods_of_windows, history_on_air, hearings_happen, one_a_slot}
+use Rattle.air_bus.proofs.WindowFacts.{sends_as_called}
 use Rattle.air_bus.proofs.WindowWalk.{windows_before}
 
 at_place : {X : Type 0} (xs : List X) (k : ℕ) (d e : X) → k < length xs → get_or xs k e ≡ get_or xs k d
@@ -62,7 +64,8 @@ module _ (s : ScenarioParts) (air : List Entry) (v : ℕ) (w : WindowLog) where
   all_happenings : (es : List Happening) (were : AllWere es) → map happening_of (events_of es were) ≡ es
   all_happenings [] were = refl
   all_happenings (e ∷ es) were =
-      ap (λ (d : Happening). d ∷ map happening_of (events_of es (λ d there. were d (contains_tail e es d there)))) (one_happening e (were e (contains_head e es)))
+      ap (λ (d : Happening). d ∷ map happening_of (events_of es (λ d there. were d (contains_tail e es d there))))
+      (one_happening e (were e (contains_head e es)))
       ∙ ap (λ (ds : List Happening). e ∷ ds) (all_happenings es (λ d there. were d (contains_tail e es d there)))
 
   -- what an event is
@@ -76,10 +79,11 @@ module _ (s : ScenarioParts) (air : List Entry) (v : ℕ) (w : WindowLog) where
 
   are_events : (es : List Happening) (were : AllWere es) (d : Event) → Contains (events_of es were) d → IsEvent d
   are_events [] were d there = absurd (not_in_none d there)
-  are_events (e ∷ es) were d there = elim (contains_cases (event_of e (were e (contains_head e es))) (events_of es (λ d there. were d (contains_tail e es d there))) d there) [
-    | inl same ↦ subst IsEvent same (is_event e (were e (contains_head e es)))
-    | inr later ↦ are_events es (λ d there. were d (contains_tail e es d there)) d later
-  ]
+  are_events (e ∷ es) were d there =
+      elim (contains_cases (event_of e (were e (contains_head e es))) (events_of es (λ d there. were d (contains_tail e es d there))) d there) [
+        | inl same ↦ subst IsEvent same (is_event e (were e (contains_head e es)))
+        | inr later ↦ are_events es (λ d there. were d (contains_tail e es d there)) d later
+      ]
 
   one_flood : (f : FloodState) (e : Happening) (is : WasThen s air v w e) → after_all f (event_of e is ∷ []) ≡ after_happening f e
   one_flood f (HeardAt t p) is = ap (λ (q : List ℕ). after_heard f q) is.packet_is
@@ -103,7 +107,8 @@ module _ (s : ScenarioParts) (air : List Entry) (v : ℕ) (w : WindowLog) where
       let now = event_of e (were e (contains_head e es)) in
       pairs_cons (λ (d e : Event). ((sending_of d).end ≤ (sending_of e).end) × (d ≢ e)) now (events_of es rest)
       (λ d there.
-      (let happened : Contains es (happening_of d) = subst (λ (ds : List Happening). Contains ds (happening_of d)) (all_happenings es rest) (map_contains happening_of (events_of es rest) d there) in
+      (let happened : Contains es (happening_of d) = subst (λ (ds : List Happening). Contains ds (happening_of d)) (all_happenings es rest)
+      (map_contains happening_of (events_of es rest) d there) in
       let first : happening_of now ≡ e = one_happening e (were e (contains_head e es)) in
       let tick = pairs_head (λ (d e : Happening). tick_of d ≤ tick_of e) e es turn (happening_of d) happened in (
         omega (arith, tick, tick_is d, tick_is now, ap tick_of first),
@@ -111,7 +116,8 @@ module _ (s : ScenarioParts) (air : List Entry) (v : ℕ) (w : WindowLog) where
       )))
       (ordered es rest (pairs_tail (λ (d e : Happening). tick_of d ≤ tick_of e) e es turn) distinct.1)
 
-module _ (s : ScenarioParts) (clocks : ℕ → ℕ → ℕ) (air : List Entry) (run : IsRun s clocks air) (lawful : Lawful s clocks air) (v : ℕ) (known : knows s.nodes v ≡ true)
+module _ (s : ScenarioParts) (clocks : ℕ → ℕ → ℕ) (air : List Entry) (run : IsRun s clocks air) (lawful : Lawful s clocks air) (v : ℕ)
+    (known : knows s.nodes v ≡ true)
     (w : WindowLog) (there : Contains (device_in s clocks air v (run_end s)).made.windows w) where
   abbrev t : ℕ
   t = run_end s
@@ -123,7 +129,8 @@ module _ (s : ScenarioParts) (clocks : ℕ → ℕ → ℕ) (air : List Entry) (
   history = history_on_air s clocks air run v known (run_end s) within w there
 
   distinct : Distinct w.happenings
-  distinct = (windows_before s clocks air v (λ now taken x. Distinct x.happenings) all_rows run known (λ u at. distinct_steps all_rows s clocks air run lawful v known u at) (run_end s) within).each w there
+  distinct = (windows_before s clocks air v (λ now taken x. Distinct x.happenings) all_rows run known
+      (λ u at. distinct_steps all_rows s clocks air run lawful v known u at) (run_end s) within).each w there
 
   abbrev events : List Event
   events = events_of s air v w w.happenings history.then_
@@ -140,11 +147,13 @@ module _ (s : ScenarioParts) (clocks : ℕ → ℕ → ℕ) (air : List Entry) (
   closing = shut_so w.closed refl (closed_at_end s clocks air run v known w there)
 
   closing_tick : closing.0.tick ≡ closing_of s clocks air v w
-  closing_tick = subst (λ (c : Option Closing). IfSome c (ClosesInTime s clocks air v w)) closing.1 (close_in_time s clocks air run v known (run_end s) within w there)
+  closing_tick = subst (λ (c : Option Closing). IfSome c (ClosesInTime s clocks air v w)) closing.1
+      (close_in_time s clocks air run v known (run_end s) within w there)
 
   in_run : closing.0.tick ≤ run_end s
   in_run = subst (λ (c : Option Closing). IfSome c (λ c. c.tick ≤ run_end s)) closing.1
-      ((windows_before s clocks air v (λ now taken x. Distinct x.happenings) all_rows run known (λ u at. distinct_steps all_rows s clocks air run lawful v known u at) (run_end s) within).past w there)
+      ((windows_before s clocks air v (λ now taken x. Distinct x.happenings) all_rows run known
+      (λ u at. distinct_steps all_rows s clocks air run lawful v known u at) (run_end s) within).past w there)
 
   -- a window that has closed, with its closing
   pub closing_known : (c : Closing) × (w.closed ≡ Some c) × (c.tick ≡ closing_of s clocks air v w) × (c.tick ≤ run_end s)
@@ -154,9 +163,11 @@ module _ (s : ScenarioParts) (clocks : ℕ → ℕ → ℕ) (air : List Entry) (
   heard_of : (x : Sending) → Contains events (Heard x) → IsHeard air v x × IsOfSlot s w x
   heard_of x in_it =
       let is = are_events s air v w w.happenings history.then_ (Heard x) in_it in
-      let then_ : Contains w.happenings (HeardAt x.end x.packet) = subst (λ (ds : List Happening). Contains ds (HeardAt x.end x.packet)) happened (map_contains happening_of events (Heard x) in_it) in
+      let then_ : Contains w.happenings (HeardAt x.end x.packet) =
+      subst (λ (ds : List Happening). Contains ds (HeardAt x.end x.packet)) happened (map_contains happening_of events (Heard x) in_it) in
       let since = history.since (HeardAt x.end x.packet) then_ in
-      let until = subst (λ (c : Option Closing). IfSome c (λ c. (e : Happening) → Contains w.happenings e → tick_of e ≤ c.tick)) closing.1 history.until (HeardAt x.end x.packet) then_ in
+      let until = subst (λ (c : Option Closing). IfSome c
+      (λ c. (e : Happening) → Contains w.happenings e → tick_of e ≤ c.tick)) closing.1 history.until (HeardAt x.end x.packet) then_ in
       let sent = (run.heedful.heard v x is.0).sent in
       let closes = closing_tick in
       let slot = slots_apart s clocks air run v known (run_end s) within w there x sent is.1 is.2 since (omega (arith, until, closes)) in
@@ -179,7 +190,8 @@ module _ (s : ScenarioParts) (clocks : ℕ → ℕ → ℕ) (air : List Entry) (
       let reach = (lawful.hearing.heard v x).0 is in
       let lies = (slot_covered s clocks air run v known (run_end s) within w there x reach.1.sent of_slot).0 in
       let closes = closing_tick in
-      let before : IfSome w.closed (λ c. x.end < c.tick) = subst (λ (c : Option Closing). IfSome c (λ c. x.end < c.tick)) (sym closing.1) (omega (arith, lies, closes)) in
+      let before : IfSome w.closed (λ c. x.end < c.tick) =
+      subst (λ (c : Option Closing). IfSome c (λ c. x.end < c.tick)) (sym closing.1) (omega (arith, lies, closes)) in
       let happens : Contains w.happenings (HeardAt x.end x.packet) = elim (since_or_happened s clocks air run v known w there x is of_slot) [
         | inl since ↦ hearings_happen s clocks air run v known (run_end s) within w there x is since reach.0 before
         | inr happened ↦ happened
@@ -198,7 +210,8 @@ module _ (s : ScenarioParts) (clocks : ℕ → ℕ → ℕ) (air : List Entry) (
       ∙ ap (λ (k : ℕ). of_parts y.rank y.node y.start k x.packet) end
       ∙ ap (λ (p : List ℕ). of_parts y.rank y.node y.start y.end p) packet
 
-  as_ended : (x : Sending) → Contains (sendings_of air) x → x.node ≡ v → IsOfSlot s w x → (d : Event) → Contains events d → happening_of d ≡ SentAt x.end x.packet → Contains events (Ended x)
+  as_ended : (x : Sending) → Contains (sendings_of air) x → x.node ≡ v → IsOfSlot s w x → (d : Event) → Contains events d
+      → happening_of d ≡ SentAt x.end x.packet → Contains events (Ended x)
   as_ended x sent node of_slot (Heard y) in_it same = let not_same : HeardAt y.end y.packet ≡ SentAt x.end x.packet = same in absurd cc
   as_ended x sent node of_slot (Ended y) in_it same =
       let is = are_events s air v w w.happenings history.then_ (Ended y) in_it in
@@ -219,7 +232,8 @@ module _ (s : ScenarioParts) (clocks : ℕ → ℕ → ℕ) (air : List Entry) (
       let early = in_run in
       elim ((sends_as_called s clocks air run v known (run_end s) within).ended x made) [
         | inl runs ↦ absurd (
-            let left = subst (λ (o : Option Sending). IfSome o (λ x. run_end s ≤ x.end)) runs (known_before s v (clocks v) (heard_by air v) run.driven.sound (run.driven.drift v known) (run_end s) within).sending in
+            let left = subst (λ (o : Option Sending). IfSome o (λ x. run_end s ≤ x.end)) runs
+            (known_before s v (clocks v) (heard_by air v) run.driven.sound (run.driven.drift v known) (run_end s) within).sending in
             omega (arith, left, lies, closes, early)
             )
         | inr is ↦ (

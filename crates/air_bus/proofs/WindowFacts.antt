@@ -1,7 +1,9 @@
 -- The laws of all windows, by the walk.
 use Rattle.air_log.proofs.Elements.{not_in_none}
 use Rattle.air_invariant.proofs.InvariantHolds.{all_rows}
-use Rattle.air_bus.specs.WindowLaws.{DeliveriesAreOfWindows, WindowsCloseByRows, WindowsCloseInTime, WindowsOpenByRows, WindowsOpenInTime, WindowsStandByPower, WindowsAreApart, OneWindowASlot, SlotsKeepApart, WindowsCoverTheirSlot, FloodsAreHistory, HistoryIsOnAir, NodesSendAsCalled, HearingsHappen, RoundsAreChained, RadiosAreOnInWindows}
+use Rattle.air_bus.specs.WindowLaws.{DeliveriesAreOfWindows, WindowsCloseByRows, WindowsCloseInTime, WindowsOpenByRows, WindowsOpenInTime, WindowsStandByPower}
+use Rattle.air_bus.specs.WindowLaws.{WindowsAreApart, OneWindowASlot, SlotsKeepApart, WindowsCoverTheirSlot, FloodsAreHistory, HistoryIsOnAir}
+use Rattle.air_bus.specs.WindowLaws.{NodesSendAsCalled, HearingsHappen, RoundsAreChained, RadiosAreOnInWindows}
 use Rattle.air_bus.proofs.OpenedByRows.{IsOfRows, rows_steps}
 use Rattle.air_bus.proofs.TimedWindows.{IsTimed, times_steps}
 use Rattle.air_log.specs.Trails.{setup_of}
@@ -21,19 +23,23 @@ use Rattle.air_bus.proofs.WindowWalk.{windows_before}
 
 pub open_by_rows : WindowsOpenByRows
 open_by_rows s clocks air run v known t within w there =
-    ((windows_before s clocks air v (λ now taken w. IsOfRows s clocks v w) all_rows run known (λ u at. rows_steps s clocks v air u) t within).each w there).opens
+    ((windows_before s clocks air v (λ now taken w. IsOfRows s clocks v w) all_rows run known
+    (λ u at. rows_steps s clocks v air u) t within).each w there).opens
 
 pub close_by_rows : WindowsCloseByRows
 close_by_rows s clocks air run v known t within w there =
-    ((windows_before s clocks air v (λ now taken w. IsOfRows s clocks v w) all_rows run known (λ u at. rows_steps s clocks v air u) t within).each w there).closes
+    ((windows_before s clocks air v (λ now taken w. IsOfRows s clocks v w) all_rows run known
+    (λ u at. rows_steps s clocks v air u) t within).each w there).closes
 
 pub open_in_time : WindowsOpenInTime
 open_in_time s clocks air run v known t within w there =
-    ((windows_before s clocks air v (λ now taken w. IsTimed s clocks air v w) all_rows run known (λ u at. times_steps s clocks air v u at) t within).each w there).opens
+    ((windows_before s clocks air v (λ now taken w. IsTimed s clocks air v w) all_rows run known
+    (λ u at. times_steps s clocks air v u at) t within).each w there).opens
 
 pub close_in_time : WindowsCloseInTime
 close_in_time s clocks air run v known t within w there =
-    ((windows_before s clocks air v (λ now taken w. IsTimed s clocks air v w) all_rows run known (λ u at. times_steps s clocks air v u at) t within).each w there).closes
+    ((windows_before s clocks air v (λ now taken w. IsTimed s clocks air v w) all_rows run known
+    (λ u at. times_steps s clocks air v u at) t within).each w there).closes
 
 pub stand_by_power : WindowsStandByPower
 stand_by_power s clocks air run v known t within =
@@ -49,19 +55,23 @@ deliveries_of_windows s clocks air run v known t within =
 
 pub slots_apart : SlotsKeepApart
 slots_apart s clocks air run v known t within w there =
-    ends_in_slot_of all_rows s clocks air run v known w (open_by_rows s clocks air run v known t within w there) (open_in_time s clocks air run v known t within w there)
+    ends_in_slot_of all_rows s clocks air run v known w (open_by_rows s clocks air run v known t within w there)
+    (open_in_time s clocks air run v known t within w there)
 
 pub slot_covered : WindowsCoverTheirSlot
 slot_covered s clocks air run v known t within w there =
-    lies_in_window all_rows s clocks air run v known w (open_by_rows s clocks air run v known t within w there) (open_in_time s clocks air run v known t within w there)
+    lies_in_window all_rows s clocks air run v known w (open_by_rows s clocks air run v known t within w there)
+    (open_in_time s clocks air run v known t within w there)
 
 pub floods_of_windows : FloodsAreHistory
 floods_of_windows s clocks air run v known t within w there =
-    (windows_before s clocks air v (λ now taken w. HasFlood (setup_of s v) w) all_rows run known (λ u at. flood_steps s clocks air v u at) t within).each w there
+    (windows_before s clocks air v (λ now taken w. HasFlood (setup_of s v) w) all_rows run known
+    (λ u at. flood_steps s clocks air v u at) t within).each w there
 
 pub history_on_air : HistoryIsOnAir
 history_on_air s clocks air run v known t within w there =
-    ((windows_before s clocks air v (λ now taken w. IsHistory s clocks air v now w) all_rows run known (λ u at. history_steps s clocks air v u at) t within).each w there).happened
+    ((windows_before s clocks air v (λ now taken w. IsHistory s clocks air v now w) all_rows run known
+    (λ u at. history_steps s clocks air v u at) t within).each w there).happened
 
 pub sends_as_called : NodesSendAsCalled
 sends_as_called s clocks air run v known t within =

@@ -50,5 +50,6 @@ flood_steps s clocks air v t at = record {
   passed = λ x known. known;
   sent = λ d y n j w x fine enters own ends on stage waiting is in_it known.
       one_more (setup_of s v) x (SentAt t y.packet) _ known (ap (λ (u : Window). after_sent u.flood) (sym is.last));
-  closed = λ d n j w x fine due on stage is known. known ∙ ap (λ (f : FloodState). fold after_happening f x.happenings) (sym (first_same (setup_of s v) x.by_alarm x x.happenings x.last _));
+  closed = λ d n j w x fine due on stage is known. known
+      ∙ ap (λ (f : FloodState). fold after_happening f x.happenings) (sym (first_same (setup_of s v) x.by_alarm x x.happenings x.last _));
 }

@@ -1,5 +1,6 @@
 -- What happened in each window is on the air, in its frame and on its channel.
-use Rattle.std.proofs.Common.{◌≡◌, ℕ, zero, suc, ◌/◌, ◌<◌, ◌≤◌, inl, inr, List, [], ◌∷◌, ◌++◌, Some, None, Option, Contains, AllPairs, length, get_or, refl, sym, ◌∙◌, ap, subst, arith}
+use Rattle.std.proofs.Common.{◌≡◌, ℕ, zero, suc, ◌/◌, ◌<◌, ◌≤◌, inl, inr, List, [], ◌∷◌, ◌++◌, Some, None, Option, Contains, AllPairs, length, get_or, refl}
+use Rattle.std.proofs.Common.{sym, ◌∙◌, ap, subst, arith}
 use Rattle.std.specs.Option.{IfSome}
 use Rattle.std.proofs.lemmas.List.Elements.{Contains-push_cases}
 use Rattle.std.proofs.lemmas.List.Quantifiers.{all_pairs_push}
@@ -49,7 +50,8 @@ at_place (x ∷ es) zero d e less = refl
 at_place (x ∷ es) (suc k) d e less = at_place es k d e (omega arith)
 
 turn_pushed : (es : List Happening) (e : Happening) → InTurn es → ((d : Happening) → Contains es d → tick_of d ≤ tick_of e) → InTurn (es ++ e ∷ [])
-turn_pushed es e turn last = all_pairs_push (λ (d e : Happening). tick_of d ≤ tick_of e) es e turn (λ k d less. last (get_or es k d) (k, less, at_place es k d (get_or es k d) less))
+turn_pushed es e turn last = all_pairs_push (λ (d e : Happening). tick_of d ≤ tick_of e) es e turn
+    (λ k d less. last (get_or es k d) (k, less, at_place es k d (get_or es k d) less))
 
 no_turn : InTurn []
 no_turn i j d before within = absurd (omega (arith, within))
@@ -120,7 +122,8 @@ module _ (s : ScenarioParts) (clocks : ℕ → ℕ → ℕ) (air : List Entry) (
     sent_at_end d enters =
         let before = device_in s clocks air v t in
         ap (λ (e : Device). e.made.sent) enters
-        ∙ in_hearings (λ (e : Device). e.made.sent ≡ before.made.sent) s v (clocks v) (heard_by air v) t before (kept_sent (λ (xs : List Sending). xs ≡ before.made.sent) (clocks v) (setup_of s v) t) refl
+        ∙ in_hearings (λ (e : Device). e.made.sent ≡ before.made.sent) s v (clocks v) (heard_by air v) t before
+        (kept_sent (λ (xs : List Sending). xs ≡ before.made.sent) (clocks v) (setup_of s v) t) refl
 
     -- the sending that ends is of the window
     module _ (d : Device) (y : Sending) (n : Node) (j : ℕ) (w : Window) (x : WindowLog) (fine : IsFine s clocks air v t End d)
@@ -134,7 +137,8 @@ module _ (s : ScenarioParts) (clocks : ℕ → ℕ → ℕ) (air : List Entry) (
       pub in_air : Contains (sendings_of air) y × (y.node ≡ v)
       in_air =
           let in_run = at.in_run in
-          let below = (sent_below s clocks air at.run.heedful.trails v at.known t (omega (arith, in_run)) y).1 (subst (λ (xs : List Sending). Contains xs y) (sent_at_end d enters) made) in
+          let below = (sent_below s clocks air at.run.heedful.trails v at.known t (omega (arith, in_run)) y).1
+          (subst (λ (xs : List Sending). Contains xs y) (sent_at_end d enters) made) in
           (below.there, below.node)
 
       node_on : IsOn s clocks air v t (suc t) d n
@@ -152,7 +156,8 @@ module _ (s : ScenarioParts) (clocks : ℕ → ℕ → ℕ) (air : List Entry) (
           let early = fine.before y made in
           let from = after_frame_start s clocks air at.run y flood in_air.0 in
           let until = before_frame_end s clocks air at.run y flood in_air.0 in
-          let true_frame : t / s.profile.frame ≡ frame_of s.profile y = frame_is s (frame_of s.profile y) t (omega (arith, from, early)) (omega (arith, until, ends)) in
+          let true_frame : t / s.profile.frame ≡ frame_of s.profile y =
+          frame_is s (frame_of s.profile y) t (omega (arith, from, early)) (omega (arith, until, ends)) in
           let counted : n.frame ≡ t / s.profile.frame = elim node_on.frame.at [
             | inl now ↦ now
             | inr over ↦ absurd (subst IsResting stage over.rests)

@@ -1,5 +1,6 @@
 -- The part of each node in the floods of its windows.
-use Rattle.std.proofs.Common.{◌≡◌, ◌≢◌, ℕ, ◌+◌, ◌-◌, ◌<◌, ◌≤◌, length, inl, inr, List, ◌∷◌, ◌++◌, Bool, true, false, nat_lt, if◌then◌else◌, Option, IfSome, Contains, fold, map, refl, sym, ◌∙◌, ap, subst, arith}
+use Rattle.std.proofs.Common.{◌≡◌, ◌≢◌, ℕ, ◌+◌, ◌-◌, ◌<◌, ◌≤◌, length, inl, inr, List, ◌∷◌, ◌++◌, Bool, true, false, nat_lt, if◌then◌else◌, Option, IfSome}
+use Rattle.std.proofs.Common.{Contains, fold, map, refl, sym, ◌∙◌, ap, subst, arith}
 use Rattle.tick_clock.specs.Clocks.{due}
 use Rattle.time_reference.specs.Zeros.{point, starting}
 use Rattle.glossy_relay.specs.FloodState.{FloodState}
@@ -52,7 +53,8 @@ not_first f p q is first =
     let same : count_of (relay_of p) ≡ count_of q = ap count_of both.1 in
     omega (arith, next, same, first)
 
-module _ (s : ScenarioParts) (clocks : ℕ → ℕ → ℕ) (air : List Entry) (run : IsRun s clocks air) (lawful : Lawful s clocks air) (v : ℕ) (known : knows s.nodes v ≡ true)
+module _ (s : ScenarioParts) (clocks : ℕ → ℕ → ℕ) (air : List Entry) (run : IsRun s clocks air) (lawful : Lawful s clocks air) (v : ℕ)
+    (known : knows s.nodes v ≡ true)
     (w : WindowLog) (there : Contains (device_in s clocks air v (run_end s)).made.windows w) (has : HasEvents s air v w) where
   within : run_end s ≤ run_end s
   within = omega arith
@@ -85,7 +87,13 @@ module _ (s : ScenarioParts) (clocks : ℕ → ℕ → ℕ) (air : List Entry) (
       subst (λ (u : WindowLog). CallsFor s clocks v u x.start x.packet) this is.call
 
   begins_by : (x : Sending) → counter_of x ≡ 0 → CallsFor s clocks v w x.start x.packet → IsSaid s clocks air v w x
-  begins_by x zero (inl begins) = record { by_alarm = begins.by_alarm; message = begins.message; said = begins.said; packet_is = begins.packet_is; at = begins.at }
+  begins_by x zero (inl begins) = record {
+    by_alarm = begins.by_alarm;
+    message = begins.message;
+    said = begins.said;
+    packet_is = begins.packet_is;
+    at = begins.at;
+  }
   begins_by x zero (inr relays) = absurd (not_first (fold after_happening first relays.earlier) relays.heard x.packet relays.answer zero)
 
   -- an occasion of the events for a relay
@@ -95,22 +103,26 @@ module _ (s : ScenarioParts) (clocks : ℕ → ℕ → ℕ) (air : List Entry) (
       let from = comes_from happening_of has.events relays.earlier (HeardAt relays.until relays.heard) relays.later (has.happened ∙ relays.is) in
       by_event x relays from from.at from.is from.at_is
     where
-      by_event : (x : Sending) (relays : RelaysIn s clocks v w x.start x.packet) (from : ComesFrom happening_of has.events relays.earlier (HeardAt relays.until relays.heard)) (e : Event)
+      by_event : (x : Sending) (relays : RelaysIn s clocks v w x.start x.packet)
+          (from : ComesFrom happening_of has.events relays.earlier (HeardAt relays.until relays.heard)) (e : Event)
           → has.events ≡ from.first ++ e ∷ from.rest → happening_of e ≡ HeardAt relays.until relays.heard → IsAnswer s clocks air v w has.events x
       by_event x relays from (Ended h) is same = let not_same : SentAt h.end h.packet ≡ HeardAt relays.until relays.heard = same in absurd cc
       by_event x relays from (Heard h) is same =
           let until : h.end ≡ relays.until = cc in
           let heard : h.packet ≡ relays.heard = cc in
-          let flood : after_all first from.first ≡ fold after_happening first relays.earlier = same_flood first from.first ∙ ap (fold after_happening first) from.before_is in
+          let flood : after_all first from.first ≡ fold after_happening first relays.earlier = same_flood first from.first
+          ∙ ap (fold after_happening first) from.before_is in
           record {
             heard = h;
             flood = after_all first from.first;
-            occasion = subst (λ (es : List Event). Contains (occasions first es) (record { before = after_all first from.first; event = Heard h })) (sym is) (occasion_at first from.first (Heard h) from.rest);
+            occasion = subst (λ (es : List Event). Contains (occasions first es) (record { before = after_all first from.first; event = Heard h }))
+                (sym is) (occasion_at first from.first (Heard h) from.rest);
             answer = ap (λ (f : FloodState). reply_to f h.packet) flood ∙ ap (reply_to (fold after_happening first relays.earlier)) heard ∙ relays.answer;
             at = relays.at ∙ ap (λ (e : ℕ). due (clocks v) (clocks v e + s.profile.turn)) (sym until);
           }
 
-  relays_by : (h : Sending) (f : FloodState) (q : List ℕ) → Contains (occasions first has.events) (record { before = f; event = Heard h }) → reply_to f h.packet ≡ Relay q
+  relays_by : (h : Sending) (f : FloodState) (q : List ℕ) → Contains (occasions first has.events) (record { before = f; event = Heard h })
+      → reply_to f h.packet ≡ Relay q
       → RelaysIn s clocks v w (due (clocks v) (clocks v h.end + s.profile.turn)) q
   relays_by h f q in_it answer =
       let o = occasion_of first has.events (record { before = f; event = Heard h }) in_it in
@@ -127,7 +139,8 @@ module _ (s : ScenarioParts) (clocks : ℕ → ℕ → ℕ) (air : List Entry) (
   -- ---- how long it is tuned
 
   -- the window is open at each tick of what is sent in the slot after its opening
-  open_then : (x : Sending) → Contains (sendings_of air) x → IsOfSlot s w x → w.opened ≤ x.start → (k : ℕ) → x.start ≤ k → k < x.end → (k < run_end s) × IsOpenAt w k
+  open_then : (x : Sending) → Contains (sendings_of air) x → IsOfSlot s w x → w.opened ≤ x.start → (k : ℕ) → x.start ≤ k → k < x.end
+      → (k < run_end s) × IsOpenAt w k
   open_then x sent of_slot since k from until =
       let lies = (slot_covered s clocks air run v known (run_end s) within w there x sent of_slot).0 in
       let closing = closing_known s clocks air run lawful v known w there in

@@ -1,5 +1,6 @@
 -- How long the radio of a node is on in each of its windows.
-use Rattle.std.proofs.Common.{◌≡◌, ℕ, suc, ◌+◌, ◌<◌, ◌≤◌, inl, inr, List, [], ◌∷◌, ◌++◌, Bool, true, false, nat_lt, nat_le, if◌then◌else◌, Some, None, Option, Contains, fold, refl, sym, ◌∙◌, ap, subst, arith, true≢false, lt-ltb, ltb-true, eqb-true, IfSome}
+use Rattle.std.proofs.Common.{◌≡◌, ℕ, suc, ◌+◌, ◌<◌, ◌≤◌, inl, inr, List, [], ◌∷◌, ◌++◌, Bool, true, false, nat_lt, nat_le, if◌then◌else◌, Some, None, Option}
+use Rattle.std.proofs.Common.{Contains, fold, refl, sym, ◌∙◌, ap, subst, arith, true≢false, lt-ltb, ltb-true, eqb-true, IfSome}
 use Rattle.std.specs.Prelude.{slice_index}
 use Rattle.std.proofs.lemmas.Bool.{leb-true, le-leb}
 use Rattle.glossy_relay.specs.FloodState.{FloodState}
@@ -46,14 +47,15 @@ use Rattle.air_bus.proofs.WindowWalk.{on_in, windows_behind}
 abbrev as_one : Bool → ℕ
 as_one b = if b then 1 else 0
 
-heard_sent : (f : FloodState) (p : List ℕ) → (after_heard f p).sent ≡ f.sent
+pub heard_sent : (f : FloodState) (p : List ℕ) → (after_heard f p).sent ≡ f.sent
 heard_sent f p = of_test (fits f p)
   where
     of_test : (b : Bool) → (if b then record f { waiting = nat_lt (slice_index p 2) 11; first = first_of f.first p } else f).sent ≡ f.sent
     of_test true = refl
     of_test false = refl
 
-counted : (k : ℕ) (es : List Happening) (f : FloodState) → ((e : Happening) → Contains es e → tick_of e ≤ k) → (fold after_happening f es).sent ≡ f.sent + sendings_in k es
+counted : (k : ℕ) (es : List Happening) (f : FloodState) → ((e : Happening) → Contains es e → tick_of e ≤ k)
+    → (fold after_happening f es).sent ≡ f.sent + sendings_in k es
 counted k [] f by = omega arith
 counted k (HeardAt t p ∷ es) f by =
     let rest = counted k es (after_heard f p) (λ e there. by e (contains_tail (HeardAt t p) es e there)) in
@@ -94,7 +96,8 @@ listened r None on = absurd (true≢false (sym on))
 listened r (Some l) on = ap (λ (x : ℕ). Some x) (eqb-true l.rank r on)
 
 module _ (rows : AllRows) (s : ScenarioParts) (clocks : ℕ → ℕ → ℕ) (air : List Entry) (run : IsRun s clocks air) (v : ℕ) (known : knows s.nodes v ≡ true)
-    (t : ℕ) (within : t ≤ run_end s) (w : WindowLog) (there : Contains (device_in s clocks air v t).made.windows w) (k : ℕ) (before : k < t) (open_at : IsOpenAt w k) where
+    (t : ℕ) (within : t ≤ run_end s) (w : WindowLog) (there : Contains (device_in s clocks air v t).made.windows w) (k : ℕ) (before : k < t)
+    (open_at : IsOpenAt w k) where
   in_run : k < run_end s
   in_run = omega (arith, before, within)
 
@@ -112,7 +115,8 @@ module _ (rows : AllRows) (s : ScenarioParts) (clocks : ℕ → ℕ → ℕ) (ai
   floods = windows_behind s clocks air v (λ now taken x. HasFlood (setup_of s v) x) rows run known (λ u at. flood_steps s clocks air v u at) k in_run
 
   history : HasWindows s v (IsHistory s clocks air v k) k d
-  history = (windows_behind s clocks air v (λ now taken x. IsHistory s clocks air v now x) rows run known (λ u at. history_steps s clocks air v u at) k in_run).1
+  history = (windows_behind s clocks air v (λ now taken x. IsHistory s clocks air v now x) rows run known
+      (λ u at. history_steps s clocks air v u at) k in_run).1
 
   not_closed : (c : Option Closing) → old.old.closed ≡ c → c ≡ None
   not_closed None is = refl
@@ -142,10 +146,11 @@ module _ (rows : AllRows) (s : ScenarioParts) (clocks : ℕ → ℕ → ℕ) (ai
   by_stage n Scanning on stage stand = closed_none stand
   by_stage n AwaitFrame on stage stand = closed_none stand
   by_stage n (AwaitSlot j) on stage stand = closed_none stand
-  by_stage n (InWindow j u) on stage stand = elim (contains_cases stand.first stand.earlier old.old (subst (λ (l : List WindowLog). Contains l old.old) stand.is old.there)) [
-    | inl same ↦ record { node = n; slot = j; window = u; on = on; stage = stage; is = subst (IsOpen n j u) same stand.now }
-    | inr earlier ↦ absurd (open_not old.old.closed open_ (stand.closed old.old earlier))
-  ]
+  by_stage n (InWindow j u) on stage stand =
+      elim (contains_cases stand.first stand.earlier old.old (subst (λ (l : List WindowLog). Contains l old.old) stand.is old.there)) [
+        | inl same ↦ record { node = n; slot = j; window = u; on = on; stage = stage; is = subst (IsOpen n j u) same stand.now }
+        | inr earlier ↦ absurd (open_not old.old.closed open_ (stand.closed old.old earlier))
+      ]
 
   by_power : (p : Power) → d.power ≡ p → StandBy d.made.windows p → IsThere
   by_power (PowerOff boots) on stand = closed_none stand
@@ -173,7 +178,8 @@ module _ (rows : AllRows) (s : ScenarioParts) (clocks : ℕ → ℕ → ℕ) (ai
 
   limit : here.window.flood.limit ≡ s.sends
   limit =
-      let window : InOpenWindow s clocks air v (suc k) here.node d here.slot here.window = subst (λ (st : Stage). WindowAt s clocks air v (suc k) here.node d st) here.stage node_on.window in
+      let window : InOpenWindow s clocks air v (suc k) here.node d here.slot here.window =
+      subst (λ (st : Stage). WindowAt s clocks air v (suc k) here.node d st) here.stage node_on.window in
       window.flood.limit
 
   rank : rank_at here.node ≡ w.rank
@@ -184,8 +190,10 @@ module _ (rows : AllRows) (s : ScenarioParts) (clocks : ℕ → ℕ → ℕ) (ai
 
   pub tuned_then : sendings_by k w < s.sends → IsTuned (scene_of s.profile s.trace air) v w.rank k
   tuned_then few =
-      let less : nat_lt here.window.flood.sent here.window.flood.limit ≡ true = lt-ltb here.window.flood.sent here.window.flood.limit (let sent = counted_so in let most = limit in omega (arith, few, sent, most)) in
-      let on : listens_to (rank_at here.node) d.listening ≡ true = subst (λ (b : Bool). Either b (listens_to (rank_at here.node) d.listening ≡ true) (d.listening ≡ None)) less radio in
+      let less : nat_lt here.window.flood.sent here.window.flood.limit ≡ true =
+      lt-ltb here.window.flood.sent here.window.flood.limit (let sent = counted_so in let most = limit in omega (arith, few, sent, most)) in
+      let on : listens_to (rank_at here.node) d.listening ≡ true =
+      subst (λ (b : Bool). Either b (listens_to (rank_at here.node) d.listening ≡ true) (d.listening ≡ None)) less radio in
       listens_tuned s clocks air run.heedful.trails v w.rank k known in_run (listened (rank_at here.node) d.listening on ∙ ap (λ (r : ℕ). Some r) rank)
 
   pub only_then : (r : ℕ) → IsTuned (scene_of s.profile s.trace air) v r k → (r ≡ w.rank) × (sendings_by k w < s.sends)

@@ -1,5 +1,6 @@
 -- What each step that touches a window keeps is known of all windows of a run.
-use Rattle.std.proofs.Common.{◌≡◌, ℕ, zero, suc, ◌+◌, ◌<◌, ◌≤◌, inl, inr, List, true, is_some, Some, None, Option, Contains, refl, sym, ◌∙◌, ap, subst, arith, true≢false}
+use Rattle.std.proofs.Common.{◌≡◌, ℕ, zero, suc, ◌+◌, ◌<◌, ◌≤◌, inl, inr, List, true, is_some, Some, None, Option, Contains, refl, sym, ◌∙◌, ap, subst, arith}
+use Rattle.std.proofs.Common.{true≢false}
 use Rattle.std.specs.Option.{IfSome}
 use Rattle.std.proofs.lemmas.Bool.{or_right, cases_lt}
 use Rattle.lwb_base.specs.declared.event.Event.TheVariants.{Boot, Alarm}
@@ -55,7 +56,8 @@ module _ (s : ScenarioParts) (clocks : ℕ → ℕ → ℕ) (air : List Entry) (
   pub fine_before : (t : ℕ) → t ≤ run_end s → IsRun s clocks air → knows s.nodes v ≡ true → Invariant s clocks air t
       → IsFine s clocks air v t Lines (device_in s clocks air v t)
   fine_before t within run known inv =
-      let there : (x : Sending) → Contains (device_in s clocks air v t).made.sent x → _ = λ x in_made. (sent_below s clocks air run.heedful.trails v known t within x).1 in_made in
+      let there : (x : Sending) → Contains (device_in s clocks air v t).made.sent x
+      → _ = λ x in_made. (sent_below s clocks air run.heedful.trails v known t within x).1 in_made in
       record {
         node = inv.nodes v known;
         host = λ rank is. inv.hosts rank v is;
@@ -73,7 +75,8 @@ module _ (s : ScenarioParts) (clocks : ℕ → ℕ → ℕ) (air : List Entry) (
   pub waits : (t : ℕ) (d : Device) (x : Sending) (n : Node) (j : ℕ) (w : Window) → IsFine s clocks air v t End d → d.sending ≡ Some x
       → d.power ≡ PowerOn n → n.stage ≡ InWindow j w → w.flood.waiting ≡ true
   waits t d x n j w fine sending on stage =
-      let window : InOpenWindow s clocks air v (suc t) n d j w = subst (λ (st : Stage). WindowAt s clocks air v (suc t) n d st) stage (on_in t End d n fine on).window in
+      let window : InOpenWindow s clocks air v (suc t) n d j w =
+      subst (λ (st : Stage). WindowAt s clocks air v (suc t) n d st) stage (on_in t End d n fine on).window in
       window.flood.waits ∙ or_right (is_some d.ordered) (is_some d.sending) (ap (λ (o : Option Sending). is_some o) sending)
 
   module _ (K : ℕ → ℕ → WindowLog → Type 0) where
@@ -92,7 +95,8 @@ module _ (s : ScenarioParts) (clocks : ℕ → ℕ → ℕ) (air : List Entry) (
       each = have.each;
       past = have.past;
       apart = have.apart;
-      stand = stand_there d.made.windows (record n { core = core }) n.stage none (all_closed d.made.windows n n.stage none (subst (StandBy d.made.windows) on have.stand));
+      stand = stand_there d.made.windows (record n { core = core }) n.stage none
+          (all_closed d.made.windows n n.stage none (subst (StandBy d.made.windows) on have.stand));
       delivered = have.delivered;
     }
 
@@ -107,7 +111,13 @@ module _ (s : ScenarioParts) (clocks : ℕ → ℕ → ℕ) (air : List Entry) (
     ends_frame t d n on awaits have =
         let core = frame_ended (setup_of s v) n.frame n.core in
         rests_on s clocks v (K t (suc t)) t Alarm None (record d { alarm = None }) n (frame_alarms (setup_of s v) n) on (awaiting n.stage awaits)
-        (after_frame core.tune (stopped_frame (n.frame + 1))) refl (record { each = have.each; past = have.past; apart = have.apart; stand = have.stand; delivered = have.delivered })
+        (after_frame core.tune (stopped_frame (n.frame + 1))) refl (record {
+          each = have.each;
+          past = have.past;
+          apart = have.apart;
+          stand = have.stand;
+          delivered = have.delivered;
+        })
 
     -- what is changed is neither node nor windows
     still : (Q : WindowLog → Type 0) (t : ℕ) (d : Device) → HasWindows s v Q t d → HaveWindows s v Q t d.made.windows d.made.deliveries d.power
@@ -164,19 +174,22 @@ module _ (s : ScenarioParts) (clocks : ℕ → ℕ → ℕ) (air : List Entry) (
           (rows.loss s clocks air v t at d l i payload (fine t Lines d here) next act lost, still _ t d here.holds.1);
       joining = λ d h n y here next on stage says rank. (
         rows.joining s clocks air v t at d h n y (fine t Hearings d here) next on stage says rank,
-        joins_in s clocks v (K t t) t d n h.packet y on stage (steps.joined d h n y here.holds.0 next (heard_in_floods s clocks air v t at h d next) on stage says rank) here.holds.1,
+        joins_in s clocks v (K t t) t d n h.packet y on stage
+            (steps.joined d h n y here.holds.0 next (heard_in_floods s clocks air v t at h d next) on stage says rank) here.holds.1,
       );
       hearing = λ d h n j w here next on stage.
           (let is = open_first s clocks v (K t t) t d n j w on stage here.holds.1 in (
             rows.hearing s clocks air v t at d h n j w (fine t Hearings d here) next on stage,
             hears_in s clocks v (K t t) t d n j w h.packet stage is here.holds.1
-                (steps.heard d h n j w is.first (fine t Hearings d here) next (heard_in_floods s clocks air v t at h d next) on stage is.now (first_there d n j w is) (first_known s clocks v (K t t) t d n j w here.holds.1 is)),
+                (steps.heard d h n j w is.first (fine t Hearings d here) next (heard_in_floods s clocks air v t at h d next) on stage is.now
+                (first_there d n j w is) (first_known s clocks v (K t t) t d n j w here.holds.1 is)),
           ));
       sent = λ d x n j w here enters own ends on stage waiting.
           (let is = open_first s clocks v (K t (suc t)) t d n j w on stage here.holds.1 in (
             rows.sent s clocks air v t at d x n j w (fine t End d here) enters own ends on stage waiting,
             sends_in s clocks v (K t (suc t)) t d x n j w stage is here.holds.1
-                (steps.sent d x n j w is.first here.holds.0 enters own ends on stage waiting is.now (first_there d n j w is) (first_known s clocks v (K t (suc t)) t d n j w here.holds.1 is)),
+                (steps.sent d x n j w is.first here.holds.0 enters own ends on stage waiting is.now (first_there d n j w is)
+                (first_known s clocks v (K t (suc t)) t d n j w here.holds.1 is)),
           ));
       late_sent = λ d x n j w here enters own ends on stage idle.
           absurd (true≢false (sym (waits t d x n j w here.holds.0 own on stage) ∙ idle));
@@ -262,6 +275,7 @@ module _ (s : ScenarioParts) (clocks : ℕ → ℕ → ℕ) (air : List Entry) (
         windows_in_phase t in_run phase = let at = at_tick t in_run in (one_tick rows t at (steps t at) (windows_before t (omega (arith, in_run)))).0 phase
 
         -- what is left of a tick
-        pub windows_behind : (t : ℕ) → t < run_end s → IsFine s clocks air v t Over (device_in s clocks air v (suc t)) × HasWindows s v (K t (suc t)) t (device_in s clocks air v (suc t))
+        pub windows_behind : (t : ℕ) → t < run_end s → IsFine s clocks air v t Over (device_in s clocks air v (suc t))
+            × HasWindows s v (K t (suc t)) t (device_in s clocks air v (suc t))
         unfolding before_tick
         windows_behind t in_run = windows_in_phase t in_run Over

@@ -39,7 +39,10 @@ module _ (s : ScenarioParts) (clocks : ℕ → ℕ → ℕ) (air : List Entry) (
       none_some : None ≡ Some c → ⊥
       none_some is = cc
 
-  happens : (x : WindowLog) (e : Happening) (u : Window) → x.closed ≡ None → since ≤ tick_of e → IsSince since logs x → IsSince since logs (record x { happenings = x.happenings ++ e ∷ []; last = u })
+  happens : (x : WindowLog) (e : Happening) (u : Window) → x.closed ≡ None → since ≤ tick_of e → IsSince since logs x → IsSince since logs (record x {
+    happenings = x.happenings ++ e ∷ [];
+    last = u;
+  })
   happens x e u open_ now (inl new) = inl new
   happens x e u open_ now (inr is) = inr (record {
     old = is.old;
@@ -48,7 +51,10 @@ module _ (s : ScenarioParts) (clocks : ℕ → ℕ → ℕ) (air : List Entry) (
     rank = is.rank;
     more = is.more ++ e ∷ [];
     is = ap (λ (l : List Happening). l ++ e ∷ []) is.is ∙ append_assoc is.old.happenings is.more (e ∷ []);
-    later = λ d there. elim (Contains-push_cases is.more e d there) [ inl before ↦ is.later d before | inr same ↦ subst (λ (h : Happening). since ≤ tick_of h) same now ];
+    later = λ d there. elim (Contains-push_cases is.more e d there) [
+      | inl before ↦ is.later d before
+      | inr same ↦ subst (λ (h : Happening). since ≤ tick_of h) same now
+    ];
     kept = λ c closed. absurd (none_closed x is.old c open_ closed (is.kept c closed));
   })
 
@@ -82,7 +88,8 @@ module _ (rows : AllRows) (s : ScenarioParts) (clocks : ℕ → ℕ → ℕ) (ai
       → IsSince k (device_in s clocks air v k).made.windows w
   since_then k t from within w there =
       let d = device_in s clocks air v k in
-      let have = windows_before s clocks air v (λ now taken w. IsOfRows s clocks v w) rows run known (λ u at. rows_steps s clocks v air u) k (omega (arith, from, within)) in
+      let have = windows_before s clocks air v (λ now taken w. IsOfRows s clocks v w) rows run known (λ u at. rows_steps s clocks v air u) k
+      (omega (arith, from, within)) in
       let first : HasWindows s v (IsSince k d.made.windows) k d = record {
         each = λ x in_it. inr (record {
           old = x;
@@ -99,4 +106,5 @@ module _ (rows : AllRows) (s : ScenarioParts) (clocks : ℕ → ℕ → ℕ) (ai
         stand = have.stand;
         delivered = have.delivered;
       } in
-      (windows_since s clocks air v (λ now taken w. IsSince k d.made.windows w) rows run known k (λ u later at. since_steps s clocks air v k d.made.windows u later) first t from within).each w there
+      (windows_since s clocks air v (λ now taken w. IsSince k d.made.windows w) rows run known k
+      (λ u later at. since_steps s clocks air v k d.made.windows u later) first t from within).each w there

@@ -32,7 +32,8 @@ joins = record {
     of_rank = refl;
     in_slot = refl;
     happened = (0, omega arith, refl);
-    after = subst (λ (clock : ℕ → ℕ). joined_window.after ≡ (joins_by (setup_of one_packet 2) joined_window.before (clock joined_window.opened) (opening_with 0) (record { plan = first_plan; gap = 0 })).node)
+    after = subst (λ (clock : ℕ → ℕ). joined_window.after
+        ≡ (joins_by (setup_of one_packet 2) joined_window.before (clock joined_window.opened) (opening_with 0) (record { plan = first_plan; gap = 0 })).node)
         (sym member_clock) refl;
   };
 }

@@ -6,7 +6,7 @@ use Rattle.bus_rules.specs.declared.part.Part.TheVariants.{Opening, Contention}
 use Rattle.air_log.specs.FirstRound.{opening_with}
 use Rattle.air_log.specs.WindowLogs.{WindowLog, HeardAt, SentAt}
 use Rattle.air_safety.specs.OnePacket.{opening_0, opening_1, opening_2, opening_3, request_0, request_1, request_2, request_with}
-use Rattle.air_safety.specs.OnePacketMember.{awaits_5_1, awaits_5_2, floods_5_0, floods_5_1, scanning}
+use Rattle.air_safety.specs.OnePacketMemberNodes.{awaits_5_1, awaits_5_2, floods_5_0, floods_5_1, scanning}
 use Rattle.air_safety.specs.OnePacketNodes.{flood}
 
 abbrev pub joined_window : WindowLog

@@ -5,7 +5,8 @@ use Rattle.lwb_base.specs.Profile.{Numbers, airtime}
 use Rattle.tick_clock.specs.Clocks.{IsClock, due}
 use Rattle.time_reference.specs.Budgets.{Fits, Budget, budget_of}
 use Rattle.time_reference.specs.Zeros.{Good, opening, starting, closing, point}
-use Rattle.time_reference.proofs.Points.{good_later, after_start, opens_before_starts, closes_before_next_starts, closes_before_next_closes, closes_after_relays, opens_before_closes}
+use Rattle.time_reference.proofs.Points.{good_later, after_start, opens_before_starts, closes_before_next_starts, closes_before_next_closes}
+use Rattle.time_reference.proofs.Points.{closes_after_relays, opens_before_closes}
 use Rattle.bus_rules.specs.Plans.{last_slot}
 use Rattle.node_core.specs.declared.stage.Stage.TheVariants.{AwaitSlot}
 use Rattle.node_core.specs.Nodes.{Node, starts_at, closes_at}

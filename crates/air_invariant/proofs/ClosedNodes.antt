@@ -1,6 +1,7 @@
 -- The node that the closing of a window leaves: it awaits the next slot of its round, or the end of the frame. And the life
 -- of a host, with it.
-use Rattle.std.proofs.Common.{◌≡◌, ℕ, suc, ◌+◌, ◌/◌, ◌<◌, ◌≤◌, inl, inr, List, Bool, true, false, if◌then◌else◌, Some, None, Contains, length, max, refl, sym, ◌∙◌, ap, subst, arith, true≢false}
+use Rattle.std.proofs.Common.{◌≡◌, ℕ, suc, ◌+◌, ◌/◌, ◌<◌, ◌≤◌, inl, inr, List, Bool, true, false, if◌then◌else◌, Some, None, Contains, length, max, refl, sym}
+use Rattle.std.proofs.Common.{◌∙◌, ap, subst, arith, true≢false}
 use Rattle.tick_clock.specs.Clocks.{due}
 use Rattle.time_reference.specs.Zeros.{opening, closing}
 use Rattle.bus_rules.specs.declared.tune.Tune.TheVariants.{Hold}

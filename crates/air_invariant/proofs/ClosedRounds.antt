@@ -1,6 +1,7 @@
 -- What a node accepted in the window that closes: nothing of its rounds, or a schedule of its rank, by which it has a
 -- reference. An opening is accepted in slot 0, and a closing in the last slot.
-use Rattle.std.proofs.Common.{◌≡◌, ℕ, suc, ◌≤◌, ◌⊎◌, inl, inr, List, Bool, true, false, ◌==◌, nat_lt, if◌then◌else◌, Some, None, Option, option_and_then, option_map, IfSome, refl, sym, ◌∙◌, ap, subst, arith, true≢false, eq-eqb, lt-ltb, le-ltb}
+use Rattle.std.proofs.Common.{◌≡◌, ℕ, suc, ◌≤◌, ◌⊎◌, inl, inr, List, Bool, true, false, ◌==◌, nat_lt, if◌then◌else◌, Some, None, Option, option_and_then}
+use Rattle.std.proofs.Common.{option_map, IfSome, refl, sym, ◌∙◌, ap, subst, arith, true≢false, eq-eqb, lt-ltb, le-ltb}
 use Rattle.std.specs.Prelude.{⊤}
 use Rattle.std.proofs.lemmas.Bool.{cond-true, cond-false, ne_eqb}
 use Rattle.lwb_packets.specs.declared.kind.Kind as Kind

@@ -1,5 +1,6 @@
 -- What the end of a frame makes of a node, by its tune.
-use Rattle.std.proofs.Common.{◌≡◌, ℕ, ◌+◌, ◌%◌, ◌<◌, ◌≤◌, true, ◌&&◌, ◌==◌, nat_lt, if◌then◌else◌, Some, None, Option, refl, fold, sym, ◌∙◌, ap, subst, arith, mod-lt, eqb-true, true≢false}
+use Rattle.std.proofs.Common.{◌≡◌, ℕ, ◌+◌, ◌%◌, ◌<◌, ◌≤◌, true, ◌&&◌, ◌==◌, nat_lt, if◌then◌else◌, Some, None, Option, refl, fold, sym, ◌∙◌, ap, subst, arith}
+use Rattle.std.proofs.Common.{mod-lt, eqb-true, true≢false}
 use Rattle.std.proofs.lemmas.Bool.{cond_both, and_parts, ltb-true}
 use Rattle.bus_rules.specs.declared.tune.Tune.{Tune}
 use Rattle.bus_rules.specs.declared.tune.Tune.TheVariants.{Scan, Hold, Host}

@@ -1,5 +1,6 @@
 -- What the end of the own sending leaves of a device whose window waits for it.
-use Rattle.std.proofs.Common.{◌≡◌, ℕ, ◌+◌, ◌<◌, inl, inr, List, [], ◌∷◌, Bool, true, false, ◌==◌, nat_lt, Some, None, fold, refl, sym, ◌∙◌, subst, arith, eqb-true}
+use Rattle.std.proofs.Common.{◌≡◌, ℕ, ◌+◌, ◌<◌, inl, inr, List, [], ◌∷◌, Bool, true, false, ◌==◌, nat_lt, Some, None, fold, refl, sym, ◌∙◌, subst, arith}
+use Rattle.std.proofs.Common.{eqb-true}
 use Rattle.std.proofs.lemmas.Bool.{cond_both, cases_lt, eqb-false, lt-ltb, le-ltb}
 use Rattle.lwb_base.specs.declared.event.Event.TheVariants.{Sent}
 use Rattle.lwb_base.specs.declared.order.Order.{Order}

@@ -57,7 +57,16 @@ data_is = record {
       first = refl;
       in_round = omega arith;
       good = record { c = 9; j = 0; ref = reopened; after = inr (omega arith) };
-      says = record { plan = granted_plan; planned = planned; own = refl; owner = 8; part = refl; node = refl; stream = refl; word = inr (heard_plan (suc 2304000000)) };
+      says = record {
+        plan = granted_plan;
+        planned = planned;
+        own = refl;
+        owner = 8;
+        part = refl;
+        node = refl;
+        stream = refl;
+        word = inr (heard_plan (suc 2304000000));
+      };
     };
     at = sym (member_due_at 2370081278);
   };

@@ -39,12 +39,15 @@ module _ (s : ScenarioParts) (clocks : ℕ → ℕ → ℕ) (air : List Entry) (
   pub zero_good : Good s.profile (budget_of s.profile) host first is.zero (frame_of s.profile x) (starting s.profile (slot_of x))
   zero_good =
       let j = slot_of x in
-      let good : GoodFor s clocks is.origin.rank is.origin.node is.zero (frame_of s.profile is.origin) (opening s.profile (slot_of is.origin)) = is.begins.start.good in
+      let good : GoodFor s clocks is.origin.rank is.origin.node is.zero (frame_of s.profile is.origin) (opening s.profile (slot_of is.origin)) =
+      is.begins.start.good in
       let here : Good s.profile (budget_of s.profile) host first is.zero (frame_of s.profile x) (opening s.profile j) =
       subst (λ (r : ℕ). GoodFor s clocks r is.origin.node is.zero (frame_of s.profile x) (opening s.profile j)) (sym is.slot.channel)
       (subst (λ (f : ℕ). GoodFor s clocks is.origin.rank is.origin.node is.zero f (opening s.profile j)) (sym is.slot.frame)
-      (subst (λ (i : ℕ). GoodFor s clocks is.origin.rank is.origin.node is.zero (frame_of s.profile is.origin) (opening s.profile i)) (sym is.slot.slot) good)) in
-      good_later s.profile (budget_of s.profile) (run_fits s run.driven.sound) host first is.zero (frame_of s.profile x) (opening s.profile j) (starting s.profile j) (omega arith) here
+      (subst (λ (i : ℕ). GoodFor s clocks is.origin.rank is.origin.node is.zero (frame_of s.profile is.origin) (opening s.profile i))
+      (sym is.slot.slot) good)) in
+      good_later s.profile (budget_of s.profile) (run_fits s run.driven.sound) host first is.zero (frame_of s.profile x) (opening s.profile j)
+      (starting s.profile j) (omega arith) here
 
   pub slot_in_round : slot_of x ≤ (budget_of s.profile).last
   slot_in_round = let most = is.begins.start.in_round in let same = is.slot.slot in omega (arith, most, same)
@@ -68,17 +71,20 @@ module _ (s : ScenarioParts) (clocks : ℕ → ℕ → ℕ) (air : List Entry) (
 
     pub after_frame_start : frame_start s (frame_of s.profile x) < x.start
     after_frame_start =
-        starts_in_frame s.profile (budget_of s.profile) (run_fits s run.driven.sound) host first is.zero (frame_of s.profile x) (slot_of x) (length x.packet) (counter_of x) x.start
+        starts_in_frame s.profile (budget_of s.profile) (run_fits s run.driven.sound) host first is.zero (frame_of s.profile x) (slot_of x)
+        (length x.packet) (counter_of x) x.start
         host_drifts origin_drifts slot_in_round zero_good in_flood
 
     pub before_frame_end : x.end < frame_start s (frame_of s.profile x + 1)
     before_frame_end =
         subst (λ (e : ℕ). e < frame_start s (frame_of s.profile x + 1)) (sym is.lasts)
-        (ends_in_frame s.profile (budget_of s.profile) (run_fits s run.driven.sound) host first is.zero (frame_of s.profile x) (slot_of x) (length x.packet) (counter_of x) x.start
+        (ends_in_frame s.profile (budget_of s.profile) (run_fits s run.driven.sound) host first is.zero (frame_of s.profile x) (slot_of x)
+        (length x.packet) (counter_of x) x.start
         host_drifts origin_drifts slot_in_round packet_short frame_of_run zero_good in_flood)
 
     pub before_alarms : (own : ℕ → ℕ) → IsClock own → x.end < due own (frame_of s.profile x * s.profile.frame + s.profile.end)
     before_alarms own clock =
         subst (λ (e : ℕ). e < due own (frame_of s.profile x * s.profile.frame + s.profile.end)) (sym is.lasts)
-        (ends_before_alarm s.profile (budget_of s.profile) (run_fits s run.driven.sound) host first own is.zero (frame_of s.profile x) (slot_of x) (length x.packet) (counter_of x) x.start
+        (ends_before_alarm s.profile (budget_of s.profile) (run_fits s run.driven.sound) host first own is.zero (frame_of s.profile x) (slot_of x)
+        (length x.packet) (counter_of x) x.start
         host_drifts origin_drifts clock slot_in_round packet_short frame_of_run zero_good in_flood)

@@ -1,5 +1,6 @@
 -- What a node takes as heard was sent in a flood of the true frame, on the channel to which it is tuned.
-use Rattle.std.proofs.Common.{◌≡◌, ℕ, suc, ◌-◌, ◌*◌, ◌/◌, ◌<◌, List, [], ◌∷◌, ◌++◌, filter, fold, Bool, true, false, ◌==◌, ◌&&◌, if◌then◌else◌, length, Some, None, Option, refl, sym, ◌∙◌, ap, subst, arith}
+use Rattle.std.proofs.Common.{◌≡◌, ℕ, suc, ◌-◌, ◌*◌, ◌/◌, ◌<◌, List, [], ◌∷◌, ◌++◌, filter, fold, Bool, true, false, ◌==◌, ◌&&◌, if◌then◌else◌, length, Some}
+use Rattle.std.proofs.Common.{None, Option, refl, sym, ◌∙◌, ap, subst, arith}
 use Rattle.std.proofs.Math.Nat.{mul-le-mul_right}
 use Rattle.std.proofs.lemmas.Bool.{cond_both, eqb-true}
 use Rattle.lwb_base.specs.Profile.{Numbers}
@@ -19,7 +20,7 @@ use Rattle.node_core.specs.declared.stage.Stage.{Stage}
 use Rattle.node_core.specs.declared.stage.Stage.TheVariants.{Idle, Scanning, AwaitFrame, AwaitSlot, InWindow}
 use Rattle.node_core.specs.Nodes.{Node, closes_at, zero_from}
 use Rattle.node_core.specs.Rows.{Stepped, joins, relaying, at_heard, scanner_hears}
-use Rattle.node_core.specs.Runs.{orders_by}
+use Rattle.node_core.specs.Rows.{orders_by}
 use Rattle.scenario_text.specs.ScenarioParts.{ScenarioParts}
 use Rattle.scenario_text.specs.declared.script.ScriptLine.{ScriptLine}
 use Rattle.radio_model.specs.Hearing.{frame_of}
@@ -41,7 +42,8 @@ use Rattle.air_invariant.proofs.RunFacts.{frame_is, frame_from}
 use Rattle.air_invariant.proofs.FloodTimes.{after_frame_start, before_frame_end, before_alarms}
 
 -- no hearing tunes the radio
-relaying_tunes : (p : Numbers) (now : ℕ) (reply : Reply) (more : List Order) (c : Option ℕ) → fold channel_by c (relaying p now reply ++ more) ≡ fold channel_by c more
+relaying_tunes : (p : Numbers) (now : ℕ) (reply : Reply) (more : List Order) (c : Option ℕ)
+    → fold channel_by c (relaying p now reply ++ more) ≡ fold channel_by c more
 relaying_tunes p now (Relay q) more c = refl
 relaying_tunes p now Keep more c = refl
 relaying_tunes p now Ignore more c = refl
@@ -53,7 +55,8 @@ module _ (clock : ℕ → ℕ) (s : Setup) (t : ℕ) where
   scanner_keeps n q (Some (RequestOf a)) c = refl
   scanner_keeps n q (Some (ScheduleOf y)) c =
       cond_both (y.plan.rank == rank_of n.core.tune) (Some (joins s n (clock t) q y)) None (λ (r : Option Stepped). fold channel_by c (orders_by r) ≡ c)
-      (λ own. relaying_tunes s.profile (clock t) (reply_to (listening Kind.TheVariants.Schedule (slot_of q) s.sends) q) (AlarmAt (closes_at s.profile (zero_from s.profile (clock t) q) (slot_of q)) ∷ []) c)
+      (λ own. relaying_tunes s.profile (clock t) (reply_to (listening Kind.TheVariants.Schedule (slot_of q) s.sends) q)
+      (AlarmAt (closes_at s.profile (zero_from s.profile (clock t) q) (slot_of q)) ∷ []) c)
       (λ other. refl)
 
   heard_keeps : (n : Node) (q : List ℕ) (stage : Stage) (c : Option ℕ) → fold channel_by c (orders_by (at_heard s n (clock t) q stage)) ≡ c
@@ -119,9 +122,11 @@ heard_in_floods s clocks air v t at h d next =
     let on : ListensSince x.rank (t - 1) (device_in s clocks air v (suc (t - 1))) =
     tuned_listens s clocks air at.run.heedful.trails v x.rank (t - 1) (reach.tuned (t - 1) (omega (arith, before)) (omega (arith, before, end))) in
     let tuned : channel_of (device_in s clocks air v t).listening ≡ Some x.rank =
-    subst (λ (k : ℕ). channel_of (device_in s clocks air v k).listening ≡ Some x.rank) same (ap (λ (l : Option Listening). channel_of l) on.is ∙ ap (λ (r : ℕ). Some r) on.channel) in
+    subst (λ (k : ℕ). channel_of (device_in s clocks air v k).listening ≡ Some x.rank) same
+    (ap (λ (l : Option Listening). channel_of l) on.is ∙ ap (λ (r : ℕ). Some r) on.channel) in
     let untold : channel_of (scripted s v (clocks v) t (device_in s clocks air v t)).listening ≡ channel_of (device_in s clocks air v t).listening =
-    ap (λ (ls : List ScriptLine). channel_of (fold (after_line (clocks v) (setup_of s v) t) (device_in s clocks air v t) ls).listening) (none_in_frame s clocks air v t at began) in
+    ap (λ (ls : List ScriptLine). channel_of (fold (after_line (clocks v) (setup_of s v) t) (device_in s clocks air v t) ls).listening)
+    (none_in_frame s clocks air v t at began) in
     record {
       sending = x;
       there = is.there;

@@ -27,7 +27,8 @@ use Rattle.air_invariant.specs.Rows.{AtTick}
 use Rattle.air_invariant.proofs.RunFacts.{run_fits, frame_in_run, frame_ends}
 use Rattle.air_invariant.proofs.FloodTimes.{host_drifts, origin_drifts, zero_good, slot_in_round, in_flood, packet_short, frame_of_run}
 
-module _ (s : ScenarioParts) (clocks : ℕ → ℕ → ℕ) (air : List Entry) (v t : ℕ) (at : AtTick s clocks air v t) (h : Reception) (d : Device) (now : IsHeardNow s clocks air v t h d) where
+module _ (s : ScenarioParts) (clocks : ℕ → ℕ → ℕ) (air : List Entry) (v t : ℕ) (at : AtTick s clocks air v t) (h : Reception) (d : Device)
+    (now : IsHeardNow s clocks air v t h d) where
   pub was_sent : Contains (sendings_of air) now.sending
   was_sent = (at.run.heedful.heard v now.sending now.there).sent
 
@@ -71,13 +72,16 @@ module _ (s : ScenarioParts) (clocks : ℕ → ℕ → ℕ) (air : List Entry) (
     ends_before =
         let x = now.sending in
         let flood = now.of_flood in
-        let ends = ends_in_slot s.profile (budget_of s.profile) (run_fits s at.run.driven.sound) (clocks (slice_index s.hosts x.rank)) (clocks flood.origin.node) (clocks v)
+        let ends = ends_in_slot s.profile (budget_of s.profile) (run_fits s at.run.driven.sound) (clocks (slice_index s.hosts x.rank))
+        (clocks flood.origin.node) (clocks v)
         flood.zero n.zero (frame_of s.profile x) (slot_of x) (length x.packet) (counter_of x) x.start
-        (host_drifts s clocks air at.run x flood) (origin_drifts s clocks air at.run x flood) own_drifts (slot_in_round s clocks air at.run x flood) (packet_short s clocks air at.run x flood)
+        (host_drifts s clocks air at.run x flood) (origin_drifts s clocks air at.run x flood) own_drifts (slot_in_round s clocks air at.run x flood)
+        (packet_short s clocks air at.run x flood)
         (zero_good s clocks air at.run x flood) good_here (in_flood s clocks air at.run x flood) in
         subst (λ (i : ℕ). t < tick_by s clocks v n (closing s.profile i)) is.slot (omega (arith, ends, it_lasts))
 
-    relay_ends : counter_of now.sending < 11 → relay_tick s.profile (clocks v) t + airtime s.profile (length now.sending.packet) < tick_by s clocks v n (closing s.profile j)
+    relay_ends : counter_of now.sending < 11 → relay_tick s.profile (clocks v) t + airtime s.profile (length now.sending.packet) < tick_by s clocks v n
+        (closing s.profile j)
     relay_ends less =
         let x = now.sending in
         let flood = now.of_flood in
@@ -92,10 +96,13 @@ module _ (s : ScenarioParts) (clocks : ℕ → ℕ → ℕ) (air : List Entry) (
         let short = packet_short s clocks air at.run x flood in
         let began = zero_good s clocks air at.run x flood in
         let relay = relay_in_flood p b fits host first (clocks v) flood.zero (frame_of p x) (slot_of x) (length x.packet) (counter_of x) x.start t
-        host_clock first_clock own_drifts round short (frame_of_run s clocks air at.run x flood was_sent) began (in_flood s clocks air at.run x flood) less it_lasts in
-        let ends = ends_in_slot p b fits host first (clocks v) flood.zero n.zero (frame_of p x) (slot_of x) (length x.packet) (counter_of x + 1) (relay_tick p (clocks v) t)
+        host_clock first_clock own_drifts round short (frame_of_run s clocks air at.run x flood was_sent) began
+        (in_flood s clocks air at.run x flood) less it_lasts in
+        let ends = ends_in_slot p b fits host first (clocks v) flood.zero n.zero (frame_of p x) (slot_of x) (length x.packet) (counter_of x + 1)
+        (relay_tick p (clocks v) t)
         host_clock first_clock own_drifts round short began good_here relay in
-        subst (λ (i : ℕ). relay_tick s.profile (clocks v) t + airtime s.profile (length x.packet) < tick_by s clocks v n (closing s.profile i)) is.slot (omega (arith, ends))
+        subst (λ (i : ℕ). relay_tick s.profile (clocks v) t + airtime s.profile (length x.packet) < tick_by s clocks v n (closing s.profile i)) is.slot
+        (omega (arith, ends))
 
     -- its relay is as an ordered sending has to be
     pub relay_ordered : (w : Window) → count_of h.packet < 11 → HasOrder s clocks air v (suc t) n j w relay_order
@@ -106,7 +113,8 @@ module _ (s : ScenarioParts) (clocks : ℕ → ℕ → ℕ) (air : List Entry) (
         let few : counter_of x < 11 = omega (arith, count, less) in
         let long : length (relay_of q) ≡ length x.packet = length-set q 2 (count_of q + 1) ∙ ap length now.packet in
         record {
-          over = subst (λ (m : ℕ). relay_tick s.profile (clocks v) t + airtime s.profile m < tick_by s clocks v n (closing s.profile j)) (sym long) (relay_ends few);
+          over = subst (λ (m : ℕ). relay_tick s.profile (clocks v) t + airtime s.profile m < tick_by s clocks v n (closing s.profile j)) (sym long)
+              (relay_ends few);
           slot = slot_set q (count_of q + 1) ∙ ap (λ (r : List ℕ). slice_index r 1) now.packet ∙ is.slot;
           why = inr (record {
             heard = x;

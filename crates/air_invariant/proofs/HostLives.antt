@@ -55,7 +55,40 @@ later due frame less is = let same : due ≡ frame = ap due_of is in omega (arit
 
 may_come : AllMayCome 0 1 newborn steps
 unfolding AllMayCome
-may_come = ((refl, omega arith), ((refl, λ is. cc is), ((refl, λ is. cc is), ((refl, λ is. cc is), ((refl, λ is. cc is), ((refl, λ is. cc is), ((refl, refl), ((refl, refl, omega arith, omega arith), ((refl, later 9 5 (omega arith)), ((refl, later 9 6 (omega arith)), ((refl, later 9 7 (omega arith)), ((refl, later 9 8 (omega arith)), ((refl, refl), ((refl, refl, omega arith, omega arith), tt))))))))))))))
+may_come = (
+  (refl, omega arith),
+  (
+    (refl, λ is. cc is),
+    (
+      (refl, λ is. cc is),
+      (
+        (refl, λ is. cc is),
+        (
+          (refl, λ is. cc is),
+          (
+            (refl, λ is. cc is),
+            (
+              (refl, refl),
+              (
+                (refl, refl, omega arith, omega arith),
+                (
+                  (refl, later 9 5 (omega arith)),
+                  (
+                    (refl, later 9 6 (omega arith)),
+                    (
+                      (refl, later 9 7 (omega arith)),
+                      ((refl, later 9 8 (omega arith)), ((refl, refl), ((refl, refl, omega arith, omega arith), tt))),
+                    ),
+                  ),
+                ),
+              ),
+            ),
+          ),
+        ),
+      ),
+    ),
+  ),
+)
 
 quiet : Quiet 0 life
 quiet = subst (Quiet 0) lived (hosts_are_quiet 0 1 steps may_come)

@@ -12,11 +12,20 @@ pub reads : (t : ℕ) → drifting 1 t ≡ fast t
 reads t = ap (λ (clock : ℕ → ℕ). clock t) host_clock
 
 -- the host's own zero
-zero_ref : (z f c : ℕ) → 1 ≤ c → c ≤ f → f ≤ c + 4 → c ≤ 4095 → Near (fast (fast_due (nominal one c 0)) + f * 256000000) (z + 0 * 2112000 + 64000 + c * 256000000) 55
+zero_ref : (z f c : ℕ) → 1 ≤ c → c ≤ f → f ≤ c + 4 → c ≤ 4095
+    → Near (fast (fast_due (nominal one c 0)) + f * 256000000) (z + 0 * 2112000 + 64000 + c * 256000000) 55
     → Ref one budget_one (drifting 1) (drifting 1) z f c 0
 zero_ref z f c begun past young run near =
-    let at : drifting 1 (started one (drifting 1) c 0) ≡ fast (fast_due (nominal one c 0)) = ap (drifting 1) (host_due_at (nominal one c 0)) ∙ reads (fast_due (nominal one c 0)) in
-    record { begun = begun; past = past; young = young; in_run = run; slot = omega arith; near = subst (λ (n : ℕ). Near (n + f * 256000000) (z + 0 * 2112000 + 64000 + c * 256000000) 55) (sym at) near }
+    let at : drifting 1 (started one (drifting 1) c 0) ≡ fast (fast_due (nominal one c 0)) = ap (drifting 1) (host_due_at (nominal one c 0))
+    ∙ reads (fast_due (nominal one c 0)) in
+    record {
+      begun = begun;
+      past = past;
+      young = young;
+      in_run = run;
+      slot = omega arith;
+      near = subst (λ (n : ℕ). Near (n + f * 256000000) (z + 0 * 2112000 + 64000 + c * 256000000) 55) (sym at) near;
+    }
 
 good : (z f c from : ℕ) → 1 ≤ c → c + 1 ≡ f → c ≤ 4095 → Near (fast (fast_due (nominal one c 0)) + f * 256000000) (z + 0 * 2112000 + 64000 + c * 256000000) 55
     → Good one budget_one (drifting 1) (drifting 1) z f from

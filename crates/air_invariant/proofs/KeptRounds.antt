@@ -1,5 +1,6 @@
 -- A window closes that accepted no schedule: its node goes on with its round, or waits for the end of the frame.
-use Rattle.std.proofs.Common.{◌≡◌, ℕ, suc, ◌+◌, ◌<◌, ◌≤◌, inl, inr, List, Bool, true, false, nat_lt, Option, is_some, Contains, refl, sym, ◌∙◌, ap, subst, arith, true≢false, ltb-true}
+use Rattle.std.proofs.Common.{◌≡◌, ℕ, suc, ◌+◌, ◌<◌, ◌≤◌, inl, inr, List, Bool, true, false, nat_lt, Option, is_some, Contains, refl, sym, ◌∙◌, ap, subst}
+use Rattle.std.proofs.Common.{arith, true≢false, ltb-true}
 use Rattle.std.proofs.lemmas.Bool.{cases_lt, not_from_true, not_from_false}
 use Rattle.lwb_base.specs.Messages.{Plan}
 use Rattle.time_reference.specs.Budgets.{budget_of}

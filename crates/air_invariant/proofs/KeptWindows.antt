@@ -1,6 +1,6 @@
 -- A hearing changes nothing of a window but its flood and its reference, and nothing of its device but what is ordered: what
 -- is known of all else stays.
-use Rattle.std.proofs.Common.{◌≡◌, ℕ, suc, ◌/◌, ◌<◌, List, Bool, true, false, Some, None, Option, IfSome, inl, inr, subst}
+use Rattle.std.proofs.Common.{◌≡◌, ℕ, suc, ◌/◌, ◌<◌, List, Bool, Some, Option, inl, inr, subst}
 use Rattle.std.specs.Prelude.{⊤}
 use Rattle.lwb_base.specs.Messages.{Plan}
 use Rattle.bus_rules.specs.declared.delivery.Delivery.{Delivery}
@@ -17,7 +17,7 @@ use Rattle.air_safety.specs.Lives.{Life}
 use Rattle.air_safety.specs.Phases.{Hearings}
 use Rattle.air_invariant.specs.RoundZeros.{RefFor}
 use Rattle.air_invariant.specs.SetAlarms.{HasAlarm, AlarmFor, rank_at}
-use Rattle.air_invariant.specs.TunedNodes.{Either, HasTune, IsTunedAt, IsMember, is_joining, is_last}
+use Rattle.air_invariant.specs.TunedNodes.{HasTune, IsTunedAt, IsMember, is_joining, is_last}
 use Rattle.air_invariant.specs.RadiosOn.{HasRadio, RadioFor}
 use Rattle.air_invariant.specs.OrderedSendings.{HeardIn, IsRelay, HasOrder, HasSending}
 use Rattle.air_invariant.specs.BegunFloods.{BeginsOnce, BegunAt, BegunInWindow, HasBegun, IsFirstOrdered}
@@ -25,14 +25,7 @@ use Rattle.air_invariant.specs.KnownPlans.{HasPlan, PlanAt, HasRound, KnowsPlan,
 use Rattle.air_invariant.specs.NodesInOrder.{IsOn, InOpenWindow}
 use Rattle.air_invariant.specs.QuietHosts.{HostsInOrder, LivesAs, LivesBy, IsOrderedBy}
 use Rattle.air_invariant.specs.Rows.{IsFine}
-
-pub either : (b : Bool) (P Q R S : Type 0) → (P → R) → (Q → S) → Either b P Q → Either b R S
-either true P Q R S f g is = f is
-either false P Q R S f g is = g is
-
-pub if_some : {T : Type 0} (o : Option T) (P Q : T → Type 0) → ((x : T) → P x → Q x) → IfSome o P → IfSome o Q
-if_some None P Q f is = is
-if_some (Some x) P Q f is = f x is
+use Rattle.air_invariant.proofs.RestagedNodes.{either}
 
 -- the device d of a node n in the window w of slot j, with another state of the window's flood, reference and order
 module _ (s : ScenarioParts) (clocks : ℕ → ℕ → ℕ) (air : List Entry) (v t : ℕ) (d : Device) (n : Node) (j : ℕ) (w : Window)
@@ -88,7 +81,8 @@ module _ (s : ScenarioParts) (clocks : ℕ → ℕ → ℕ) (air : List Entry) (
       rank = known.tune.rank;
       at =
           either (is_joining n) (RefFor s clocks (rank_at n) v n.zero n.frame n.frame j) (IsMember s clocks v n j w.last (is_last j w))
-          (RefFor s clocks (rank_at n) v n.zero n.frame n.frame j) (IsMember s clocks v new_node j w.last (is_last j w)) (λ ref. ref) member_kept (subst (IsTunedAt s clocks v n) stage known.tune.at);
+          (RefFor s clocks (rank_at n) v n.zero n.frame n.frame j) (IsMember s clocks v new_node j w.last (is_last j w)) (λ ref. ref) member_kept
+          (subst (IsTunedAt s clocks v n) stage known.tune.at);
     }
 
     radio_kept : HasRadio new_node new_device
@@ -106,7 +100,8 @@ module _ (s : ScenarioParts) (clocks : ℕ → ℕ → ℕ) (air : List Entry) (
         record {
           at = record {
             below = λ x begun. is.below x (has_begun n.frame x begun);
-            packet = λ x begun slot. (let old = is.packet x (has_begun n.frame x begun) slot in (old.0, kept.keeps x.packet old.1, λ first. old.2 (kept.before first)));
+            packet = λ x begun slot.
+                (let old = is.packet x (has_begun n.frame x begun) slot in (old.0, kept.keeps x.packet old.1, λ first. old.2 (kept.before first)));
             made = λ initiated. elim (is.made initiated) [
               | inl first ↦ inl (kept.after first)
               | inr begun ↦ inr (record { sending = begun.sending; begun = had_begun n.frame begun.sending begun.begun; slot = begun.slot })
@@ -139,10 +134,12 @@ module _ (s : ScenarioParts) (clocks : ℕ → ℕ → ℕ) (air : List Entry) (
     plan_kept : HasPlan s clocks air v (suc t) new_node
     plan_kept = record {
       at =
-          either (is_joining n) ⊤ (HasRound s clocks air v (suc t) n j w) ⊤ (HasRound s clocks air v (suc t) new_node j new_window) (λ ref. ref) round_kept (subst (PlanAt s clocks air v (suc t) n) stage known.plan.at);
+          either (is_joining n) ⊤ (HasRound s clocks air v (suc t) n j w) ⊤ (HasRound s clocks air v (suc t) new_node j new_window)
+          (λ ref. ref) round_kept (subst (PlanAt s clocks air v (suc t) n) stage known.plan.at);
     }
 
-    module _ (frame : n.frame ≡ t / s.profile.frame) (began : frame_start s n.frame < t) (window : InOpenWindow s clocks air v (suc t) new_node new_device j new_window) where
+    module _ (frame : n.frame ≡ t / s.profile.frame) (began : frame_start s n.frame < t)
+        (window : InOpenWindow s clocks air v (suc t) new_node new_device j new_window) where
       on_kept : IsOn s clocks air v t (suc t) new_device new_node
       on_kept = record {
         frame = record { at = inl frame; began = began };

@@ -10,7 +10,7 @@ use Rattle.air_safety.specs.OnePacketNodes.{granted_plan}
 use Rattle.air_safety.specs.OnePacketMember.{member_late, member_37}
 use Rattle.air_safety.proofs.OnePacketZeros.{member_due_at, granted, reopened}
 use Rattle.air_invariant.specs.WorkedRounds.{Holds}
-use Rattle.air_invariant.proofs.WorkedPlans.{once, none_of, same_key, planned, heard_plan, fresh_plan, not_zero}
+use Rattle.air_invariant.proofs.WorkedPlans.{once, none_of, same_flood_key, planned, heard_plan, fresh_plan, not_zero}
 
 abbrev sent_before : List Sending
 sent_before = opening_1 ∷ opening_3 ∷ request_0 ∷ request_2 ∷ grant_1 ∷ grant_3 ∷ reopening_1 ∷ []
@@ -22,7 +22,10 @@ late_window w = record {
   by_power = record {
     frame = record { at = inl refl; began = omega arith };
     alarm = record { alarm = 2372160722; set = refl; at = sym (member_due_at 2372113278) };
-    tune = record { rank = omega arith; at = record { slot = omega arith; good = record { c = 9; j = 0; ref = reopened; after = inr (omega arith) }; round = refl } };
+    tune = record {
+      rank = omega arith;
+      at = record { slot = omega arith; good = record { c = 9; j = 0; ref = reopened; after = inr (omega arith) }; round = refl };
+    };
     radio = record { at = refl };
     begun = record {
       at = record {
@@ -30,7 +33,8 @@ late_window w = record {
         packet = λ x b is. absurd (none_of 9 sent_before refl x b.sent b.first b.frame);
         made = λ is. inl refl;
       };
-      once = λ f x y a b c. once sent_before (refl, (refl, (refl, (refl, (refl, (refl, (refl, tt))))))) x y a.sent b.sent a.first b.first (same_key f x y a.frame b.frame c);
+      once = λ f x y a b c. once sent_before (refl, (refl, (refl, (refl, (refl, (refl, (refl, tt))))))) x y a.sent b.sent a.first b.first
+          (same_flood_key f x y a.frame b.frame c);
     };
     plan = record {
       at = record {
@@ -48,7 +52,16 @@ late_window w = record {
       };
     };
     window = record {
-      flood = record { kind = refl; slot = refl; limit = refl; few = omega arith; waits = refl; one = refl; spent = λ is. absurd (not_zero is); own = λ is at. absurd (true≢false (sym is)) };
+      flood = record {
+        kind = refl;
+        slot = refl;
+        limit = refl;
+        few = omega arith;
+        waits = refl;
+        one = refl;
+        spent = λ is. absurd (not_zero is);
+        own = λ is at. absurd (true≢false (sym is));
+      };
       order = record {
         over = subst (λ (n : ℕ). 2370163497 < n) (sym (member_due_at 2372113278)) (omega arith);
         slot = refl;
@@ -61,7 +74,16 @@ late_window w = record {
             first = refl;
             in_round = omega arith;
             good = record { c = 9; j = 0; ref = reopened; after = inr (omega arith) };
-            says = record { plan = granted_plan; planned = planned; own = refl; owner = 8; part = refl; node = refl; stream = refl; word = inr (heard_plan (suc 2304000000)) };
+            says = record {
+              plan = granted_plan;
+              planned = planned;
+              own = refl;
+              owner = 8;
+              part = refl;
+              node = refl;
+              stream = refl;
+              word = inr (heard_plan (suc 2304000000));
+            };
           };
         });
       };
@@ -89,11 +111,15 @@ late_opening w = record {
         late = subst (λ (n : ℕ). n ≤ 2370089470) (sym (member_due_at 2370017278)) (omega arith);
       });
     };
-    tune = record { rank = omega arith; at = record { slot = omega arith; good = record { c = 9; j = 0; ref = reopened; after = inr (omega arith) }; round = refl } };
+    tune = record {
+      rank = omega arith;
+      at = record { slot = omega arith; good = record { c = 9; j = 0; ref = reopened; after = inr (omega arith) }; round = refl };
+    };
     radio = record { at = (refl, record { ordered = refl; sending = refl }) };
     begun = record {
       at = λ x b. absurd (none_of 9 sent_before refl x b.sent b.first b.frame);
-      once = λ f x y a b c. once sent_before (refl, (refl, (refl, (refl, (refl, (refl, (refl, tt))))))) x y a.sent b.sent a.first b.first (same_key f x y a.frame b.frame c);
+      once = λ f x y a b c. once sent_before (refl, (refl, (refl, (refl, (refl, (refl, (refl, tt))))))) x y a.sent b.sent a.first b.first
+          (same_flood_key f x y a.frame b.frame c);
     };
     plan = record {
       at = record {

@@ -30,8 +30,10 @@ pub mod KeptRounds
 pub mod TakenSchedules
 pub mod RowClosing
 pub mod KeptWindows
+pub mod IgnoredHearing
 pub mod RowHearing
 pub mod ScheduleReferences
+pub mod JoinedWindow
 pub mod RowJoining
 pub mod TunedRadios
 pub mod RestagedNodes
@@ -52,7 +54,9 @@ mod WorkedPlans
 mod HostZeros
 mod FloodExamples
 mod LateWindows
-mod GuestClauses
-mod HostClauses
+mod GuestJoins
+mod GuestHolds
+mod HostOpens
+mod HostCloses
 mod RestingClauses
 mod HostLives

@@ -1,5 +1,6 @@
 -- Where something is ordered a window is open, whose flood waits for it.
-use Rattle.std.proofs.Common.{◌≡◌, ℕ, suc, ◌/◌, ◌<◌, inl, inr, List, Bool, true, ◌&&◌, ◌||◌, Some, None, Option, is_some, refl, sym, ◌∙◌, ap, subst, arith, true≢false}
+use Rattle.std.proofs.Common.{◌≡◌, ℕ, suc, ◌/◌, ◌<◌, inl, inr, List, Bool, true, ◌&&◌, ◌||◌, Some, None, Option, is_some, refl, sym, ◌∙◌, ap, subst, arith}
+use Rattle.std.proofs.Common.{true≢false}
 use Rattle.std.specs.Option.{IfSome}
 use Rattle.std.proofs.lemmas.Bool.{cases_lt, lt-ltb}
 use Rattle.radio_model.specs.declared.sending.Sending.{Sending}

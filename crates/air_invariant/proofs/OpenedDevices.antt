@@ -1,5 +1,6 @@
 -- The device that a window's opening leaves: its alarm, its radio and the flood of its window.
-use Rattle.std.proofs.Common.{◌≡◌, ℕ, suc, ◌≤◌, List, Bool, true, false, ◌&&◌, ◌||◌, nat_lt, Option, Some, None, IfSome, is_some, refl, sym, ◌∙◌, ap, subst, arith, lt-ltb, true≢false}
+use Rattle.std.proofs.Common.{◌≡◌, ℕ, suc, ◌≤◌, List, Bool, true, false, ◌&&◌, ◌||◌, nat_lt, Option, Some, None, IfSome, is_some, refl, sym, ◌∙◌, ap, subst}
+use Rattle.std.proofs.Common.{arith, lt-ltb, true≢false}
 use Rattle.time_reference.specs.Zeros.{closing}
 use Rattle.glossy_relay.specs.Relaying.{accepted_of}
 use Rattle.radio_model.specs.declared.sending.Sending.{Sending}

@@ -1,5 +1,6 @@
 -- The life of a host goes on with the window that opens: it opens its round, closes it, or says nothing of it.
-use Rattle.std.proofs.Common.{◌≡◌, ℕ, suc, ◌+◌, ◌/◌, ◌<◌, inl, inr, List, [], ◌∷◌, true, ◌==◌, Option, Some, None, IfSome, Contains, length, option_map, refl, sym, ◌∙◌, ap, subst, arith}
+use Rattle.std.proofs.Common.{◌≡◌, ℕ, suc, ◌+◌, ◌/◌, ◌<◌, inl, inr, List, [], ◌∷◌, true, ◌==◌, Option, Some, None, IfSome, Contains, length, option_map, refl}
+use Rattle.std.proofs.Common.{sym, ◌∙◌, ap, subst, arith}
 use Rattle.std.proofs.lemmas.Bool.{cond_both}
 use Rattle.std.proofs.lemmas.List.Elements.{Contains-append_left, Contains-push, Contains-push_cases}
 use Rattle.lwb_base.specs.Messages.{Plan, Schedule, node_of, stream_of}

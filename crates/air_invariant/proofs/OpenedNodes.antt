@@ -1,5 +1,6 @@
 -- The node that a window's opening leaves: its frame, its alarm, its radio, its tune and its flood.
-use Rattle.std.proofs.Common.{◌≡◌, ℕ, ◌+◌, ◌<◌, ◌≤◌, inl, inr, List, Bool, true, false, nat_lt, Option, Some, None, length, refl, sym, ◌∙◌, ap, subst, arith, eq-eqb, lt-ltb, le-ltb, true≢false}
+use Rattle.std.proofs.Common.{◌≡◌, ℕ, ◌+◌, ◌<◌, ◌≤◌, inl, inr, List, Bool, true, false, nat_lt, Option, Some, None, length, refl, sym, ◌∙◌, ap, subst, arith}
+use Rattle.std.proofs.Common.{eq-eqb, lt-ltb, le-ltb, true≢false}
 use Rattle.std.proofs.lemmas.Bool.{and_from, not_from_true, not_from_false}
 use Rattle.time_reference.specs.Reference.{host_zero}
 use Rattle.time_reference.specs.Zeros.{opening}

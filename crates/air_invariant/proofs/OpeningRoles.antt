@@ -1,6 +1,7 @@
 -- What the opening of a window leaves of its node's role: all but streams stays, or a host that closes its round goes on to
 -- its next plan.
-use Rattle.std.proofs.Common.{◌≡◌, ℕ, ◌-◌, ◌<◌, ◌≤◌, ◌⊎◌, inl, inr, length, true, ◌==◌, nat_lt, nat_le, if◌then◌else◌, Option, is_some, refl, sym, ◌∙◌, ap, arith, true≢false}
+use Rattle.std.proofs.Common.{◌≡◌, ℕ, ◌-◌, ◌<◌, ◌≤◌, ◌⊎◌, inl, inr, length, true, ◌==◌, nat_lt, nat_le, if◌then◌else◌, Option, is_some, refl, sym, ◌∙◌, ap}
+use Rattle.std.proofs.Common.{arith, true≢false}
 use Rattle.std.specs.Prelude.{slice_index}
 use Rattle.std.proofs.lemmas.Bool.{cond_both, leb-true, ltb-true, ltb-false, eqb-true, eqb-false}
 use Rattle.lwb_base.specs.Messages.{Plan}

@@ -7,14 +7,14 @@ use Rattle.air_safety.specs.OnePacketHost.{host_0, host_2, host_29, host_32}
 use Rattle.air_safety.proofs.OnePacketZeros.{host_due_at}
 use Rattle.air_invariant.specs.WorkedRounds.{Holds}
 use Rattle.air_invariant.proofs.HostZeros.{good_9}
-use Rattle.air_invariant.proofs.WorkedPlans.{once, none_of, same_key}
+use Rattle.air_invariant.proofs.WorkedPlans.{once, none_of, same_flood_key}
 
 -- before the run
 pub is_off : (w : List WindowLog) → Holds 1 0 (host_0 w)
 is_off w = record {
   by_power = (
     record { alarm = refl; radio = refl; still = record { ordered = refl; sending = refl } },
-    λ f x y a b c. once [] tt x y a.sent b.sent a.first b.first (same_key f x y a.frame b.frame c),
+    λ f x y a b c. once [] tt x y a.sent b.sent a.first b.first (same_flood_key f x y a.frame b.frame c),
   );
 }
 
@@ -26,7 +26,10 @@ scans w = record {
     alarm = record { alarm = 460790785; set = refl; at = sym (host_due_at 460800000) };
     tune = record { rank = omega arith; at = refl };
     radio = record { at = (refl, record { ordered = refl; sending = refl }) };
-    begun = record { at = λ x b. none_of 1 [] refl x b.sent b.first b.frame; once = λ f x y a b c. once [] tt x y a.sent b.sent a.first b.first (same_key f x y a.frame b.frame c) };
+    begun = record {
+      at = λ x b. none_of 1 [] refl x b.sent b.first b.frame;
+      once = λ f x y a b c. once [] tt x y a.sent b.sent a.first b.first (same_flood_key f x y a.frame b.frame c);
+    };
     plan = record { at = tt };
     window = tt;
   };
@@ -46,7 +49,11 @@ goes_on w = record {
     alarm = record { alarm = 1740765185; set = refl; at = sym (host_due_at 1740800000) };
     tune = record { rank = omega arith; at = (refl, refl, omega arith) };
     radio = record { at = (refl, record { ordered = refl; sending = refl }) };
-    begun = record { at = tt; once = λ f x y a b c. once six (refl, (refl, (refl, (refl, (refl, (refl, tt)))))) x y a.sent b.sent a.first b.first (same_key f x y a.frame b.frame c) };
+    begun = record {
+      at = tt;
+      once = λ f x y a b c. once six (refl, (refl, (refl, (refl, (refl, (refl, tt)))))) x y a.sent b.sent a.first b.first
+          (same_flood_key f x y a.frame b.frame c);
+    };
     plan = record { at = record { of_rank = refl; short = omega arith } };
     window = tt;
   };
@@ -65,7 +72,8 @@ awaits_early w = record {
     radio = record { at = (refl, record { ordered = refl; sending = refl }) };
     begun = record {
       at = λ x b. absurd (none_of 9 six refl x b.sent b.first b.frame);
-      once = λ f x y a b c. once six (refl, (refl, (refl, (refl, (refl, (refl, tt)))))) x y a.sent b.sent a.first b.first (same_key f x y a.frame b.frame c);
+      once = λ f x y a b c. once six (refl, (refl, (refl, (refl, (refl, (refl, tt)))))) x y a.sent b.sent a.first b.first
+          (same_flood_key f x y a.frame b.frame c);
     };
     plan = record {
       at = record {

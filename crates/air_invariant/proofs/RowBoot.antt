@@ -8,7 +8,7 @@ use Rattle.time_reference.specs.Budgets.{budget_of}
 use Rattle.time_reference.proofs.Run.{alarm_after_start}
 use Rattle.node_core.specs.Nodes.{Node, rebooted, frame_alarm}
 use Rattle.node_core.specs.Rows.{boots, row}
-use Rattle.node_core.specs.Runs.{orders_by}
+use Rattle.node_core.specs.Rows.{orders_by}
 use Rattle.scenario_text.specs.ScenarioParts.{ScenarioParts}
 use Rattle.scenario_text.specs.declared.script.ScriptLine.{ScriptLine}
 use Rattle.radio_model.specs.declared.sending.Sending.{Sending}

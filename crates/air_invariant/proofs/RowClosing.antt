@@ -1,5 +1,6 @@
 -- A window closes by its alarm, and with the last one the round ends.
-use Rattle.std.proofs.Common.{◌≡◌, ℕ, suc, ◌+◌, ◌*◌, ◌/◌, List, Bool, true, ◌==◌, nat_lt, if◌then◌else◌, Some, None, Option, Contains, inl, inr, refl, sym, ◌∙◌, ap, subst, arith, eq-eqb}
+use Rattle.std.proofs.Common.{◌≡◌, ℕ, suc, ◌+◌, ◌*◌, ◌/◌, List, Bool, true, ◌==◌, nat_lt, if◌then◌else◌, Some, None, Option, Contains, inl, inr, refl, sym, ◌∙◌}
+use Rattle.std.proofs.Common.{ap, subst, arith, eq-eqb}
 use Rattle.std.proofs.lemmas.Bool.{cond-true, cond-false, ne_eqb}
 use Rattle.lwb_base.specs.Messages.{Schedule}
 use Rattle.lwb_base.specs.Profile.{Numbers}

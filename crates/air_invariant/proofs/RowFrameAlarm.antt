@@ -1,5 +1,6 @@
 -- The alarm of a frame: the node goes on to the next frame, and the life of its rank with it.
-use Rattle.std.proofs.Common.{◌≡◌, ℕ, suc, ◌+◌, ◌/◌, ◌<◌, ◌≤◌, inl, inr, List, length, Bool, true, false, ◌==◌, if◌then◌else◌, Some, None, Option, fold, Contains, refl, sym, ◌∙◌, ap, subst, arith, true≢false}
+use Rattle.std.proofs.Common.{◌≡◌, ℕ, suc, ◌+◌, ◌/◌, ◌<◌, ◌≤◌, inl, inr, List, length, Bool, true, false, ◌==◌, if◌then◌else◌, Some, None, Option, fold}
+use Rattle.std.proofs.Common.{Contains, refl, sym, ◌∙◌, ap, subst, arith, true≢false}
 use Rattle.lwb_base.specs.Messages.{Plan}
 use Rattle.lwb_base.specs.declared.event.Event.TheVariants.{Alarm}
 use Rattle.time_reference.specs.Budgets.{budget_of}

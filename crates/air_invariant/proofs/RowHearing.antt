@@ -1,11 +1,9 @@
 -- The row hearing: a packet is heard in a window, and the flood of the window ignores it, keeps it or relays it.
-use Rattle.std.proofs.Common.{◌≡◌, ℕ, suc, ◌+◌, ◌/◌, ◌<◌, List, [], ◌++◌, Bool, true, false, not, ◌&&◌, if◌then◌else◌, nat_lt, Some, None, Option, is_some, is_none, true≢false, eqb-true, ltb-true, refl, sym, ◌∙◌, ap, subst, arith}
+use Rattle.std.proofs.Common.{◌≡◌, ℕ, suc, ◌+◌, ◌/◌, ◌<◌, List, [], ◌++◌, Bool, true, false, not, ◌&&◌, if◌then◌else◌, nat_lt, Some, None, Option, is_some}
+use Rattle.std.proofs.Common.{is_none, true≢false, eqb-true, ltb-true, refl, sym, ◌∙◌, ap, arith}
 use Rattle.std.specs.Prelude.{slice_index}
 use Rattle.std.proofs.lemmas.Bool.{and_parts}
 use Rattle.lwb_base.specs.declared.event.Event.TheVariants.{Heard}
-use Rattle.time_reference.specs.Budgets.{budget_of}
-use Rattle.time_reference.specs.Zeros.{opening, closing}
-use Rattle.time_reference.proofs.Points.{good_later}
 use Rattle.glossy_relay.specs.Relaying.{fits, accepted_of, relay_of, first_of, counter_of as count_of}
 use Rattle.glossy_relay.specs.declared.flood.Reply.{Reply}
 use Rattle.glossy_relay.specs.declared.flood.Reply.TheVariants.{Relay, Keep, Ignore}
@@ -19,107 +17,41 @@ use Rattle.node_core.specs.Nodes.{Node, zero_from}
 use Rattle.node_core.specs.Rows.{Stepped, is_foreign, is_ignored, relaying}
 use Rattle.scenario_text.specs.ScenarioParts.{ScenarioParts}
 use Rattle.radio_model.specs.Hearing.{slot_of}
-use Rattle.radio_model.specs.declared.sending.Sending.{Sending}
 use Rattle.bus_rules.specs.declared.delivery.Delivery.{Delivery}
 use Rattle.air_log.specs.declared.entry.Entry.{Entry}
-use Rattle.air_log.specs.Devices.{Device, PowerOn, Ordered, listens_to}
+use Rattle.air_log.specs.Devices.{Device, PowerOn, Ordered}
 use Rattle.air_log.specs.WindowLogs.{WindowLog, windows_after}
 use Rattle.air_log.specs.Trails.{Reception, setup_of, frame_start}
 use Rattle.air_safety.specs.Phases.{Hearings}
 use Rattle.air_safety.specs.Walks.{after_row}
-use Rattle.air_safety.proofs.HeardReferences.{good_now}
-use Rattle.air_invariant.specs.RoundZeros.{RefFor, GoodFor}
 use Rattle.air_invariant.specs.SetAlarms.{rank_at}
-use Rattle.air_invariant.specs.TunedNodes.{Either, IsTunedAt, IsMember, is_joining, is_last}
-use Rattle.air_invariant.specs.RadiosOn.{RadioFor}
-use Rattle.air_invariant.specs.OrderedSendings.{HeardIn, HasOrder, HasSending}
-use Rattle.air_invariant.specs.AcceptedPackets.{HasAccepted, IsAccepted}
-use Rattle.air_invariant.specs.NodesInOrder.{IsOn, InOpenWindow, WindowAt, InOrderBy}
+use Rattle.air_invariant.specs.OrderedSendings.{HasOrder, HasSending}
+use Rattle.air_invariant.specs.AcceptedPackets.{HasAccepted}
+use Rattle.air_invariant.specs.NodesInOrder.{IsOn, InOpenWindow}
 use Rattle.air_invariant.specs.KnownInRows.{IsHeardNow}
 use Rattle.air_invariant.specs.Rows.{IsFine, AtTick, HearingRow}
-use Rattle.air_invariant.proofs.RunFacts.{run_fits}
-use Rattle.air_invariant.proofs.HeardPlaces.{listened, silent, frame_now, began_now, not_is, neither, taken, left, unheard, not_first, none_accepted}
 use Rattle.air_invariant.proofs.HeardNow.{heard_in_floods}
+use Rattle.air_invariant.proofs.HeardPlaces.{not_is, neither, taken, left, unheard, not_first, none_accepted}
 use Rattle.air_invariant.proofs.HeardRelays.{IsOfSlot, heard_in, relay_order, relay_ordered}
-use Rattle.air_invariant.proofs.KeptWindows.{if_some, new_node, new_window, new_device, IsKept, sending_kept, order_kept, fine_kept, heard_in as heard_still}
+use Rattle.air_invariant.proofs.IgnoredHearing.{rank, good, ignored}
+use Rattle.air_invariant.proofs.KeptWindows.{new_node, new_window, new_device, IsKept, sending_kept, order_kept, fine_kept}
+use Rattle.air_invariant.proofs.RestagedNodes.{if_some}
+use Rattle.air_invariant.proofs.IgnoredHearing as IgnoredHearing
 
-module _ (s : ScenarioParts) (clocks : ℕ → ℕ → ℕ) (air : List Entry) (v t : ℕ) (at : AtTick s clocks air v t) (h : Reception) (d : Device) (now : IsHeardNow s clocks air v t h d)
+module _ (s : ScenarioParts) (clocks : ℕ → ℕ → ℕ) (air : List Entry) (v t : ℕ) (at : AtTick s clocks air v t) (h : Reception) (d : Device)
+    (now : IsHeardNow s clocks air v t h d)
     (n : Node) (j : ℕ) (w : Window) (fine : IsFine s clocks air v t Hearings d) (on : d.power ≡ PowerOn n) (stage : n.stage ≡ InWindow j w) where
-  known : IsOn s clocks air v t (suc t) d n
-  known = subst (InOrderBy s clocks air v t (suc t) d) on fine.node.by_power
+  abbrev known : IsOn s clocks air v t (suc t) d n
+  known = IgnoredHearing.known s clocks air v t at h d now n j w fine on stage
 
-  window : InOpenWindow s clocks air v (suc t) n d j w
-  window = subst (WindowAt s clocks air v (suc t) n d) stage known.window
+  abbrev window : InOpenWindow s clocks air v (suc t) n d j w
+  window = IgnoredHearing.window s clocks air v t at h d now n j w fine on stage
 
-  frame : n.frame ≡ t / s.profile.frame
-  frame = frame_now s clocks air v t h d now n known
+  abbrev frame : n.frame ≡ t / s.profile.frame
+  frame = IgnoredHearing.frame s clocks air v t at h d now n j w fine on stage
 
-  began : frame_start s n.frame < t
-  began = began_now s clocks air v t h d now n known
-
-  rank : now.sending.rank ≡ rank_at n
-  rank = by_radio (nat_lt w.flood.sent w.flood.limit) (subst (RadioFor n d) stage known.radio.at)
-    where
-      by_radio : (b : Bool) → Either b (listens_to (rank_at n) d.listening ≡ true) (d.listening ≡ None) → now.sending.rank ≡ rank_at n
-      by_radio true is = listened d.listening (rank_at n) now.sending.rank now.channel is
-      by_radio false is = absurd (silent d.listening now.sending.rank now.channel is)
-
-  good : GoodFor s clocks (rank_at n) v n.zero n.frame (closing s.profile j)
-  good = by_tune (is_joining n) (subst (IsTunedAt s clocks v n) stage known.tune.at)
-    where
-      by_tune : (b : Bool) → Either b (RefFor s clocks (rank_at n) v n.zero n.frame n.frame j) (IsMember s clocks v n j w.last (is_last j w))
-          → GoodFor s clocks (rank_at n) v n.zero n.frame (closing s.profile j)
-      by_tune true ref = good_now s.profile (budget_of s.profile) (run_fits s at.run.driven.sound) (clocks (slice_index s.hosts (rank_at n))) (clocks v) n.zero n.frame j ref
-      by_tune false is =
-          good_later s.profile (budget_of s.profile) (run_fits s at.run.driven.sound) (clocks (slice_index s.hosts (rank_at n))) (clocks v) n.zero n.frame
-          (opening s.profile j) (closing s.profile j) (omega arith) is.good
-
-  -- ---- the flood ignores it
-
-  module _ (reference : Option ℕ) (same : reference ≡ w.reference) (ds : List Delivery) (ls : List WindowLog) where
-    kept_all : IsKept s clocks air v t d n j w w.flood.waiting w.flood.first reference d.ordered ds ls
-    kept_all = record { keeps = λ q is. is; before = λ first. first; after = λ first. first; by_life = λ l f is. is }
-
-    abbrev same_node : Node
-    same_node = new_node s clocks air v t d n j w w.flood.waiting w.flood.first reference d.ordered ds ls
-
-    abbrev same_window : Window
-    same_window = new_window s clocks air v t d n j w w.flood.waiting w.flood.first reference d.ordered ds ls
-
-    abbrev same_device : Device
-    same_device = new_device s clocks air v t d n j w w.flood.waiting w.flood.first reference d.ordered ds ls
-
-    still : (x : Sending) → HeardIn s air v (suc t) n j x → HeardIn s air v (suc t) same_node j x
-    still x = heard_still s clocks air v t d n j w w.flood.waiting w.flood.first reference d.ordered ds ls x
-
-    ignored_window : InOpenWindow s clocks air v (suc t) same_node same_device j same_window
-    ignored_window =
-        let f = window.flood in
-        let a = window.accepted in
-        record {
-          flood = record { kind = f.kind; slot = f.slot; limit = f.limit; few = f.few; waits = f.waits; one = f.one; spent = f.spent; own = f.own };
-          order = if_some d.ordered (HasOrder s clocks air v (suc t) n j w) (HasOrder s clocks air v (suc t) same_node j same_window)
-              (order_kept s clocks air v t d n j w w.flood.waiting w.flood.first reference d.ordered ds ls kept_all) window.order;
-          sending = if_some d.sending (HasSending s clocks air v n j) (HasSending s clocks air v same_node j)
-              (sending_kept s clocks air v t d n j w w.flood.waiting w.flood.first reference d.ordered ds ls) window.sending;
-          accepted = record {
-            each = if_some (accepted_of w.flood) (λ p. IsAccepted s clocks air v (suc t) n j w p.0) (λ p. IsAccepted s clocks air v (suc t) same_node j same_window p.0)
-                (λ p is. record { heard = is.heard; in_slot = still is.heard is.in_slot; is = is.is; reference = λ part. same ∙ is.reference part }) a.each;
-            joined = λ joining. (let o = a.joined joining in record {
-              schedule = o.schedule;
-              packet = o.packet;
-              accepted = o.accepted;
-              says = o.says;
-              rank = o.rank;
-              reference = same ∙ o.reference;
-              last = o.last;
-              part = o.part;
-            });
-          };
-        }
-
-    pub ignored : IsFine s clocks air v t Hearings same_device
-    ignored = fine_kept s clocks air v t d n j w w.flood.waiting w.flood.first reference d.ordered ds ls known stage kept_all frame began ignored_window fine on
+  abbrev began : frame_start s n.frame < t
+  began = IgnoredHearing.began s clocks air v t at h d now n j w fine on stage
 
   -- ---- it fits the flood
 
@@ -143,7 +75,12 @@ module _ (s : ScenarioParts) (clocks : ℕ → ℕ → ℕ) (air : List Entry) (
     more all = let limit = window.flood.limit in let less = ltb-true w.flood.sent w.flood.limit parts.0 in omega (arith, all, limit, less)
 
     of_slot : (place : Stage) → IsOfSlot s clocks air v t at h d now (record n { stage = place }) j
-    of_slot place = record { frame = frame; rank = rank; slot = slot; good = good }
+    of_slot place = record {
+      frame = frame;
+      rank = rank s clocks air v t at h d now n j w fine on stage;
+      slot = slot;
+      good = good s clocks air v t at h d now n j w fine on stage;
+    }
 
     -- the reference of a window whose flood began here or not, and has a first packet or none
     abbrev reference_for : Bool → Option (List ℕ) → Option ℕ
@@ -151,7 +88,8 @@ module _ (s : ScenarioParts) (clocks : ℕ → ℕ → ℕ) (air : List Entry) (
         if is_schedule_part w.part && true && is_none (accepted_of (record (w.flood) { initiated = i; first = f })) && not i
         then Some (zero_from s.profile (clocks v t) h.packet) else w.reference
 
-    accepts : (place : Stage) (waits i : Bool) (f : Option (List ℕ)) → HasAccepted s clocks air v (suc t) n j (record w { flood = record (w.flood) { initiated = i; first = f } })
+    accepts : (place : Stage) (waits i : Bool) (f : Option (List ℕ))
+        → HasAccepted s clocks air v (suc t) n j (record w { flood = record (w.flood) { initiated = i; first = f } })
         → HasAccepted s clocks air v (suc t) (record n { stage = place }) j
         (record w { flood = record (w.flood) { waiting = waits; initiated = i; first = first_of f h.packet }; reference = reference_for i f })
     accepts place waits true f old = record { each = tt; joined = λ joining. absurd (none_accepted (old.joined joining).packet (old.joined joining).accepted) }
@@ -159,7 +97,8 @@ module _ (s : ScenarioParts) (clocks : ℕ → ℕ → ℕ) (air : List Entry) (
         let is = old.each in
         let x = is.heard in
         let e = is.in_slot in
-        let stays : reference_for false (Some p) ≡ w.reference = left (is_schedule_part w.part) (Some (zero_from s.profile (clocks v t) h.packet)) w.reference in
+        let stays : reference_for false (Some p) ≡ w.reference =
+        left (is_schedule_part w.part) (Some (zero_from s.profile (clocks v t) h.packet)) w.reference in
         record {
           each = record {
             heard = x;
@@ -222,7 +161,16 @@ module _ (s : ScenarioParts) (clocks : ℕ → ℕ → ℕ) (air : List Entry) (
       relayed_window =
           let f = window.flood in
           record {
-            flood = record { kind = f.kind; slot = f.slot; limit = f.limit; few = f.few; waits = refl; one = free.1; spent = λ all. absurd (more all); own = f.own };
+            flood = record {
+              kind = f.kind;
+              slot = f.slot;
+              limit = f.limit;
+              few = f.few;
+              waits = refl;
+              one = free.1;
+              spent = λ all. absurd (more all);
+              own = f.own;
+            };
             order = relay_ordered s clocks air v t at h d now relaying_node j (of_slot (InWindow j relaying_window)) relaying_window less;
             sending = if_some d.sending (HasSending s clocks air v n j) (HasSending s clocks air v relaying_node j)
                 (sending_kept s clocks air v t d n j w true (first_of w.flood.first h.packet) reference_now (Some order) ds ls) window.sending;
@@ -230,7 +178,8 @@ module _ (s : ScenarioParts) (clocks : ℕ → ℕ → ℕ) (air : List Entry) (
           }
 
       pub relayed : IsFine s clocks air v t Hearings relaying_device
-      relayed = fine_kept s clocks air v t d n j w true (first_of w.flood.first h.packet) reference_now (Some order) ds ls known stage kept_relayed frame began relayed_window fine on
+      relayed = fine_kept s clocks air v t d n j w true (first_of w.flood.first h.packet) reference_now
+          (Some order) ds ls known stage kept_relayed frame began relayed_window fine on
 
     -- it is the last of its flood
     module _ (ds : List Delivery) (ls : List WindowLog) where
@@ -255,7 +204,16 @@ module _ (s : ScenarioParts) (clocks : ℕ → ℕ → ℕ) (air : List Entry) (
       last_window =
           let f = window.flood in
           record {
-            flood = record { kind = f.kind; slot = f.slot; limit = f.limit; few = f.few; waits = sym parts.1 ∙ f.waits; one = f.one; spent = λ all. refl; own = f.own };
+            flood = record {
+              kind = f.kind;
+              slot = f.slot;
+              limit = f.limit;
+              few = f.few;
+              waits = sym parts.1 ∙ f.waits;
+              one = f.one;
+              spent = λ all. refl;
+              own = f.own;
+            };
             order = if_some d.ordered (HasOrder s clocks air v (suc t) n j w) (HasOrder s clocks air v (suc t) keeping_node j keeping_window)
                 (order_kept s clocks air v t d n j w false (first_of w.flood.first h.packet) reference_now d.ordered ds ls kept_last) window.order;
             sending = if_some d.sending (HasSending s clocks air v n j) (HasSending s clocks air v keeping_node j)
@@ -264,7 +222,8 @@ module _ (s : ScenarioParts) (clocks : ℕ → ℕ → ℕ) (air : List Entry) (
           }
 
       pub kept_so : IsFine s clocks air v t Hearings keeping_device
-      kept_so = fine_kept s clocks air v t d n j w false (first_of w.flood.first h.packet) reference_now d.ordered ds ls known stage kept_last frame began last_window fine on
+      kept_so = fine_kept s clocks air v t d n j w false
+          (first_of w.flood.first h.packet) reference_now d.ordered ds ls known stage kept_last frame began last_window fine on
 
   -- ---- the row, by the tests of its flood
 
@@ -292,7 +251,8 @@ module _ (s : ScenarioParts) (clocks : ℕ → ℕ → ℕ) (air : List Entry) (
   deliveries_so = d.made.deliveries ++ []
 
   abbrev windows_so : Bool → Bool → Bool → List WindowLog
-  windows_so foreign fitting less = windows_after t (Heard h.packet) None n (row_by foreign fitting less).node n.stage (row_by foreign fitting less).node.stage d.made.windows
+  windows_so foreign fitting less = windows_after t (Heard h.packet) None n (row_by foreign fitting less).node n.stage
+      (row_by foreign fitting less).node.stage d.made.windows
 
   reference_stays : (foreign fitting less : Bool) → not (is_ignored (answer foreign fitting less)) ≡ false → reference_by foreign fitting less ≡ w.reference
   reference_stays true fitting less is =
@@ -304,8 +264,10 @@ module _ (s : ScenarioParts) (clocks : ℕ → ℕ → ℕ) (air : List Entry) (
 
   by_tests : (foreign fitting less : Bool) → fits w.flood h.packet ≡ fitting → nat_lt (count_of h.packet) 11 ≡ less
       → IsFine s clocks air v t Hearings (after_row (clocks v) (setup_of s v) t (Heard h.packet) None d n (row_by foreign fitting less))
-  by_tests true fitting less fit few = ignored (reference_by true fitting less) (reference_stays true fitting less refl) deliveries_so (windows_so true fitting less)
-  by_tests false false less fit few = ignored (reference_by false false less) (reference_stays false false less refl) deliveries_so (windows_so false false less)
+  by_tests true fitting less fit few = ignored s clocks air v t at h d now n j w fine on stage (reference_by true fitting less)
+      (reference_stays true fitting less refl) deliveries_so (windows_so true fitting less)
+  by_tests false false less fit few = ignored s clocks air v t at h d now n j w fine on stage (reference_by false false less)
+      (reference_stays false false less refl) deliveries_so (windows_so false false less)
   by_tests false true true fit few = relayed fit (ltb-true (count_of h.packet) 11 few) deliveries_so (windows_so false true true)
   by_tests false true false fit few = kept_so fit deliveries_so (windows_so false true false)
 

@@ -3,7 +3,7 @@ use Rattle.std.proofs.Common.{◌≡◌, ℕ, ◌/◌, ◌≤◌, List, [], ◌�
 use Rattle.bus_rules.specs.declared.delivery.DropLine.{DropLine}
 use Rattle.bus_rules.specs.Streams.{Streams, declared, left, put}
 use Rattle.node_core.specs.Nodes.{Node}
-use Rattle.node_core.specs.Runs.{with_streams}
+use Rattle.node_core.specs.Nodes.{with_streams}
 use Rattle.scenario_text.specs.ScenarioParts.{ScenarioParts}
 use Rattle.scenario_text.specs.declared.script.ScriptLine.{ScriptLine}
 use Rattle.air_log.specs.declared.entry.Entry.{Entry}

@@ -1,5 +1,6 @@
 -- The end of the own sending: the flood of its window counts it, and there is none elsewhere.
-use Rattle.std.proofs.Common.{◌≡◌, ℕ, suc, ◌/◌, ◌<◌, inl, inr, List, Bool, true, false, ◌&&◌, ◌||◌, Some, None, Option, is_some, Contains, refl, sym, ◌∙◌, ap, subst, arith, true≢false}
+use Rattle.std.proofs.Common.{◌≡◌, ℕ, suc, ◌/◌, ◌<◌, inl, inr, List, Bool, true, false, ◌&&◌, ◌||◌, Some, None, Option, is_some, Contains, refl, sym, ◌∙◌, ap}
+use Rattle.std.proofs.Common.{subst, arith, true≢false}
 use Rattle.std.specs.Option.{IfSome}
 use Rattle.std.specs.Prelude.{⊤}
 use Rattle.std.proofs.lemmas.Bool.{or_right, cases_lt, lt-ltb}

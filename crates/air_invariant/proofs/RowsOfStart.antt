@@ -1,5 +1,6 @@
 -- The start of the ordered sending: it begins its flood as it may, or follows what its node heard.
-use Rattle.std.proofs.Common.{◌≡◌, ℕ, suc, ◌+◌, ◌/◌, ◌<◌, ◌≤◌, ◌⊎◌, inl, inr, List, [], ◌∷◌, ◌++◌, length, Bool, if◌then◌else◌, Some, None, Option, Contains, refl, sym, ◌∙◌, ap, subst, arith, true≢false}
+use Rattle.std.proofs.Common.{◌≡◌, ℕ, suc, ◌+◌, ◌/◌, ◌<◌, ◌≤◌, ◌⊎◌, inl, inr, List, [], ◌∷◌, ◌++◌, length, Bool, if◌then◌else◌, Some, None, Option, Contains}
+use Rattle.std.proofs.Common.{refl, sym, ◌∙◌, ap, subst, arith, true≢false}
 use Rattle.std.specs.Option.{IfSome}
 use Rattle.std.specs.Prelude.{slice_index}
 use Rattle.std.proofs.lemmas.Bool.{eq-eqb, eqb-true}
@@ -27,7 +28,7 @@ use Rattle.air_safety.specs.TrailLinks.{device_in}
 use Rattle.air_safety.specs.Walks.{begins}
 use Rattle.air_safety.specs.DeviceRanges.{IsWellAndProper}
 use Rattle.air_safety.specs.SpokenRanges.{IsProper}
-use Rattle.air_safety.proofs.Elements.{contains_head}
+use Rattle.air_log.proofs.Elements.{contains_head}
 use Rattle.air_safety.proofs.SentInTrails.{sent_below}
 use Rattle.air_invariant.specs.SetAlarms.{rank_at, tick_by}
 use Rattle.air_invariant.specs.RadiosOn.{RadioFor}

@@ -1,5 +1,6 @@
 -- Where slot 0 of a host's round closes, its opening was sent: so the plan of the round is known.
-use Rattle.std.proofs.Common.{◌≡◌, ℕ, ◌<◌, inl, inr, List, Bool, true, false, Some, None, Option, IfSome, Contains, refl, sym, ◌∙◌, ap, subst, arith, eq-eqb, lt-ltb}
+use Rattle.std.proofs.Common.{◌≡◌, ℕ, ◌<◌, inl, inr, List, Bool, true, false, Some, None, Option, IfSome, Contains, refl, sym, ◌∙◌, ap, subst, arith, eq-eqb}
+use Rattle.std.proofs.Common.{lt-ltb}
 use Rattle.std.proofs.lemmas.Bool.{cond-true, and_from, not_from_true}
 use Rattle.lwb_base.specs.Messages.{Plan}
 use Rattle.bus_rules.specs.declared.part.Part.TheVariants.{Opening}

@@ -84,7 +84,8 @@ module _ (s : ScenarioParts) (clocks : ℕ → ℕ → ℕ) (air : List Entry) (
   alarms (suc gone) d is =
       let e = after_alarms (clocks v) (setup_of s v) t gone d in
       let before = alarms gone d is in
-      event_is (setup_of s v) is_set (IsProper s.profile) (IsFitting s.profile) (proper_rules (setup_of s v)) (clocks v) t Alarm None (record e { alarm = None }) tt
+      event_is (setup_of s v) is_set (IsProper s.profile) (IsFitting s.profile) (proper_rules (setup_of s v)) (clocks v) t Alarm None
+      (record e { alarm = None }) tt
       (record { power = before.power; ordered = before.ordered; sending = before.sending; sent = before.sent })
 
   at_alarm : (d : Device) → IsNextAlarm s v (clocks v) hs t d → ranged d

@@ -8,7 +8,9 @@ use Rattle.air_log.specs.Lawful.{heard_by}
 use Rattle.air_log.specs.Trails.{Reception, run_end}
 use Rattle.air_log.specs.Devices.{Device}
 use Rattle.air_safety.specs.Phases.{Phase, Lines, Hearings, End, Alarms, Start, Over, starts_from}
-use Rattle.air_safety.specs.Walks.{BootKept, OffKept, DeclareKept, LeaveKept, PutKept, LossKept, JoiningKept, HearingKept, SentKept, LateSentKept, SentElsewhereKept, FrameAlarmKept, OpeningKept, ClosingKept, AlarmElsewhereKept, BeginningKept, MissedStartKept, OnwardsKept, PassingKept}
+use Rattle.air_safety.specs.Walks.{BootKept, OffKept, DeclareKept, LeaveKept, PutKept, LossKept, JoiningKept, HearingKept, SentKept, LateSentKept}
+use Rattle.air_safety.specs.Walks.{SentElsewhereKept, FrameAlarmKept, OpeningKept, ClosingKept, AlarmElsewhereKept, BeginningKept, MissedStartKept, OnwardsKept}
+use Rattle.air_safety.specs.Walks.{PassingKept}
 use Rattle.air_invariant.specs.SentPlans.{IsHostOf}
 use Rattle.air_invariant.specs.FloodSendings.{IsOfFlood}
 use Rattle.air_invariant.specs.NodesInOrder.{IsInOrder}

@@ -19,7 +19,8 @@ use Rattle.bus_rules.specs.States.{refuses, queues}
 use Rattle.bus_rules.specs.Cores.{Setup}
 use Rattle.node_core.specs.Nodes.{Node, rebooted}
 use Rattle.node_core.specs.Rows.{row, at_alarm}
-use Rattle.node_core.specs.Runs.{node_after, orders_by, with_streams}
+use Rattle.node_core.specs.Nodes.{with_streams}
+use Rattle.node_core.specs.Rows.{node_after, orders_by}
 use Rattle.node_core.specs.declared.stage.Stage.{Stage}
 use Rattle.node_core.specs.declared.stage.Stage.TheVariants.{Idle, Scanning, AwaitFrame, AwaitSlot, InWindow}
 use Rattle.air_log.specs.Devices.{Device, Power, PowerOff, PowerOn, Listening, Ordered, obeyed, moved, stepped, event, event_by, silenced, tunes, listens_to}

@@ -22,7 +22,7 @@ use Rattle.node_core.specs.declared.stage.Stage.TheVariants.{Idle, Scanning, Awa
 use Rattle.node_core.specs.Windows.{Window}
 use Rattle.node_core.specs.Nodes.{Node, frame_alarm, stopped_frame}
 use Rattle.node_core.specs.Rows.{Stepped, row, stage_for, orders_for, zero_for, frame_alarms, window_opens, window_closes, joins, scanner_hears, accepted_in, at_alarm, at_heard, at_sent, sends}
-use Rattle.node_core.specs.Runs.{node_after, orders_by}
+use Rattle.node_core.specs.Rows.{node_after, orders_by}
 use Rattle.air_log.proofs.SmallPlans.{read_few}
 use Rattle.air_log.proofs.SmallCores.{IsSmall, booted_small, frame_small, opened_small, closed_small, accepted_few}
 

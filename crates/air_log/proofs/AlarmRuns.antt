@@ -6,7 +6,7 @@ use Rattle.scenario_text.specs.ScenarioParts.{ScenarioParts}
 use Rattle.scenario_text.specs.ScenarioFacts.{IsSoundScenario}
 use Rattle.bus_rules.specs.Cores.{Setup}
 use Rattle.air_log.specs.Devices.{Device}
-use Rattle.air_log.specs.Trails.{Reception, run_end, setup_of, is_due, one_alarm, alarms, before_alarms, before_start, before_tick}
+use Rattle.air_log.specs.Trails.{Reception, run_end, setup_of, is_due, one_alarm, alarms, before_alarms, before_start, before_tick, alarmed}
 use Rattle.air_log.specs.AlarmRuns.{after_alarms, IsAlarmRun}
 use Rattle.air_log.proofs.AlarmLoop.{no_alarm_left}
 
@@ -28,6 +28,22 @@ module _ (clock : ℕ → ℕ) (s : Setup) (t : ℕ) where
   is_run false more d due over = record { count = zero; is = refl; due = λ j less. absurd (omega (arith, less)); over = over }
   is_run true zero d due over = record { count = zero; is = refl; due = λ j less. absurd (omega (arith, less)); over = over }
   is_run true (suc more) d due over = let e = one_alarm clock s t d in with_first d _ due (is_run (is_due t e.alarm) more e refl over)
+
+  -- there are no more of them than the trail takes at most
+  due_still : (more : ℕ) (d : Device) (b : Bool) → is_due t d.alarm ≡ b → ((j : ℕ) → j ≤ more → is_due t (after_alarms clock s t j d).alarm ≡ true) → is_due t (alarms clock s t b more d).alarm ≡ true
+  unfolding alarms
+  due_still more d false is due = absurd (true≢false (sym (due 0 (omega arith)) ∙ is))
+  due_still zero d true is due = is
+  due_still (suc more) d true is due =
+      due_still more (one_alarm clock s t d) (is_due t (one_alarm clock s t d).alarm) refl
+      (λ j less. ap (λ (x : Device). is_due t x.alarm) (first_of j d) ∙ due (suc j) (omega (arith, less)))
+
+  pub are_fewer : (d : Device) (k : ℕ) → IsAlarmRun clock s t d (alarmed clock s t d) → ((j : ℕ) → j < k → is_due t (after_alarms clock s t j d).alarm ≡ true) → k ≤ clock t + 300
+  are_fewer d k run due = elim (cases_order k (clock t + 300)) [
+    | inl is ↦ omega (arith, is)
+    | inr (inl less) ↦ omega (arith, less)
+    | inr (inr more) ↦ absurd (true≢false (sym (due_still (clock t + 300) d (is_due t d.alarm) refl (λ j less. due j (omega (arith, less, more)))) ∙ run.over))
+  ]
 
 pub alarms_are_run : (s : ScenarioParts) (v : ℕ) (clock : ℕ → ℕ) (hs : List Reception) (t : ℕ) → IsSoundScenario s → IsClock clock → t ≤ run_end s
     → IsAlarmRun clock (setup_of s v) t (before_alarms s v clock hs t (before_tick s v clock hs t)) (before_start s v clock hs t (before_tick s v clock hs t))

@@ -1,36 +1,15 @@
 -- The alarms of a device that are due at a tick, taken one after another.
-use Rattle.std.proofs.Common.{◌≡◌, ℕ, zero, suc, ◌+◌, ◌<◌, ◌≤◌, Bool, true, false, None, Some, Option, refl, sym, ◌∙◌, ap, subst, arith, add-one, true≢false, inl, inr}
+use Rattle.std.proofs.Common.{◌≡◌, ℕ, ◌+◌, ◌<◌, ◌≤◌, true, false, None, Option, refl, sym, ◌∙◌, ap, subst, arith, add-one, inl, inr}
 use Rattle.std.proofs.lemmas.Bool.{cases_order}
 use Rattle.lwb_base.specs.declared.event.Event.TheVariants.{Alarm}
 use Rattle.bus_rules.specs.Cores.{Setup}
 use Rattle.radio_model.specs.OnAir.{Sending}
 use Rattle.air_log.specs.Devices.{Device, event}
-use Rattle.air_log.specs.Trails.{is_due, one_alarm, alarms, alarmed}
+use Rattle.air_log.specs.Trails.{is_due, alarmed}
 use Rattle.air_log.specs.AlarmRuns.{after_alarms, IsAlarmRun}
 use Rattle.air_log.specs.Courses.{CourseState, Shows, Goes, IsShownEnding}
-use Rattle.air_log.proofs.AlarmRuns.{runs_agree}
+use Rattle.air_log.proofs.AlarmRuns.{runs_agree, are_fewer}
 use Rattle.air_log.proofs.CourseSteps.{shows_as}
-
--- there are no more of them than the trail takes at most
-module _ (clock : ℕ → ℕ) (s : Setup) (t : ℕ) where
-  first_then : (k : ℕ) (d : Device) → after_alarms clock s t k (one_alarm clock s t d) ≡ after_alarms clock s t (suc k) d
-  first_then zero d = refl
-  first_then (suc k) d = ap (one_alarm clock s t) (first_then k d)
-
-  due_still : (more : ℕ) (d : Device) (b : Bool) → is_due t d.alarm ≡ b → ((j : ℕ) → j ≤ more → is_due t (after_alarms clock s t j d).alarm ≡ true) → is_due t (alarms clock s t b more d).alarm ≡ true
-  unfolding alarms
-  due_still more d false is due = absurd (true≢false (sym (due 0 (omega arith)) ∙ is))
-  due_still zero d true is due = is
-  due_still (suc more) d true is due =
-      due_still more (one_alarm clock s t d) (is_due t (one_alarm clock s t d).alarm) refl
-      (λ j less. ap (λ (x : Device). is_due t x.alarm) (first_then j d) ∙ due (suc j) (omega (arith, less)))
-
-  are_fewer : (d : Device) (k : ℕ) → IsAlarmRun clock s t d (alarmed clock s t d) → ((j : ℕ) → j < k → is_due t (after_alarms clock s t j d).alarm ≡ true) → k ≤ clock t + 300
-  are_fewer d k run due = elim (cases_order k (clock t + 300)) [
-    | inl is ↦ omega (arith, is)
-    | inr (inl less) ↦ omega (arith, less)
-    | inr (inr more) ↦ absurd (true≢false (sym (due_still (clock t + 300) d (is_due t d.alarm) refl (λ j less. due j (omega (arith, less, more)))) ∙ run.over))
-  ]
 
 -- so many have been taken, and each was due
 pub record AreTaken (clock : ℕ → ℕ) (t k : ℕ) (old new : CourseState) : Type 0 where

@@ -19,7 +19,7 @@ use Rattle.bus_rules.specs.States.{declares, leaves}
 use Rattle.bus_rules.specs.Cores.{Setup}
 use Rattle.node_core.specs.Nodes.{Node, rebooted}
 use Rattle.node_core.specs.Rows.{row}
-use Rattle.node_core.specs.Runs.{orders_by}
+use Rattle.node_core.specs.Rows.{orders_by}
 use Rattle.air_log.specs.Devices.{Device, Power, PowerOff, PowerOn, Ordered, at_rest, silenced, listens_to, retuned, moved}
 use Rattle.air_log.specs.ScriptedDevices.{dropped, switched_off, with_new_core, put_or_dropped}
 use Rattle.air_log.specs.Trails.{Reception, setup_of, frame_start, lines_at, ending_at, is_due, alarms, begun, tick, before_tick}

@@ -1,5 +1,5 @@
 -- What windows count so far, event by event.
-use Rattle.std.proofs.Common.{◌≡◌, ℕ, zero, suc, ◌+◌, ◌%◌, ◌^◌, ◌≤◌, min, List, [], ◌∷◌, ◌++◌, Bool, true, false, ◌==◌, if◌then◌else◌, Option, Some, None, option_to_list, filter_map, length, sum_by, refl, sym, ◌∙◌, ap, subst, arith, eqb-true, eq-eqb}
+use Rattle.std.proofs.Common.{◌≡◌, ℕ, ◌+◌, ◌%◌, ◌^◌, ◌≤◌, min, List, [], ◌∷◌, ◌++◌, Bool, true, false, ◌==◌, if◌then◌else◌, Option, Some, None, option_to_list, filter_map, length, sum_by, refl, sym, ◌∙◌, ap, arith, eqb-true, eq-eqb}
 use Rattle.std.specs.List.{last_or}
 use Rattle.std.proofs.lemmas.Bool.{cond_both, ne_eqb}
 use Rattle.std.proofs.lemmas.List.{length-append}
@@ -15,8 +15,8 @@ use Rattle.node_core.specs.Windows.{Window}
 use Rattle.node_core.specs.declared.stage.Stage.{Stage}
 use Rattle.node_core.specs.declared.stage.Stage.TheVariants.{Idle, Scanning, AwaitFrame, AwaitSlot, InWindow}
 use Rattle.air_log.specs.Charges.{sent_in, sent_packets, counted}
-use Rattle.air_log.specs.WindowLogs.{WindowLog, Happening, is_alarm, happening, opened_log, gone_on, closed_log, windows_after}
-use Rattle.air_log.specs.WindowSums.{WindowSum, charge_by, IsCountedTo, IsNothing, CountsBy, IsCounted, is_window, sent_with, opened_sum, only_if, sent_sum, with_packet, noted}
+use Rattle.air_log.specs.WindowLogs.{WindowLog, is_alarm, happening, opened_log, gone_on, closed_log, windows_after}
+use Rattle.air_log.specs.WindowSums.{WindowSum, charge_by, IsCountedTo, IsCounted, is_window, sent_with, opened_sum, only_if, sent_sum, with_packet, noted}
 
 -- the packets that an event adds
 sent_by_event : (t : ℕ) (e : Event) (ended : Option Sending) → filter_map sent_in (happening t e ended) ≡ option_to_list (sent_with e ended)

@@ -1,23 +1,19 @@
 -- What one step of a device is to a course: it shows the device of a trail that goes through the same.
-use Rattle.std.proofs.Common.{◌≡◌, ℕ, ◌≤◌, ◌<◌, ◌^◌, List, [], ◌∷◌, ◌++◌, Bool, true, false, fold, if◌then◌else◌, Option, Some, None, option_to_list, IfSome, refl, sym, ◌∙◌, ap, subst, arith}
+use Rattle.std.proofs.Common.{◌≡◌, ℕ, ◌≤◌, ◌<◌, ◌^◌, List, [], ◌∷◌, ◌++◌, Bool, fold, if◌then◌else◌, Option, Some, None, option_to_list, IfSome, refl, sym, ◌∙◌, ap, subst, arith}
 use Rattle.std.proofs.lemmas.List.{append-nil}
 use Rattle.lwb_base.specs.declared.event.Event.{Event}
-use Rattle.lwb_base.specs.declared.event.Event.TheVariants.{Boot}
 use Rattle.lwb_base.specs.declared.order.Order.{Order}
 use Rattle.radio_model.specs.declared.sending.Sending.{Sending}
 use Rattle.radio_model.specs.OnAir.{Tuning}
 use Rattle.bus_rules.specs.Cores.{Setup}
 use Rattle.bus_rules.specs.declared.delivery.Delivery.{Delivery}
 use Rattle.bus_rules.specs.declared.delivery.DropLine.{DropLine}
-use Rattle.lwb_base.specs.Profile.{Numbers}
 use Rattle.node_core.specs.Nodes.{Node}
 use Rattle.node_core.specs.Rows.{Stepped}
-use Rattle.node_core.specs.Runs.{node_after, orders_by}
-use Rattle.scenario_text.specs.declared.script.Act.TheVariants.{On}
+use Rattle.node_core.specs.Rows.{orders_by}
 use Rattle.air_log.specs.declared.entry.TunedEntry.{TunedEntry}
 use Rattle.air_log.specs.Devices.{Device, Listening, Made, Power, PowerOff, PowerOn, obeyed, event, silenced}
-use Rattle.air_log.specs.ScriptedDevices.{after_act}
-use Rattle.air_log.specs.DeviceStates.{DeviceState, whole, with_tuned, one_more, tuning_of, with_sent, with_drop, EndedBefore, HappenedBy, IsSameNode, row_at, row_of, after_row, made_by}
+use Rattle.air_log.specs.DeviceStates.{DeviceState, whole, with_tuned, one_more, with_sent, with_drop, EndedBefore, HappenedBy, IsSameNode, row_at, row_of, after_row, made_by}
 use Rattle.air_log.specs.WindowLogs.{WindowLog, is_alarm}
 use Rattle.air_log.specs.WindowSums.{WindowSum, IsCounted, in_window, sent_with, noted}
 use Rattle.air_log.specs.Courses.{CourseState, made_in, Shows, IsShown, Goes, Tells}

@@ -7,7 +7,7 @@ use Rattle.lwb_base.specs.Orders.{Told}
 use Rattle.bus_rules.specs.Cores.{Setup}
 use Rattle.node_core.specs.Nodes.{Node, NodeState}
 use Rattle.node_core.specs.Rows.{Stepped, row}
-use Rattle.node_core.specs.Runs.{orders_by}
+use Rattle.node_core.specs.Rows.{orders_by}
 use Rattle.node_core.specs.Standing.{Follows}
 use Rattle.air_log.specs.declared.entry.TunedEntry.{TunedEntry}
 use Rattle.air_log.specs.Devices.{Made}

@@ -1,10 +1,10 @@
 -- Elements of lists.
-use Rattle.std.proofs.Common.{◌≡◌, ℕ, suc, ◌+◌, ◌<◌, Bool, true, Option, Some, None, filter, filter_map, reverse, take, length, get_or, ◌∙◌, sym, ap, List, [], ◌∷◌, ◌++◌, inl, inr, refl, subst, arith, map}
-use Rattle.std.specs.Prelude.{Contains, ◌⊎◌, ◌≢◌, AllPairs}
+use Rattle.std.proofs.Common.{◌≡◌, ℕ, suc, ◌+◌, ◌<◌, Bool, true, Option, Some, None, filter, filter_map, reverse, take, length, get_or, ◌∙◌, sym, ap, List, [], ◌∷◌, ◌++◌, inl, inr, refl, subst, arith, map, drop}
+use Rattle.std.specs.Prelude.{Contains, ◌⊎◌, ◌≢◌, AllPairs, slice_get}
 use Rattle.std.specs.List.{cons_option}
 use Rattle.std.proofs.lemmas.Bool.{cond_both, cond-true}
-use Rattle.std.proofs.lemmas.List.{reverse-append, map_more}
-use Rattle.std.proofs.lemmas.List.Elements.{Contains-append_cases, Contains-append_left, Contains-append_right, Contains-push, Contains-push_cases}
+use Rattle.std.proofs.lemmas.List.{reverse-append, map_more, length-map, get_or-map}
+use Rattle.std.proofs.lemmas.List.Elements.{Contains-append_cases, Contains-append_left, Contains-append_right, Contains-push, Contains-push_cases, All-contains, All-filter, All-contains_itself, filter_passes}
 
 pub not_in_none : {X : Type 0} (x : X) → Contains [] x → ⊥
 not_in_none x (k, less, is) = omega arith
@@ -18,6 +18,21 @@ contains_tail x xs y there = Contains-append_right (x ∷ []) xs y there
 pub contains_cases : {X : Type 0} (x : X) (xs : List X) (y : X) → Contains (x ∷ xs) y → (x ≡ y) ⊎ Contains xs y
 contains_cases x xs y there =
     elim (Contains-append_cases (x ∷ []) xs y there) [ inl at ↦ elim (Contains-push_cases [] x y at) [ inl none ↦ absurd (not_in_none y none) | inr is ↦ inl is ] | inr later ↦ inr later ]
+
+-- lists of one or two elements, and the first element
+pub one_of : {X : Type 0} (x y : X) → Contains (x ∷ []) y → x ≡ y
+one_of x y there = elim (contains_cases x [] y there) [ inl is ↦ is | inr none ↦ absurd (not_in_none y none) ]
+
+pub one_of_two : {X : Type 0} (x y z : X) → Contains (x ∷ y ∷ []) z → (x ≡ z) ⊎ (y ≡ z)
+one_of_two x y z there = elim (contains_cases x (y ∷ []) z there) [ inl is ↦ inl is | inr later ↦ inr (one_of y z later) ]
+
+pub first_of : {X : Type 0} (xs : List X) (x : X) → slice_get xs 0 ≡ Some x → xs ≡ x ∷ drop 1 xs
+first_of [] x is = cc
+first_of (y ∷ xs) x is = let same : y ≡ x = cc in ap (λ (z : _). z ∷ xs) same
+
+pub none_in : {X : Type 0} (xs : List X) → slice_get xs 0 ≡ None → xs ≡ []
+none_in [] is = refl
+none_in (x ∷ xs) is = cc
 
 pub map_contains : {X Y : Type 0} (g : X → Y) (xs : List X) (x : X) → Contains xs x → Contains (map g xs) (g x)
 map_contains g [] x there = absurd (not_in_none x there)
@@ -34,6 +49,14 @@ module _ {X : Type 0} (R : X → X → Type 0) where
 
   pub pairs_head : (x : X) (xs : List X) → AllPairs R (x ∷ xs) → (y : X) → Contains xs y → R x y
   pairs_head x xs all y (k, less, is) = subst (λ (z : X). R x z) is (all 0 (suc k) y (omega arith) (omega arith))
+
+pub pairs_of_map : {X Y : Type 0} (g : X → Y) (R : Y → Y → Type 0) (xs : List X) → AllPairs (λ a b. R (g a) (g b)) xs → AllPairs R (map g xs)
+pairs_of_map g R [] all i j d less within = absurd (omega arith)
+pairs_of_map g R (x ∷ xs) all i j d less within =
+    let long = length-map (x ∷ xs) g in
+    let at_i = get_or-map g (x ∷ xs) i x d (omega arith) in
+    let at_j = get_or-map g (x ∷ xs) j x d (omega arith) in
+    subst (λ (y : _). R y (get_or (map g (x ∷ xs)) j d)) (sym at_i) (subst (λ (y : _). R (g (get_or (x ∷ xs) i x)) y) (sym at_j) (all i j x less (omega arith)))
 
 -- no element stands twice
 abbrev pub Distinct : {X : Type 0} → List X → Type 0
@@ -87,6 +110,12 @@ pub map_pushed : {X Y : Type 0} (g : X → Y) (xs : List X) (i : ℕ) (x : X) (i
 map_pushed g xs i x items y below at is value =
     ap (λ (l : List _). l ++ y ∷ []) is ∙ ap (λ (z : _). map g (take i xs) ++ z ∷ []) (value ∙ ap g at) ∙ sym (map_more g xs i x below)
 
+pub filtered : {X : Type 0} (test : X → Bool) (xs : List X) (x : X) → Contains (filter test xs) x → Contains xs x × (test x ≡ true)
+filtered test xs x there = (
+  All-contains (Contains xs) (filter test xs) x (All-filter test (Contains xs) xs (All-contains_itself xs)) there,
+  All-contains (λ y. test y ≡ true) (filter test xs) x (filter_passes test xs) there,
+)
+
 -- what a filter takes, and the other way round
 pub in_filtered : {X : Type 0} (test : X → Bool) (xs : List X) (x : X) → Contains xs x → test x ≡ true → Contains (filter test xs) x
 in_filtered test [] x there is = absurd (not_in_none x there)
@@ -96,7 +125,7 @@ in_filtered {X} test (y ∷ xs) x there is =
       | inr rest ↦ cond_both (test y) (y ∷ filter test xs) (filter test xs) (λ (l : List X). Contains l x) (λ at. contains_tail y (filter test xs) x (in_filtered test xs x rest is)) (λ not. in_filtered test xs x rest is)
     ]
 
-reversed : {X : Type 0} (y : X) (xs : List X) → reverse (y ∷ xs) ≡ reverse xs ++ y ∷ []
+pub reversed : {X : Type 0} (y : X) (xs : List X) → reverse (y ∷ xs) ≡ reverse xs ++ y ∷ []
 reversed y xs = reverse-append (y ∷ []) xs
 
 pub in_reverse : {X : Type 0} (xs : List X) (x : X) → Contains xs x → Contains (reverse xs) x

@@ -1,5 +1,5 @@
 -- How many windows open by their alarm: few for each frame number that a node counts, and for each of its boots.
-use Rattle.std.proofs.Common.{◌≡◌, ◌⊎◌, inl, inr, true≢false, ℕ, zero, suc, ◌+◌, ◌*◌, ◌/◌, ◌^◌, ◌<◌, ◌≤◌, List, [], ◌∷◌, Bool, true, false, ◌==◌, nat_lt, if◌then◌else◌, fold, Option, Some, None, refl, sym, ◌∙◌, ap, subst, arith, ltb-true, mul-le-mul_right, mul-le-mul_left}
+use Rattle.std.proofs.Common.{◌≡◌, ◌⊎◌, inl, inr, true≢false, ℕ, zero, suc, ◌+◌, ◌*◌, ◌^◌, ◌<◌, ◌≤◌, List, [], ◌∷◌, Bool, true, false, ◌==◌, nat_lt, if◌then◌else◌, fold, Option, Some, None, refl, sym, ◌∙◌, ap, arith, ltb-true, mul-le-mul_right}
 use Rattle.std.proofs.lemmas.Bool.{cond_both}
 use Rattle.lwb_base.specs.declared.event.Event.{Event}
 use Rattle.lwb_base.specs.declared.event.Event.TheVariants.{Boot, Alarm, Heard, Sent}
@@ -15,22 +15,22 @@ use Rattle.scenario_text.specs.declared.script.Act.{Act}
 use Rattle.scenario_text.specs.declared.script.Act.TheVariants.{On, Off, Declare, Leave, Put}
 use Rattle.scenario_text.specs.declared.script.ScriptLine.{ScriptLine}
 use Rattle.bus_rules.specs.States.{refuses, queues}
-use Rattle.bus_rules.specs.Cores.{Setup, frame_ended}
+use Rattle.bus_rules.specs.Cores.{Setup}
 use Rattle.bus_rules.specs.Slots.{Message, ScheduleOf, DataOf, RequestOf}
 use Rattle.bus_rules.specs.Tuning.{rank_of}
 use Rattle.lwb_member.specs.Said.{message_of}
 use Rattle.node_core.specs.Nodes.{Node, rebooted}
-use Rattle.node_core.specs.Rows.{Stepped, row, joins, scanner_hears, sends, frame_alarms, at_alarm, at_heard, at_sent, boots, stage_for}
-use Rattle.node_core.specs.Runs.{node_after, orders_by}
+use Rattle.node_core.specs.Rows.{Stepped, row, joins, scanner_hears, sends, at_alarm, at_heard, at_sent, boots}
+use Rattle.node_core.specs.Rows.{node_after, orders_by}
 use Rattle.node_core.specs.Windows.{Window}
 use Rattle.node_core.specs.declared.stage.Stage.{Stage}
 use Rattle.node_core.specs.declared.stage.Stage.TheVariants.{Idle, Scanning, AwaitFrame, AwaitSlot, InWindow}
 use Rattle.node_core.proofs.KeptBoots.{KeepsBoot, boot_kept}
 use Rattle.air_log.specs.Devices.{Device, Power, PowerOff, PowerOn, Listening, Ordered, obeyed, moved, stepped, event_by, silenced, tunes, listens_to}
-use Rattle.air_log.specs.ScriptedDevices.{after_act, after_line, dropped, with_new_core, switched_off}
-use Rattle.air_log.specs.Trails.{Reception, run_end, setup_of, lines_at, scripted, ending_at, hears, heard, ended_by, ended, is_due, alarms, alarmed, before_start, begun_by, starts, before_tick, trail}
-use Rattle.air_log.specs.WindowLogs.{WindowLog, is_alarm, opened_log, gone_on, closed_log, windows_after}
-use Rattle.air_log.proofs.AlarmRows.{IsRoomy, roomy, InRange, IsGoing, Goes, alarm_goes}
+use Rattle.air_log.specs.ScriptedDevices.{after_act, after_line, dropped, with_new_core}
+use Rattle.air_log.specs.Trails.{Reception, run_end, setup_of, lines_at, scripted, ending_at, hears, heard, ended_by, ended, is_due, alarms, alarmed, begun_by, starts, before_tick, trail}
+use Rattle.air_log.specs.WindowLogs.{WindowLog, is_alarm, gone_on, closed_log, windows_after}
+use Rattle.air_log.proofs.AlarmRows.{IsRoomy, roomy, InRange, IsGoing, alarm_goes}
 use Rattle.air_log.proofs.AlarmLoop.{Sound, SoundBy, step_sound, heard_sound, sent_sound, act_sound, fires, begun_sound, later, early_in_run}
 
 -- how many of these opened by their alarm

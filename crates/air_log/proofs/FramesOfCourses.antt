@@ -1,8 +1,8 @@
 -- The ticks of a frame at which something is due, one after another.
-use Rattle.std.proofs.Common.{◌≡◌, ◌⊎◌, inl, inr, ℕ, suc, ◌+◌, ◌*◌, ◌^◌, ◌<◌, ◌≤◌, min, List, [], ◌∷◌, map, filter, fold, Bool, true, false, ◌&&◌, ◌==◌, if◌then◌else◌, nat_lt, Option, Some, None, option_map, IfSome, refl, sym, ◌∙◌, ap, subst, arith, mul-le-mul_right, add-one, ltb-true, lt-ltb, eqb-true}
+use Rattle.std.proofs.Common.{◌≡◌, ◌⊎◌, inl, inr, ℕ, ◌+◌, ◌*◌, ◌^◌, ◌<◌, ◌≤◌, List, [], ◌∷◌, map, fold, Bool, true, false, ◌==◌, if◌then◌else◌, nat_lt, Option, Some, None, option_map, IfSome, refl, sym, ◌∙◌, ap, subst, arith, mul-le-mul_right, add-one, ltb-true, lt-ltb, eqb-true}
 use Rattle.std.specs.Prelude.{slice_get, Contains}
 use Rattle.std.proofs.lemmas.Bool.{cond_both, cond-true, cond-false, and_parts, ltb-false}
-use Rattle.std.proofs.lemmas.Option.{slice_get_within, slice_get-get_or}
+use Rattle.std.proofs.lemmas.Option.{slice_get-get_or}
 use Rattle.lwb_base.specs.Profile.{Numbers}
 use Rattle.tick_clock.specs.Clocks.{IsClock}
 use Rattle.bus_rules.specs.Cores.{Setup}
@@ -11,7 +11,6 @@ use Rattle.scenario_text.specs.ScenarioParts.{ScenarioParts}
 use Rattle.scenario_text.specs.ScenarioFacts.{IsSoundScenario}
 use Rattle.scenario_text.specs.declared.script.ScriptLine.{ScriptLine}
 use Rattle.air_log.specs.declared.entry.HeardEntry.{HeardEntry}
-use Rattle.air_log.specs.Ahead.{IsAhead, NextDue}
 use Rattle.lwb_base.specs.declared.event.Event.TheVariants.{Heard, Sent}
 use Rattle.air_log.specs.Devices.{Device, Ordered, event, seen_power}
 use Rattle.air_log.proofs.KeptPower.{event_power, alarmed_power, begun_power}
@@ -20,7 +19,6 @@ use Rattle.air_log.specs.DeviceStates.{DeviceState}
 use Rattle.air_log.specs.Trails.{Reception, setup_of, run_end, frame_start, lines_at, scripted, at_frame, before_tick, hears, heard, ending_at, ended, ended_by, alarmed}
 use Rattle.air_log.specs.Courses.{CourseState, Shows, IsShownEnding, IsCut, Ascends, AlarmsEnd, end_of, reception_in, tick_of as ordered_tick, sending_end, least_of, least_due, before_alarms_in, after_lines}
 use Rattle.air_log.proofs.AlarmLoop.{early_in_run}
-use Rattle.air_log.proofs.AlarmRows.{roomy}
 use Rattle.air_log.proofs.AlarmRuns.{alarms_are_run}
 use Rattle.air_log.proofs.Elements.{map_from}
 use Rattle.air_log.proofs.NextDue.{is_ahead, none_passes, until_next}

@@ -1,5 +1,5 @@
 -- The hearings that end at a tick, told to a course one after another.
-use Rattle.std.proofs.Common.{◌≡◌, ℕ, suc, ◌+◌, List, [], ◌∷◌, ◌++◌, take, map, filter, fold, Bool, true, false, cond, ◌==◌, if◌then◌else◌, Some, None, refl, sym, ◌∙◌, ap, subst, arith, eq-eqb, eqb-true}
+use Rattle.std.proofs.Common.{◌≡◌, ℕ, ◌+◌, List, [], ◌∷◌, ◌++◌, take, map, filter, fold, Bool, true, false, cond, ◌==◌, Some, None, refl, sym, ◌∙◌, ap, eq-eqb, eqb-true}
 use Rattle.std.specs.Prelude.{slice_get}
 use Rattle.std.proofs.lemmas.Bool.{cond-true}
 use Rattle.std.proofs.lemmas.List.{map-append}
@@ -11,8 +11,8 @@ use Rattle.std.specs.declared.option.Option.{Option}
 use Rattle.air_log.specs.declared.entry.HeardEntry.{HeardEntry}
 use Rattle.air_log.specs.Devices.{Device, event}
 use Rattle.air_log.specs.Trails.{Reception, ending_at, hears, heard}
-use Rattle.air_log.specs.Courses.{CourseState, Shows, IsShown, Goes, IsCut, end_of, reception_in}
-use Rattle.air_log.proofs.CourseSteps.{shows_as, shown_still}
+use Rattle.air_log.specs.Courses.{CourseState, Goes, IsCut, end_of, reception_in}
+use Rattle.air_log.proofs.CourseSteps.{shows_as}
 use Rattle.air_log.proofs.ListCuts.{IsGone, gone_first, gone_more, none_yet, none_left, filter_more}
 
 -- what ends at a tick, of entries and of what the trail takes

@@ -12,7 +12,7 @@ use Rattle.scenario_text.specs.declared.script.ScriptLine.{ScriptLine}
 use Rattle.bus_rules.specs.States.{refuses, queues}
 use Rattle.bus_rules.specs.Cores.{Setup}
 use Rattle.node_core.specs.Nodes.{Node, rebooted}
-use Rattle.node_core.specs.Runs.{orders_by}
+use Rattle.node_core.specs.Rows.{orders_by}
 use Rattle.node_core.specs.Rows.{Stepped, row}
 use Rattle.air_log.specs.Devices.{Device, Power, PowerOff, PowerOn, obeyed, moved, event, event_by, silenced}
 use Rattle.air_log.specs.ScriptedDevices.{after_act, after_line, dropped, with_new_core}

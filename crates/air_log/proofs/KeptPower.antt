@@ -16,7 +16,7 @@ use Rattle.bus_rules.specs.States.{refuses, queues}
 use Rattle.bus_rules.specs.Cores.{Setup}
 use Rattle.node_core.specs.Nodes.{Node, rebooted}
 use Rattle.node_core.specs.Rows.{Stepped, row}
-use Rattle.node_core.specs.Runs.{node_after, orders_by}
+use Rattle.node_core.specs.Rows.{node_after, orders_by}
 use Rattle.air_log.specs.Devices.{Device, Power, PowerOff, PowerOn, Listening, Ordered, obeyed, moved, event, event_by, silenced, tunes, listens_to, seen_power}
 use Rattle.air_log.specs.ScriptedDevices.{after_act, after_line, dropped, with_new_core}
 use Rattle.air_log.specs.Trails.{is_due, alarms, alarmed, begun, begun_by, starts, one_alarm}

@@ -1,12 +1,14 @@
 -- kept for the crates above
 pub mod Elements
 pub mod StableSorts
+pub mod DeliveryOrder
 pub mod SameSendings
 pub mod LoggedEntries
 pub mod KeptByEvents
 pub mod InTurn
 pub mod HearingMore
 pub mod NextDue
+pub mod QuietTicks
 pub mod AlarmRuns
 pub mod AlarmRows
 pub mod AlarmLoop
@@ -22,13 +24,13 @@ pub mod FirstRound
 pub mod CountedEvents
 pub mod ChargedWindows
 -- for this crate alone
-pub mod QuietTicks
 pub mod SmallCores
 mod DeviceEvents
 mod AlarmsOfCourses
 mod CountedWindows
 mod CourseSteps
 mod FewWindows
+mod FirstRoundHearings
 mod FirstRoundLog
 mod FramesOfCourses
 mod HearingsInAir

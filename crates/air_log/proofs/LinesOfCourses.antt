@@ -1,11 +1,10 @@
 -- The script lines of a frame, told to a course one after another.
-use Rattle.std.proofs.Common.{◌≡◌, ℕ, suc, ◌+◌, ◌*◌, ◌<◌, ◌≤◌, List, [], ◌∷◌, ◌++◌, take, drop, length, filter, fold, Bool, true, false, ◌&&◌, ◌==◌, if◌then◌else◌, nat_lt, Some, None, refl, sym, ◌∙◌, ap, subst, arith, inl, inr, mul-le-mul_right, eq-eqb, eqb-true, take-append-drop}
-use Rattle.std.specs.Prelude.{slice_get, Contains}
+use Rattle.std.proofs.Common.{◌≡◌, ℕ, suc, ◌+◌, ◌*◌, ◌≤◌, List, [], ◌∷◌, ◌++◌, take, drop, filter, fold, Bool, true, false, ◌&&◌, ◌==◌, if◌then◌else◌, Some, refl, sym, ◌∙◌, ap, subst, arith, inl, inr, mul-le-mul_right, eq-eqb, eqb-true, take-append-drop}
+use Rattle.std.specs.Prelude.{slice_get}
 use Rattle.std.proofs.lemmas.Bool.{cases_order, and_parts}
 use Rattle.std.proofs.lemmas.Option.{slice_get_within, get_or_from_slice_get}
 use Rattle.std.proofs.lemmas.List.{drop_more}
 use Rattle.std.proofs.lemmas.List.Sums.{fold-append}
-use Rattle.std.proofs.lemmas.List.Elements.{All-contains}
 use Rattle.bus_rules.specs.Cores.{Setup}
 use Rattle.scenario_text.specs.ScenarioParts.{ScenarioParts}
 use Rattle.scenario_text.specs.ScenarioFacts.{IsSoundScenario, IsScriptLine, IsAct, turned, turned_by}
@@ -16,9 +15,9 @@ use Rattle.air_log.specs.ScriptedDevices.{after_line}
 use Rattle.air_log.specs.Trails.{frame_start, lines_at}
 use Rattle.air_log.specs.DeviceStates.{CanBoot}
 use Rattle.air_log.specs.Courses.{CourseState, Shows, IsShown, Goes, IsCut, frame_of}
-use Rattle.air_log.proofs.AlarmRows.{IsRoomy, roomy}
+use Rattle.air_log.proofs.AlarmRows.{roomy}
 use Rattle.air_log.proofs.KeptPower.{line_power, turned_more, few_before}
-use Rattle.air_log.proofs.CourseSteps.{shows_as, shown_still}
+use Rattle.air_log.proofs.CourseSteps.{shows_as}
 use Rattle.air_log.proofs.ListCuts.{IsGone, gone_first, gone_more, one_more, none_yet, none_left, filter_more}
 
 -- a tick at which a frame starts is that of one frame

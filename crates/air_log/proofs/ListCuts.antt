@@ -1,5 +1,5 @@
 -- A list by ascending keys, gone through from one key to the next.
-use Rattle.std.proofs.Common.{◌≡◌, ◌≢◌, ℕ, zero, suc, ◌+◌, ◌<◌, ◌≤◌, List, [], ◌∷◌, ◌++◌, take, drop, length, filter, get_or, Bool, true, false, cond, if◌then◌else◌, nat_lt, Option, Some, None, refl, sym, ap, ◌∙◌, arith, ltb-true, subst}
+use Rattle.std.proofs.Common.{◌≡◌, ◌≢◌, ℕ, zero, suc, ◌+◌, ◌<◌, ◌≤◌, List, [], ◌∷◌, ◌++◌, take, drop, length, filter, get_or, Bool, true, false, if◌then◌else◌, nat_lt, Option, Some, None, refl, sym, ap, ◌∙◌, arith, ltb-true}
 use Rattle.std.specs.Prelude.{slice_get, Contains}
 use Rattle.std.proofs.lemmas.Bool.{ltb-false}
 use Rattle.std.proofs.lemmas.List.{take-append-drop, append-nil, length-drop, get_or-drop, length-take, get_or-take}

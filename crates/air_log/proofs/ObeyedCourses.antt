@@ -6,11 +6,11 @@ use Rattle.std.proofs.lemmas.List.{append_assoc, append-nil}
 use Rattle.std.proofs.lemmas.List.Sums.{fold-append}
 use Rattle.std.proofs.lemmas.List.Elements.{All-head, All-tail}
 use Rattle.lwb_base.specs.declared.order.Order.{Order}
-use Rattle.bus_rules.specs.Cores.{Setup}
-use Rattle.air_log.specs.Devices.{Device, obeyed}
+use Rattle.air_log.specs.Devices.{obeyed}
 use Rattle.air_log.specs.DeviceStates.{IsTimely}
 use Rattle.air_log.specs.Courses.{CourseState, Goes}
 use Rattle.air_log.proofs.CourseSteps.{goes_as, goes_then}
+use Rattle.air_log.proofs.Elements.{first_of, none_in}
 
 -- of these orders a front has been obeyed, and the rest is left
 pub record AreObeyed (clock : ℕ → ℕ) (t : ℕ) (all rest : List Order) (old new : CourseState) : Type 0 where
@@ -18,14 +18,6 @@ pub record AreObeyed (clock : ℕ → ℕ) (t : ℕ) (all rest : List Order) (ol
   pub split : front ++ rest ≡ all
   pub timely : All IsTimely rest
   pub goes : Goes t (λ q d. fold (obeyed clock q.id t) d front) old new
-
-first_of : {X : Type 0} (xs : List X) (x : X) → slice_get xs 0 ≡ Some x → xs ≡ x ∷ drop 1 xs
-first_of [] x is = cc
-first_of (y ∷ xs) x is = let same : y ≡ x = cc in ap (λ (z : _). z ∷ xs) same
-
-none_in : {X : Type 0} (xs : List X) → slice_get xs 0 ≡ None → xs ≡ []
-none_in [] is = refl
-none_in (x ∷ xs) is = cc
 
 module _ (clock : ℕ → ℕ) (t : ℕ) (all : List Order) where
   pub none_obeyed : (c : CourseState) → All IsTimely all → AreObeyed clock t all all c c

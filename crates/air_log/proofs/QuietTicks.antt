@@ -7,15 +7,16 @@ use Rattle.air_log.specs.Devices.{Device, Ordered, silenced}
 use Rattle.air_log.specs.Trails.{Reception, setup_of, ending_at, ended_by, begun_by, alarms, is_due, before_start, begun, tick, before_tick, run_end, trail}
 use Rattle.air_log.specs.QuietTicks.{IsQuiet, ends_at, starts_at, ends_before}
 
-no_end : (clock : ℕ → ℕ) (s : Setup) (t : ℕ) (d : Device) (x : Option Sending) → ends_at t x ≡ false → ended_by clock s t d x ≡ d
+-- where nothing is due, a phase changes nothing
+pub no_end : (clock : ℕ → ℕ) (s : Setup) (t : ℕ) (d : Device) (x : Option Sending) → ends_at t x ≡ false → ended_by clock s t d x ≡ d
 no_end clock s t d None none = refl
 no_end clock s t d (Some x) none = rw none refl
 
-no_start : (s : Setup) (t : ℕ) (d : Device) (o : Option Ordered) → starts_at t o ≡ false → begun_by s t d o ≡ d
+pub no_start : (s : Setup) (t : ℕ) (d : Device) (o : Option Ordered) → starts_at t o ≡ false → begun_by s t d o ≡ d
 no_start s t d None none = refl
 no_start s t d (Some o) none = rw none refl
 
-no_alarm : (clock : ℕ → ℕ) (s : Setup) (t more : ℕ) (d : Device) (b : Bool) → b ≡ false → alarms clock s t b more d ≡ d
+pub no_alarm : (clock : ℕ → ℕ) (s : Setup) (t more : ℕ) (d : Device) (b : Bool) → b ≡ false → alarms clock s t b more d ≡ d
 unfolding alarms
 no_alarm clock s t more d b none = rw none refl
 

@@ -14,7 +14,7 @@ use Rattle.scenario_text.specs.declared.script.ScriptLine.{ScriptLine}
 use Rattle.bus_rules.specs.States.{refuses, queues}
 use Rattle.bus_rules.specs.Cores.{Setup}
 use Rattle.node_core.specs.Nodes.{rebooted}
-use Rattle.node_core.specs.Runs.{orders_by}
+use Rattle.node_core.specs.Rows.{orders_by}
 use Rattle.node_core.specs.Rows.{row}
 use Rattle.air_log.specs.Devices.{Device, Power, PowerOff, PowerOn, Listening, Ordered, obeyed, silenced, tunes, listens_to, moved, event, event_by}
 use Rattle.air_log.specs.ScriptedDevices.{after_act, after_line, dropped, with_new_core}

@@ -1,11 +1,9 @@
 -- The frames of a run, one after another, and what is told at their end.
-use Rattle.std.proofs.Common.{◌≡◌, ℕ, zero, suc, ◌+◌, ◌*◌, ◌%◌, ◌^◌, ◌<◌, ◌≤◌, List, [], ◌∷◌, ◌++◌, map, take, drop, fold, Bool, true, false, cond, if◌then◌else◌, nat_lt, Option, Some, None, sum_by, count_by, refl, sym, ◌∙◌, ap, subst, arith, lt-ltb, mul-le-mul_right, mul-le-mul_left, take-append-drop}
+use Rattle.std.proofs.Common.{◌≡◌, ℕ, zero, suc, ◌+◌, ◌%◌, ◌^◌, ◌<◌, ◌≤◌, List, [], ◌∷◌, ◌++◌, map, take, drop, fold, Bool, true, false, cond, nat_lt, Option, None, sum_by, count_by, refl, sym, ◌∙◌, ap, subst, arith, lt-ltb, take-append-drop}
 use Rattle.std.specs.List.{range_with_len}
-use Rattle.std.proofs.Math.Nat.{mod-eq_of_lt}
 use Rattle.std.proofs.lemmas.Bool.{cond-true}
 use Rattle.std.proofs.lemmas.List.{map-append}
 use Rattle.std.proofs.lemmas.List.Sums.{sum_by-cons, sum_by-append}
-use Rattle.lwb_base.specs.Profile.{Numbers}
 use Rattle.tick_clock.specs.Clocks.{IsClock}
 use Rattle.bus_rules.specs.Cores.{Setup}
 use Rattle.bus_rules.specs.declared.tune.Tune.{Tune}
@@ -15,12 +13,10 @@ use Rattle.scenario_text.specs.ScenarioParts.{ScenarioParts}
 use Rattle.scenario_text.specs.ScenarioFacts.{IsSoundScenario, turned}
 use Rattle.air_log.specs.declared.entry.HeardEntry.{HeardEntry}
 use Rattle.air_log.specs.Charges.{windows_charge, scanned_frames, scans_with}
-use Rattle.air_log.specs.Devices.{Device, Power, PowerOff, PowerOn, seen_power, silenced}
+use Rattle.air_log.specs.Devices.{Device, seen_power, silenced}
 use Rattle.air_log.specs.ScriptedDevices.{after_line}
 use Rattle.air_log.specs.Trails.{Reception, setup_of, run_end, frame_start, lines_at, at_frame, before_tick, trail, tune_of, tune_at}
 use Rattle.air_log.specs.TrailsTold.{TrailTold, trail_told}
-use Rattle.air_log.specs.WindowLogs.{WindowLog}
-use Rattle.air_log.specs.WindowSums.{WindowSum, charge_by, AreSmall, IsCounted}
 use Rattle.air_log.specs.Courses.{CourseState, Shows, Tells, Goes, IsCut, frame_of, end_of, reception_in}
 use Rattle.air_log.proofs.KeptPower.{boots_up, turned_over}
 use Rattle.air_log.proofs.ChargedWindows.{charge_is}

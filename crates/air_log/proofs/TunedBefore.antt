@@ -1,8 +1,8 @@
 -- What a device was tuned to before a tick, and that what happens to it at the tick does not change it.
-use Rattle.std.proofs.Common.{◌≡◌, ℕ, zero, suc, ◌+◌, ◌<◌, ◌≤◌, ◌↔◌, ◌⊎◌, inl, inr, List, [], ◌∷◌, ◌==◌, ◌&&◌, nat_lt, filter, fold, Some, None, Option, refl, sym, ◌∙◌, ap, subst, arith, Contains, IfSome, ltb-true}
+use Rattle.std.proofs.Common.{◌≡◌, ℕ, zero, suc, ◌+◌, ◌<◌, ◌≤◌, ◌↔◌, ◌⊎◌, inl, inr, List, [], ◌∷◌, ◌==◌, ◌&&◌, nat_lt, fold, Some, None, Option, refl, sym, ◌∙◌, ap, subst, arith, Contains, IfSome, ltb-true}
 use Rattle.std.proofs.lemmas.Bool.{cond_both, and_parts, eqb-true, ltb-false}
 use Rattle.lwb_base.specs.declared.event.Event.{Event}
-use Rattle.lwb_base.specs.declared.event.Event.TheVariants.{Boot, Sent, Heard}
+use Rattle.lwb_base.specs.declared.event.Event.TheVariants.{Boot}
 use Rattle.lwb_base.specs.declared.order.Order.{Order}
 use Rattle.lwb_base.specs.declared.order.Order.TheVariants.{Listen, Off, SendAt, Alarm}
 use Rattle.radio_model.specs.declared.sending.Sending.{Sending}
@@ -17,8 +17,8 @@ use Rattle.bus_rules.specs.Cores.{Setup}
 use Rattle.node_core.specs.Nodes.{rebooted}
 use Rattle.air_log.specs.Devices.{Device, Power, PowerOff, PowerOn, Listening, Ordered, obeyed, silenced, tunes, with_tuning, listens_to, event}
 use Rattle.air_log.specs.ScriptedDevices.{after_act, after_line, dropped, with_new_core}
-use Rattle.air_log.specs.Trails.{Reception, setup_of, frame_start, begun, begun_by, starts, alarmed, before_tick, before_start}
-use Rattle.air_log.proofs.KeptByEvents.{IsKept, in_hearings, in_end, in_event, in_alarms, in_tick}
+use Rattle.air_log.specs.Trails.{Reception, setup_of, begun, begun_by, starts, alarmed, before_tick, before_start}
+use Rattle.air_log.proofs.KeptByEvents.{IsKept, in_event, in_alarms, in_tick}
 use Rattle.air_log.specs.TunedTimes.{IsIn, listened}
 
 -- by these tunings that ended and the present one

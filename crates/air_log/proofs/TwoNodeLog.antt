@@ -21,7 +21,7 @@ use Rattle.air_log.specs.HearsAir.{scene_of}
 use Rattle.air_log.specs.NodeEvents.{Event, Heard, Ended, sending_of, InOrder, after, Occasion}
 use Rattle.air_log.specs.FloodLaw.{FloodLaw, AreEventsOf, IsRelay, Lasts, START, first_packet, first_flood, tuning_by, sending_at}
 use Rattle.air_log.specs.TwoNodeLog.{two_nodes, true_time, packet_with, two_node_log}
-use Rattle.air_log.proofs.Elements.{not_in_none, contains_head, contains_tail, contains_cases}
+use Rattle.air_log.proofs.Elements.{not_in_none, contains_head, contains_tail, contains_cases, one_of, one_of_two}
 
 true_clock : IsClock (λ t. t)
 true_clock = record { begins = omega arith; fast = λ t d within. omega arith; slow = λ t d within. omega arith }
@@ -82,12 +82,6 @@ events v = if v == 1 then Ended first_sending ∷ [] else (if v == 2 then Heard 
 
 abbrev scene : Scene
 scene = scene_of one two_nodes.trace two_node_log
-
-one_of : {X : Type 0} (x y : X) → Contains (x ∷ []) y → x ≡ y
-one_of x y there = elim (contains_cases x [] y there) [ inl is ↦ is | inr none ↦ absurd (not_in_none y none) ]
-
-one_of_two : {X : Type 0} (x y z : X) → Contains (x ∷ y ∷ []) z → (x ≡ z) ⊎ (y ≡ z)
-one_of_two x y z there = elim (contains_cases x (y ∷ []) z there) [ inl is ↦ inl is | inr later ↦ inr (one_of y z later) ]
 
 node_cases : (v : ℕ) → knows two_nodes.nodes v ≡ true → (1 ≡ v) ⊎ (2 ≡ v)
 node_cases v here =

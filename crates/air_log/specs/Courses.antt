@@ -1,5 +1,5 @@
 -- A trail as code goes through it: the device, and what it has made so far.
-use Rattle.std.specs.Prelude.{◌≡◌, ℕ, ◌+◌, ◌<◌, ◌≤◌, List, Some, None, slice_get, AllPairs, ◌==◌, if◌then◌else◌, min}
+use Rattle.std.specs.Prelude.{◌≡◌, ℕ, ◌<◌, ◌≤◌, List, Some, None, slice_get, AllPairs, ◌==◌, if◌then◌else◌, min}
 use Rattle.std.specs.declared.option.Option.{Option}
 use Rattle.radio_model.specs.declared.sending.Sending.{Sending}
 use Rattle.std.specs.Option.{option_map}

@@ -13,7 +13,7 @@ use Rattle.bus_rules.specs.Cores.{Setup}
 use Rattle.bus_rules.specs.States.{State, StateOff, StateOn}
 use Rattle.node_core.specs.Nodes.{Node}
 use Rattle.node_core.specs.Rows.{Stepped, row}
-use Rattle.node_core.specs.Runs.{node_after, orders_by}
+use Rattle.node_core.specs.Rows.{node_after, orders_by}
 use Rattle.air_log.specs.WindowLogs.{WindowLog, windows_after}
 
 -- off after so many boots, or on

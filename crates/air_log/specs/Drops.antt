@@ -14,14 +14,14 @@ use Rattle.air_log.specs.Trails.{setup_of, frame_start, before_tick}
 use Rattle.air_log.specs.Lawful.{heard_by}
 
 -- the lines above that the node of this line is told at the same tick
-abbrev pub told_before : ScenarioParts → List ScriptLine → ScriptLine → List ScriptLine
-told_before s above l = filter (λ m. (m.node == l.node) && (frame_start s m.frame == frame_start s l.frame)) above
+abbrev pub told_at_tick : ScenarioParts → List ScriptLine → ScriptLine → List ScriptLine
+told_at_tick s above l = filter (λ m. (m.node == l.node) && (frame_start s m.frame == frame_start s l.frame)) above
 
 -- the node of a line by its trail, just before the line: as it comes to the start of the frame, and then told the lines above
 abbrev pub before_line : ScenarioParts → (ℕ → ℕ → ℕ) → List Entry → List ScriptLine → ScriptLine → Device
 before_line s clocks air above l =
     let t = frame_start s l.frame in
-    fold (after_line (clocks l.node) (setup_of s l.node) t) (before_tick s l.node (clocks l.node) (heard_by air l.node) t) (told_before s above l)
+    fold (after_line (clocks l.node) (setup_of s l.node) t) (before_tick s l.node (clocks l.node) (heard_by air l.node) t) (told_at_tick s above l)
 
 -- a put is lost where the node is off or its stream refuses it
 abbrev pub drop_by : ScriptLine → Act → Power → Option DropLine

@@ -2,8 +2,8 @@
 -- Entries that this order leaves equal stay in the air's order.
 use Rattle.std.specs.Prelude.{ℕ, List, [], ◌∷◌, ◌++◌, Bool, if◌then◌else◌, codes, flat_map}
 use Rattle.std.specs.Ordering.{nat_cmp, ordering_then, is_lt}
-use Rattle.scenario_text.specs.Canonical.{line_text, numbered}
-use Rattle.scenario_text.specs.Payloads.{hex_digits}
+use Rattle.text_writers.specs.Lines.{line_text, numbered}
+use Rattle.text_writers.specs.HexWords.{hex_word}
 use Rattle.air_log.specs.Entries.{node_of}
 use Rattle.air_log.specs.declared.entry.Entry.{Entry}
 use Rattle.air_log.specs.declared.entry.Entry.TheVariants.{Sent, Heard, Tuned}
@@ -34,9 +34,6 @@ placed before x (y ∷ ys) = if before y x then y ∷ placed before x ys else x 
 abbrev pub in_order : {X : Type 0} → (X → X → Bool) → List X → List X
 in_order before [] = []
 in_order before (x ∷ xs) = placed before x (in_order before xs)
-
-abbrev pub hex_word : List ℕ → List ℕ
-hex_word bytes = flat_map hex_digits bytes
 
 abbrev pub sent_line : SentEntry → List ℕ
 sent_line x = line_text (numbered (codes "sent") (x.rank ∷ x.node ∷ x.start ∷ x.end ∷ []) ++ hex_word x.packet ∷ [])

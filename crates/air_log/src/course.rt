@@ -79,9 +79,9 @@ impl Course {
         let sent = sent_with(&event, ended);
         let before = self.device.is_in_window();
         let mut radio = RecordingRadio::new();
-        self.device.react(clock, t, event, &mut radio);
+        self.device.react(clock, t, &event, &mut radio);
         let after = self.device.is_in_window();
-        self.windows.note(before, after, by_alarm, sent);
+        self.windows.note(before, after, by_alarm, sent.as_ref());
         let delivery = self.device.delivered();
         self.log_delivery(delivery)?;
         self.obey_all(clock, t, radio)
@@ -120,7 +120,7 @@ impl Course {
                 self.log_tuning(closed)
             }
             Order::SendAt(local, packet) => {
-                let _ = self.device.order_sending(clock, t, local, packet);
+                let _ = self.device.order_sending(clock, t, local, &packet);
                 Ok(())
             }
             Order::Alarm(local) => {

@@ -184,14 +184,17 @@ impl Device {
         clock: &C,
         t: u64,
         local: u64,
-        packet: Packet,
+        packet: &Packet,
     ) -> u64
         requires timely { local < 2 ^ 47 }
         ensures tick { result ≡ max (due (C.readings clock.now) local) t }
-        ensures after { self.new ≡ record self.old { ordered = Some (record { tick = result; packet = packet }) } }
+        ensures after { self.new ≡ record self.old { ordered = Some (record { tick = result; packet = packet.now }) } }
     {
         let tick = clock.due(local).max(t);
-        self.ordered = Some(Ordered { tick, packet });
+        self.ordered = Some(Ordered {
+            tick,
+            packet: packet.copy(),
+        });
         tick
     }
 

@@ -2,7 +2,7 @@
 
 ghost use Rattle.std.specs.Prelude.{◌≡◌, ◌≤◌, ◌^◌, ℕ, Some, None, is_some, Option, All, if◌then◌else◌, fold};
 ghost use Rattle.radio_model.specs.declared.sending.Sending.{Sending};
-ghost use Rattle.node_core.specs.Runs.{orders_by};
+ghost use Rattle.node_core.specs.Rows.{orders_by};
 ghost use Rattle.lwb_base.specs.Orders.{Gives};
 ghost use Rattle.air_log.specs.Devices.{Made, obeyed, event as event_at};
 ghost use Rattle.air_log.specs.Trails.{is_due, begun, ended};
@@ -16,17 +16,23 @@ use tick_clock::{At, DriftClock};
 
 impl Device {
     /// An event at tick t; its orders go to a radio that has room for 4. At a node that is off it has no effect.
-    pub fn react<C: DriftClock, R: Radio>(&mut self, clock: &C, t: u64, event: Event, radio: &mut R)
+    pub fn react<C: DriftClock, R: Radio>(
+        &mut self,
+        clock: &C,
+        t: u64,
+        event: &Event,
+        radio: &mut R,
+    )
         requires early { t ≤ 2 ^ 45 }
         requires room { 4 ≤ (R.told radio.old).room }
-        ensures after { self.new ≡ after_row self.old (row_of (C.readings clock.now) t event self.old) }
-        ensures orders { Gives (R.told radio.old) (R.told radio.new) (orders_by (row_of (C.readings clock.now) t event self.old)) }
-        ensures timely { All IsTimely (orders_by (row_of (C.readings clock.now) t event self.old)) }
-        ensures whole { (made : Made) (ended : Option Sending) → event_at (C.readings clock.now) self.old.setup t event ended (whole self.old made) ≡ fold (obeyed (C.readings clock.now) self.old.setup.id t) (whole self.new (made_by t event ended self.old.power (row_of (C.readings clock.now) t event self.old) made)) (orders_by (row_of (C.readings clock.now) t event self.old)) }
+        ensures after { self.new ≡ after_row self.old (row_of (C.readings clock.now) t event.now self.old) }
+        ensures orders { Gives (R.told radio.old) (R.told radio.new) (orders_by (row_of (C.readings clock.now) t event.now self.old)) }
+        ensures timely { All IsTimely (orders_by (row_of (C.readings clock.now) t event.now self.old)) }
+        ensures whole { (made : Made) (ended : Option Sending) → event_at (C.readings clock.now) self.old.setup t event.now ended (whole self.old made) ≡ fold (obeyed (C.readings clock.now) self.old.setup.id t) (whole self.new (made_by t event.now ended self.old.power (row_of (C.readings clock.now) t event.now self.old) made)) (orders_by (row_of (C.readings clock.now) t event.now self.old)) }
         ensures time { (now : ℕ) → HappenedBy now self.old → HappenedBy now self.new }
     {
         if self.on {
-            self.core.step(&At::new(clock, t), radio, event);
+            self.core.handle(&At::new(clock, t), radio, event);
         }
     }
 
@@ -97,12 +103,9 @@ impl Device {
         ensures after { self.new ≡ record self.old { sending = if is_some result then None else self.old.sending } }
         ensures whole { (clock : ℕ → ℕ) (made : Made) → ended clock self.old.setup t (whole self.old made) ≡ told_of clock self.old.setup t result (whole self.new made) }
     {
-        let sending = self.sending.take()?;
-        if sending.end == t {
-            Some(sending)
-        } else {
-            self.sending = Some(sending);
-            None
+        match &self.sending {
+            Some(x) if x.end == t => self.sending.take(),
+            Some(_) | None => None,
         }
     }
 }

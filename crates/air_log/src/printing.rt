@@ -6,6 +6,7 @@ use crate::line_writers::write_entry;
 use crate::{Air, Entry};
 use lwb_base::Memory;
 use std::alloc::{AllocError, Global};
+use text_writers::write_lines;
 
 /// The log text: one line for each entry, by start, then kind in the order sent, heard, tuned, then node. Entries that
 /// this order leaves equal stay in the air's order.
@@ -29,10 +30,7 @@ pub fn write_text(alloc: Global, text: &mut String, a: &Air) -> Result<(), Memor
 fn write_entries(text: &mut String, entries: &[&Entry]) -> Result<(), AllocError>
     ensures { OnOk result (string_bytes text.new ≡ string_bytes text.old ++ flat_map entry_line (map (λ e. e.now) entries.now)) }
 {
-    for entry in entries {
-        write_entry(text, entry)?;
-    }
-    Ok(())
+    write_lines(text, entries, |text, entry| write_entry(text, entry))
 }
 
 // References are sorted, so that no entry is copied, and each entry is read once for its place.

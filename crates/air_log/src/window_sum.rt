@@ -1,6 +1,6 @@
 //! What the windows of a node count so far.
 
-ghost use Rattle.std.specs.Prelude.{◌≡◌, ◌≤◌, ◌+◌, ◌%◌, ◌^◌, None, false};
+ghost use Rattle.std.specs.Prelude.{◌≡◌, ◌≤◌, ◌+◌, ◌%◌, ◌^◌, None, false, option_copied};
 ghost use Rattle.lwb_base.specs.Profile.{IsProfile};
 ghost use Rattle.air_log.specs.Charges.{counted};
 ghost use Rattle.air_log.specs.WindowSums.{opened_sum, sent_sum, noted};
@@ -47,8 +47,8 @@ impl WindowSum {
     }
 
     /// After an event that found a window open or not, and left one open or not. With it the sending of this packet ended.
-    pub fn note(&mut self, before: bool, after: bool, by_alarm: bool, sent: Option<Packet>)
-        ensures after { self.new ≡ noted before after by_alarm sent self.old }
+    pub fn note(&mut self, before: bool, after: bool, by_alarm: bool, sent: Option<&Packet>)
+        ensures after { self.new ≡ noted before after by_alarm (option_copied sent.entry) self.old }
         ensures small { self.new.last ≤ 2 ^ 28 }
     {
         let total = self.earlier.wrapping_add(self.last);
@@ -59,7 +59,7 @@ impl WindowSum {
             self.open(total, by_alarm);
         }
         if let Some(packet) = sent {
-            self.send(&packet);
+            self.send(packet);
         }
     }
 

@@ -22,7 +22,8 @@ abbrev Awake : ℕ → Phase → Device → Type 0
 Awake t phase d = IsAwake d
 
 -- a row that leaves the node at a place, and an alarm set
-left_awake : {d e : Device} {n : Node} {channel alarm : Option ℕ} {ordered : Option Ordered} → Leaves d n channel alarm ordered e → IsPlaced n.stage → is_some alarm ≡ true → IsAwake e
+left_awake : {d e : Device} {n : Node} {channel alarm : Option ℕ} {ordered : Option Ordered} → Leaves d n channel alarm ordered e → IsPlaced n.stage
+    → is_some alarm ≡ true → IsAwake e
 left_awake {e = e} leaves placed set = subst (AwakeBy e) (sym leaves.power) (placed, ap (λ (a : Option ℕ). is_some a) leaves.alarm_is ∙ set)
 
 placed_for : (tune : Tune) (f : ℕ) → IsPlaced (stage_for tune f)
@@ -53,14 +54,16 @@ module _ (s : ScenarioParts) (v : ℕ) (clock : ℕ → ℕ) (hs : List Receptio
     loss = λ d l i payload here next act lost. here.holds;
     joining = λ d h n y here next on stage says rank. left_awake (joining_leaves clock node t d n h.packet y) tt refl;
     hearing = λ d h n j w here next on stage. left_awake (hearing_leaves clock node t d n j w h.packet) tt (same_place d n here.holds on).1;
-    sent = λ d x n j w here is own ends on stage waits. left_awake (sent_leaves clock node t (record d { sending = None }) x n j w) tt (same_place d n here.holds on).1;
+    sent = λ d x n j w here is own ends on stage waits. left_awake (sent_leaves clock node t (record d { sending = None }) x n j w) tt
+        (same_place d n here.holds on).1;
     late_sent = λ d x n j w here is own ends on stage idle. same_place d n here.holds on;
     sent_elsewhere = λ d x here is own ends none. here.holds;
     frame_alarm = λ d n here next on stage.
         left_awake (frame_alarm_leaves clock node t (taken d) n) (placed_for (frame_ended node n.frame n.core).tune (stopped_frame (n.frame + 1))) refl;
     opening = λ d n j here next on stage. left_awake (opening_leaves clock node t (taken d) n j) tt refl;
     closing = λ d n j w here next on stage.
-        left_awake (closing_leaves clock node t (taken d) n j w) (cond_both (nat_lt j w.last) (AwaitSlot (j + 1)) AwaitFrame IsPlaced (λ more. tt) (λ over. tt)) refl;
+        left_awake (closing_leaves clock node t (taken d) n j w)
+        (cond_both (nat_lt j w.last) (AwaitSlot (j + 1)) AwaitFrame IsPlaced (λ more. tt) (λ over. tt)) refl;
     alarm_elsewhere = λ d n here next on stage. absurd (never_idle d n here.holds on stage);
     beginning = λ d o l here is order due on own. here.holds;
     missed_start = λ d o here is order due cannot. here.holds;

@@ -1,5 +1,6 @@
 -- How often a node has booted by a tick: as often as the lines of the frames that began before it say.
-use Rattle.std.proofs.Common.{◌≡◌, ℕ, suc, ◌≤◌, List, [], ◌∷◌, ◌++◌, filter, fold, Bool, true, false, ◌&&◌, ◌==◌, nat_lt, if◌then◌else◌, Some, None, Option, inl, inr, refl, sym, ◌∙◌, ap, subst, arith, eq-eqb, mul-le-mul_right}
+use Rattle.std.proofs.Common.{◌≡◌, ℕ, suc, ◌≤◌, List, [], ◌∷◌, ◌++◌, filter, fold, Bool, true, false, ◌&&◌, ◌==◌, nat_lt, if◌then◌else◌, Some, None, Option}
+use Rattle.std.proofs.Common.{inl, inr, refl, sym, ◌∙◌, ap, subst, arith, eq-eqb, mul-le-mul_right}
 use Rattle.std.specs.Prelude.{AllPairs}
 use Rattle.std.specs.List.{AllByRecursion}
 use Rattle.std.proofs.lemmas.Bool.{cond_both, and_parts, ne_eqb, lt-ltb, le-ltb, ltb-false, cases_order}
@@ -61,7 +62,8 @@ module _ (s : ScenarioParts) where
             let before : earlier s t (l ∷ ls) ≡ [] = rw (le-ltb k t (omega (arith, same))) none in
             let now : at_tick s t (l ∷ ls) ≡ l ∷ at_tick s t ls = rw (eq-eqb k t same) refl in
             let both : earlier s (suc t) (l ∷ ls) ≡ l ∷ earlier s (suc t) ls = rw (lt-ltb k (suc t) (omega (arith, same))) refl in
-            both ∙ ap (λ (xs : List ScriptLine). l ∷ xs) (rest ∙ ap (λ (xs : List ScriptLine). xs ++ at_tick s t ls) none) ∙ sym (ap (λ (xs : List ScriptLine). xs ++ at_tick s t (l ∷ ls)) before ∙ now)
+            both ∙ ap (λ (xs : List ScriptLine). l ∷ xs) (rest ∙ ap (λ (xs : List ScriptLine). xs ++ at_tick s t ls) none)
+            ∙ sym (ap (λ (xs : List ScriptLine). xs ++ at_tick s t (l ∷ ls)) before ∙ now)
             )
         | inr other ↦
             elim other [
@@ -69,7 +71,8 @@ module _ (s : ScenarioParts) where
                   let before : earlier s t (l ∷ ls) ≡ l ∷ earlier s t ls = rw (lt-ltb k t less) refl in
                   let now : at_tick s t (l ∷ ls) ≡ at_tick s t ls = rw (ne_eqb k t (omega (arith, less))) refl in
                   let both : earlier s (suc t) (l ∷ ls) ≡ l ∷ earlier s (suc t) ls = rw (lt-ltb k (suc t) (omega (arith, less))) refl in
-                  both ∙ ap (λ (xs : List ScriptLine). l ∷ xs) rest ∙ sym (ap (λ (xs : List ScriptLine). xs ++ at_tick s t (l ∷ ls)) before ∙ ap (λ (xs : List ScriptLine). l ∷ (earlier s t ls ++ xs)) now)
+                  both ∙ ap (λ (xs : List ScriptLine). l ∷ xs) rest
+                  ∙ sym (ap (λ (xs : List ScriptLine). xs ++ at_tick s t (l ∷ ls)) before ∙ ap (λ (xs : List ScriptLine). l ∷ (earlier s t ls ++ xs)) now)
                   )
               | inr more ↦ (
                   let before : earlier s t (l ∷ ls) ≡ earlier s t ls = rw (le-ltb k t (omega (arith, more))) refl in
@@ -83,7 +86,8 @@ module _ (s : ScenarioParts) where
   -- no more than in the whole script
   few_earlier : (v t low : ℕ) (b : Boots) (ls : List ScriptLine) → Rises low ls → (turned v b (earlier s t ls)).1 ≤ (turned v b ls).1
   few_earlier v t low b [] up = omega arith
-  few_earlier v t low b (l ∷ ls) up = by_test (few_earlier v t (starts_at s l) (if l.node == v then turned_by l.act b else b) ls up.1) (nat_lt (starts_at s l) t) refl
+  few_earlier v t low b (l ∷ ls) up = by_test (few_earlier v t (starts_at s l) (if l.node == v then turned_by l.act b else b) ls up.1)
+      (nat_lt (starts_at s l) t) refl
     where
       by_test : (turned v (if l.node == v then turned_by l.act b else b) (earlier s t ls)).1 ≤ (turned v b (l ∷ ls)).1 → (x : Bool)
           → nat_lt (starts_at s l) t ≡ x
@@ -101,7 +105,8 @@ module _ (s : ScenarioParts) where
     where
       by_tests : (own now : Bool) → (l.node == v) ≡ own
           → ((c : Boots) → turned v c (filter (λ (x : ScriptLine). (x.node == v) && (starts_at s x == t)) ls) ≡ turned v c (at_tick s t ls))
-          → turned v b (if own && now then l ∷ filter (λ (x : ScriptLine). (x.node == v) && (starts_at s x == t)) ls else filter (λ (x : ScriptLine). (x.node == v) && (starts_at s x == t)) ls)
+          → turned v b (if own && now then l ∷ filter (λ (x : ScriptLine). (x.node == v) && (starts_at s x == t)) ls else filter
+          (λ (x : ScriptLine). (x.node == v) && (starts_at s x == t)) ls)
           ≡ turned v b (if now then l ∷ at_tick s t ls else at_tick s t ls)
       by_tests true true is rest = rest (if l.node == v then turned_by l.act b else b)
       by_tests true false is rest = rest b
@@ -115,7 +120,8 @@ module _ (clock : ℕ → ℕ) (s : Setup) (t : ℕ) where
   lines_power [] d own = refl
   lines_power (l ∷ ls) d own =
       lines_power ls (after_line clock s t d l) own.1
-      ∙ ap (λ (b : Boots). turned s.id b ls) (line_power clock s t d l ∙ ap (λ (x : Bool). if x then turned_by l.act (seen_power d.power) else seen_power d.power) (sym own.0))
+      ∙ ap (λ (b : Boots). turned s.id b ls)
+      (line_power clock s t d l ∙ ap (λ (x : Bool). if x then turned_by l.act (seen_power d.power) else seen_power d.power) (sym own.0))
 
   hearings_power : (hs : List Reception) (d : Device) → seen_power (fold (hears clock s t) d hs).power ≡ seen_power d.power
   hearings_power [] d = refl
@@ -138,7 +144,8 @@ module _ (s : ScenarioParts) (sound : IsSoundScenario s) (v : ℕ) where
 
   own_at : (t : ℕ) (ls : List ScriptLine)
       → AllByRecursion (λ (l : ScriptLine). (l.node == v) ≡ true) (filter (λ (l : ScriptLine). (l.node == v) && (starts_at s l == t)) ls)
-  own_at t ls = kept_all (λ (l : ScriptLine). Unit {0}) (λ (l : ScriptLine). (l.node == v) ≡ true) (λ (l : ScriptLine). (l.node == v) && (starts_at s l == t)) ls (λ l any both. (and_parts (l.node == v) (starts_at s l == t) both).0) (anything ls)
+  own_at t ls = kept_all (λ (l : ScriptLine). Unit {0}) (λ (l : ScriptLine). (l.node == v) ≡ true)
+      (λ (l : ScriptLine). (l.node == v) && (starts_at s l == t)) ls (λ l any both. (and_parts (l.node == v) (starts_at s l == t) both).0) (anything ls)
     where
       anything : (xs : List ScriptLine) → AllByRecursion (λ (l : ScriptLine). Unit {0}) xs
       anything [] = tt
@@ -163,6 +170,7 @@ module _ (s : ScenarioParts) (sound : IsSoundScenario s) (v : ℕ) where
       let first = scripted s v clock t d in
       let second = heard clock x t hs first in
       let third = ended clock x t second in
-      begun_power clock x t (alarmed clock x t third) ∙ alarmed_power clock x t third ∙ end_power clock x t second second.sending ∙ hearings_power clock x t (ending_at t hs) first
+      begun_power clock x t (alarmed clock x t third) ∙ alarmed_power clock x t third ∙ end_power clock x t second second.sending
+      ∙ hearings_power clock x t (ending_at t hs) first
       ∙ lines_power clock x t (lines_at s v t) d (own_at t s.script)
       ∙ next t d is

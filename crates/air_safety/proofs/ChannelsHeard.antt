@@ -20,7 +20,7 @@ use Rattle.node_core.specs.declared.stage.Stage.{Stage}
 use Rattle.node_core.specs.declared.stage.Stage.TheVariants.{Idle, Scanning, AwaitFrame, AwaitSlot, InWindow}
 use Rattle.node_core.specs.Nodes.{Node, closes_at, zero_from}
 use Rattle.node_core.specs.Rows.{Stepped, row, at_heard, scanner_hears, joins, relaying, reply_by}
-use Rattle.node_core.specs.Runs.{orders_by}
+use Rattle.node_core.specs.Rows.{orders_by}
 use Rattle.air_log.specs.declared.entry.Entry.{Entry}
 use Rattle.air_log.specs.HearsAir.{scene_of}
 use Rattle.air_log.specs.Devices.{Device, Listening, Power, PowerOff, PowerOn, moved, event_by}
@@ -85,7 +85,8 @@ pub heard_on : (s : ScenarioParts) (clocks : ℕ → ℕ → ℕ) (air : List En
     → (rank k : ℕ) → suc k ≡ t → IsTuned (scene_of s.profile s.trace air) v rank k → channel_of d.listening ≡ Some rank
 heard_on s clocks air follows v t h d next none rank k before tuned =
     let b = device_in s clocks air v t in
-    let on : ListensSince rank k b = subst (λ (i : ℕ). ListensSince rank k (device_in s clocks air v i)) before (tuned_listens s clocks air follows v rank k tuned) in
+    let on : ListensSince rank k b = subst (λ (i : ℕ). ListensSince rank k (device_in s clocks air v i)) before
+    (tuned_listens s clocks air follows v rank k tuned) in
     channel_kept s v (clocks v) (heard_by air v) t h d next
     ∙ ap (λ ls. channel_of (fold (after_line (clocks v) (setup_of s v) t) b ls).listening) none
     ∙ ap (λ (l : Option Listening). channel_of l) on.is

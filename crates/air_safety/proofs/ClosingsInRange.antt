@@ -1,5 +1,6 @@
 -- What the closing of a window leaves, where the round goes on.
-use Rattle.std.proofs.Common.{◌≡◌, ℕ, ◌+◌, ◌<◌, ◌≤◌, List, Bool, true, false, ◌==◌, if◌then◌else◌, Some, None, Option, IfSome, option_map, option_and_then, inl, inr, refl, sym, ◌∙◌, ap, arith}
+use Rattle.std.proofs.Common.{◌≡◌, ℕ, ◌+◌, ◌<◌, ◌≤◌, List, Bool, true, false, ◌==◌, if◌then◌else◌, Some, None, Option, IfSome, option_map, option_and_then, inl}
+use Rattle.std.proofs.Common.{inr, refl, sym, ◌∙◌, ap, arith}
 use Rattle.std.proofs.lemmas.Bool.{cond_both}
 use Rattle.lwb_base.specs.Messages.{Plan}
 use Rattle.glossy_relay.specs.Relaying.{is_spelling, counter_of}
@@ -44,7 +45,8 @@ module _ (s : Setup) (f : ℕ) (c : Core) where
 
   closed_own : (part : Part) (begun : Bool) (o : Option Message) → IsOwn f c → IsOwn f (closed s f part begun c o).core
   closed_own part begun None own = heard_own part begun own
-  closed_own part begun (Some (ScheduleOf x)) own = cond_both (x.gap == 0) (opening_accepted s.id f x c) (closing_accepted s.id f x c) (IsOwn f) (λ opens. own) (λ closes host. absurd (cc))
+  closed_own part begun (Some (ScheduleOf x)) own =
+      cond_both (x.gap == 0) (opening_accepted s.id f x c) (closing_accepted s.id f x c) (IsOwn f) (λ opens. own) (λ closes host. absurd (cc))
   closed_own part begun (Some (DataOf d)) own = heard_own part true own
   closed_own part begun (Some (RequestOf a)) own = own
 
@@ -63,14 +65,16 @@ module _ (s : Setup) (f : ℕ) (c : Core) where
 
   -- where the round goes on
   pub goes_on_is : (j : ℕ) (w : Window) → IsOpen s f c j w → j < w.last
-      → (j + 1 ≤ last_slot (closed s f w.part w.flood.initiated c (accepted_in w)).core.plan) × IsOwn f (closed s f w.part w.flood.initiated c (accepted_in w)).core
+      → (j + 1 ≤ last_slot (closed s f w.part w.flood.initiated c (accepted_in w)).core.plan)
+      × IsOwn f (closed s f w.part w.flood.initiated c (accepted_in w)).core
   goes_on_is j w is less =
       let after = (closed s f w.part w.flood.initiated c (accepted_in w)).core in
       let within : j + 1 ≤ last_slot after.plan =
       elim (is.next less) [
         | inl first ↦ omega (arith, first)
         | inr plain ↦ (
-            let same : after.plan ≡ c.plan = closed_plan w.part w.flood.initiated (accepted_in w) (other_first j w w.flood.initiated w.flood.first plain.0 is.flood.first) in
+            let same : after.plan ≡ c.plan = closed_plan w.part w.flood.initiated (accepted_in w)
+            (other_first j w w.flood.initiated w.flood.first plain.0 is.flood.first) in
             let last : last_slot after.plan ≡ last_slot c.plan = ap (λ (p : Plan). last_slot p) same in
             omega (arith, last, plain.1)
             )

@@ -1,5 +1,6 @@
 -- What a node keeps stays in its ranges through boots, ends of frames, openings and closings of windows.
-use Rattle.std.proofs.Common.{◌≡◌, ℕ, ◌+◌, ◌%◌, ◌<◌, ◌≤◌, List, [], ◌∷◌, ◌++◌, length, Bool, true, false, ◌&&◌, ◌==◌, nat_lt, if◌then◌else◌, Some, None, Option, IfSome, refl, sym, ◌∙◌, ap, subst, arith, mod-lt}
+use Rattle.std.proofs.Common.{◌≡◌, ℕ, ◌+◌, ◌%◌, ◌<◌, ◌≤◌, List, [], ◌∷◌, ◌++◌, length, Bool, true, false, ◌&&◌, ◌==◌, nat_lt, if◌then◌else◌, Some, None, Option}
+use Rattle.std.proofs.Common.{IfSome, refl, sym, ◌∙◌, ap, subst, arith, mod-lt}
 use Rattle.std.specs.List.{list_all}
 use Rattle.std.proofs.lemmas.Bool.{cond_both, and_parts, and_from, ltb-true, eqb-true, eqb-false}
 use Rattle.std.proofs.lemmas.List.{length_push}
@@ -14,8 +15,10 @@ use Rattle.bus_rules.specs.Streams.{Streams, taken, after_contention}
 use Rattle.bus_rules.specs.Tables.{Table}
 use Rattle.bus_rules.specs.Tuning.{rank_of, hosts, hosts_in, is_scan, is_rank, HasWaited, next_tune}
 use Rattle.bus_rules.specs.HostPlans.{host_plan}
-use Rattle.bus_rules.specs.Cores.{Core, Setup, booted, is_fresh, begins_host, new_host, as_host, frame_ended, opening_accepted, closing_accepted, schedule_accepted}
-use Rattle.bus_rules.specs.Slots.{Opened, Message, ScheduleOf, DataOf, RequestOf, hosts_now, opened, host_closes, silent, is_own, owner_heard, slot_heard, most_kept, closed}
+use Rattle.bus_rules.specs.Cores.{Core, Setup, booted, is_fresh, begins_host, new_host, as_host, frame_ended, opening_accepted, closing_accepted}
+use Rattle.bus_rules.specs.Cores.{schedule_accepted}
+use Rattle.bus_rules.specs.Slots.{Opened, Message, ScheduleOf, DataOf, RequestOf, hosts_now, opened, host_closes, silent, is_own, owner_heard, slot_heard}
+use Rattle.bus_rules.specs.Slots.{most_kept, closed}
 use Rattle.lwb_member.specs.Members.{IsBoot}
 use Rattle.lwb_member.proofs.HostPlanned.{contend_few}
 use Rattle.air_safety.specs.StreamRanges.{AreStreams}
@@ -29,7 +32,15 @@ use Rattle.air_safety.proofs.PlansInRange.{host_plan_is}
 -- a plan without owners
 empty_is : (rank boot contend : ℕ) → rank ≤ 3 → boot ≤ 200 → contend ≤ 4
     → IsWholePlan (record { rank = rank; boot = boot; contend = contend; acks = []; owners = [] })
-empty_is rank boot contend ranked booted few = record { rank = ranked; boot = booted; contend = few; few = omega arith; acks = refl; ordered = refl; owners = refl }
+empty_is rank boot contend ranked booted few = record {
+  rank = ranked;
+  boot = booted;
+  contend = few;
+  few = omega arith;
+  acks = refl;
+  ordered = refl;
+  owners = refl;
+}
 
 -- a host is no scanner
 pub no_scan : (t : Tune) → hosts t ≡ true → is_scan t ≡ false
@@ -83,22 +94,61 @@ module _ (s : Setup) (set : IsSetup s) where
   -- parts that change alone
   pub with_streams : (c : Core) (x : Streams) → IsCore s c → AreStreams s.profile x → IsCore s (record c { streams = x })
   with_streams c x is are =
-      record { boot = is.boot; rank = is.rank; waited = is.waited; plan = is.plan; known = is.known; taken = is.taken; hosted = is.hosted; streams = are; table = is.table; few = is.few; kept = is.kept }
+      record {
+        boot = is.boot;
+        rank = is.rank;
+        waited = is.waited;
+        plan = is.plan;
+        known = is.known;
+        taken = is.taken;
+        hosted = is.hosted;
+        streams = are;
+        table = is.table;
+        few = is.few;
+        kept = is.kept;
+      }
 
   with_table : (c : Core) (t : Table) → IsCore s c → IsTable t → IsCore s (record c { table = t })
   with_table c t is now =
-      record { boot = is.boot; rank = is.rank; waited = is.waited; plan = is.plan; known = is.known; taken = is.taken; hosted = is.hosted; streams = is.streams; table = now; few = is.few; kept = is.kept }
+      record {
+        boot = is.boot;
+        rank = is.rank;
+        waited = is.waited;
+        plan = is.plan;
+        known = is.known;
+        taken = is.taken;
+        hosted = is.hosted;
+        streams = is.streams;
+        table = now;
+        few = is.few;
+        kept = is.kept;
+      }
 
   -- the end of a frame
   with_tune : (c : Core) (t : Tune) → IsCore s c → rank_of t < s.ranks → HasWaited t → (is_scan t ≡ false → IsPlanOf t c.plan)
       → (hosts t ≡ true → IsHosting s c.boot t c.plan) → IsCore s (record c { tune = t; own_slot = None })
   with_tune c t is rank waited known hosted =
-      record { boot = is.boot; rank = rank; waited = waited; plan = is.plan; known = known; taken = λ fresh. absurd (cc); hosted = hosted; streams = is.streams; table = is.table; few = is.few; kept = is.kept }
+      record {
+        boot = is.boot;
+        rank = rank;
+        waited = waited;
+        plan = is.plan;
+        known = known;
+        taken = λ fresh. absurd (cc);
+        hosted = hosted;
+        streams = is.streams;
+        table = is.table;
+        few = is.few;
+        kept = is.kept;
+      }
 
   scanning : (c : Core) (r w : ℕ) → IsCore s c → r < s.ranks → w ≤ 11 → IsCore s (record c { tune = Scan r w; own_slot = None })
   scanning c r w is rank waited = with_tune c (Scan r w) is rank waited (λ other. absurd (cc)) (λ host. absurd (cc))
 
-  hosting : (c : Core) (r due : ℕ) → IsCore s c → r < s.ranks → s.own ≡ Some r → IsCore s (new_host s.profile r (record c { tune = Host r due; own_slot = None }))
+  hosting : (c : Core) (r due : ℕ) → IsCore s c → r < s.ranks → s.own ≡ Some r → IsCore s (new_host s.profile r (record c {
+    tune = Host r due;
+    own_slot = None;
+  }))
   hosting c r due is rank own = record {
     boot = is.boot;
     rank = rank;
@@ -118,7 +168,9 @@ module _ (s : Setup) (set : IsSetup s) where
 
   frame_by : (f : ℕ) (c : Core) (old : Tune) → c.tune ≡ old → IsCore s c → After c old (next_tune old f (is_fresh c) s.own s.ranks)
   frame_by f c (Host r due) at is =
-      with_tune c (Host r due) is (subst (λ (t : Tune). rank_of t < s.ranks) at is.rank) tt (λ other. subst (λ (t : Tune). IsPlanOf t c.plan) at (is.known (ap is_scan at))) (λ host. subst (λ (t : Tune). IsHosting s c.boot t c.plan) at (is.hosted (ap hosts at)))
+      with_tune c (Host r due) is (subst (λ (t : Tune). rank_of t < s.ranks) at is.rank) tt
+      (λ other. subst (λ (t : Tune). IsPlanOf t c.plan) at (is.known (ap is_scan at)))
+      (λ host. subst (λ (t : Tune). IsHosting s c.boot t c.plan) at (is.hosted (ap hosts at)))
   frame_by f c (Hold r due) at is =
       let rank : r < s.ranks = subst (λ (t : Tune). rank_of t < s.ranks) at is.rank in
       cond_both (nat_lt f due) (Hold r due) (Scan r 0) (λ (t : Tune). IsCore s (record c { tune = t; own_slot = None }))
@@ -143,7 +195,8 @@ module _ (s : Setup) (set : IsSetup s) where
   -- a window opens
   pub host_plan_of : (f : ℕ) (c : Core) → IsCore s c
       → IsHostPlan s.profile (rank_of c.tune) c.boot (host_plan s.profile s.id c.boot (rank_of c.tune) f c.kept c.table c.streams)
-  host_plan_of f c is = host_plan_is s.profile s.id c.boot (rank_of c.tune) f c.kept c.table c.streams set.profile set.id.0 set.id.1 is.boot (few_ranks (rank_of c.tune) is.rank) is.few is.kept is.table is.streams
+  host_plan_of f c is = host_plan_is s.profile s.id c.boot (rank_of c.tune) f c.kept c.table c.streams set.profile set.id.0 set.id.1 is.boot
+      (few_ranks (rank_of c.tune) is.rank) is.few is.kept is.table is.streams
 
   planned_is : (f : ℕ) (c : Core) → IsCore s c → hosts c.tune ≡ true → IsCore s (host_closes s f c).core
   planned_is f c is host =
@@ -167,11 +220,14 @@ module _ (s : Setup) (set : IsSetup s) where
   opened_is f (DataSlot owner) c is =
       let i = stream_of owner in
       with_streams c (if node_of owner == s.id then taken i c.streams else c.streams) is
-      (cond_both (node_of owner == s.id) (taken i c.streams) c.streams (AreStreams s.profile) (λ own. taken_are s.profile c.streams i is.streams) (λ other. is.streams))
+      (cond_both (node_of owner == s.id) (taken i c.streams) c.streams (AreStreams s.profile) (λ own. taken_are s.profile c.streams i is.streams)
+      (λ other. is.streams))
   opened_is f (Contention i) c is =
       with_streams c (if is_own c.own_slot i then after_contention s.id c.streams else c.streams) is
-      (cond_both (is_own c.own_slot i) (after_contention s.id c.streams) c.streams (AreStreams s.profile) (λ own. contention_are s.profile c.streams s.id is.streams) (λ other. is.streams))
-  opened_is f Closing c is = cond_both (hosts_now f c) (host_closes s f c) (silent c) (λ (o : Opened). IsCore s o.core) (λ now. planned_is f c is (host_now f c now)) (λ not. is)
+      (cond_both (is_own c.own_slot i) (after_contention s.id c.streams) c.streams (AreStreams s.profile)
+      (λ own. contention_are s.profile c.streams s.id is.streams) (λ other. is.streams))
+  opened_is f Closing c is = cond_both (hosts_now f c) (host_closes s f c) (silent c) (λ (o : Opened). IsCore s o.core)
+      (λ now. planned_is f c is (host_now f c now)) (λ not. is)
 
   -- and closes
   slot_is : (f : ℕ) (part : Part) (heard : Bool) (c : Core) → IsCore s c → IsCore s (slot_heard f part heard c)
@@ -231,7 +287,8 @@ module _ (s : Setup) (set : IsSetup s) where
         streams = is.streams;
         table = is.table;
         few = omega arith;
-        kept = list_all-append ask_in_range c.kept (a ∷ []) ∙ and_from (list_all ask_in_range c.kept) (list_all ask_in_range (a ∷ [])) is.kept (and_from _ _ range refl);
+        kept = list_all-append ask_in_range c.kept (a ∷ [])
+            ∙ and_from (list_all ask_in_range c.kept) (list_all ask_in_range (a ∷ [])) is.kept (and_from _ _ range refl);
       })
       (λ full. is)
 

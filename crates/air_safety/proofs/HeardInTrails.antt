@@ -6,9 +6,8 @@ use Rattle.air_log.specs.declared.entry.Entry.{Entry}
 use Rattle.air_log.specs.Entries.{hearings_of}
 use Rattle.air_log.specs.Lawful.{comes_before, put_in, by_end, reception_of, hearings_by, heard_by}
 use Rattle.air_log.specs.Trails.{Reception}
-use Rattle.air_log.proofs.Elements.{contains_head, contains_tail, contains_cases, map_contains, map_from, in_filtered}
+use Rattle.air_log.proofs.Elements.{contains_head, contains_tail, contains_cases, map_contains, map_from, in_filtered, filtered}
 use Rattle.air_safety.specs.TrailLinks.{IsReceptionOf}
-use Rattle.air_safety.proofs.FilteredElements.{filtered}
 
 -- the same elements
 abbrev Same : List Hearing → List Hearing → Type 0

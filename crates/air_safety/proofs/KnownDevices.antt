@@ -21,7 +21,8 @@ use Rattle.air_safety.proofs.RowsOfDevices.{stepped_power, switched_on_is}
 module _ (clock : ℕ → ℕ) (s : Setup) (t : ℕ) where
   -- what each event keeps, a script line keeps
   pub act_keeps : (P : Device → Type 0) → IsKept P clock s t → (frame : ℕ) (d : Device) (a : Act) (p : Power) → P d → P (after_act clock s t frame d a p)
-  act_keeps P kept frame d On (PowerOff boots) is = let n = PowerOn (rebooted (boots + 1)) in in_event P clock s t Boot None (record d { power = n }) kept (kept.powered d n is)
+  act_keeps P kept frame d On (PowerOff boots) is =
+      let n = PowerOn (rebooted (boots + 1)) in in_event P clock s t Boot None (record d { power = n }) kept (kept.powered d n is)
   act_keeps P kept frame d On (PowerOn n) is = is
   act_keeps P kept frame d Off (PowerOff boots) is = is
   act_keeps P kept frame d Off (PowerOn n) is = kept.off d n.core.boot is
@@ -31,7 +32,8 @@ module _ (clock : ℕ → ℕ) (s : Setup) (t : ℕ) where
   act_keeps P kept frame d (Leave i) (PowerOn n) is = kept.powered d _ is
   act_keeps P kept frame d (Put i payload) (PowerOff boots) is = kept.dropping frame i d is
   act_keeps P kept frame d (Put i payload) (PowerOn n) is =
-      cond_both (refuses i n.core) (dropped s.id frame i d) (with_new_core d n (queues i payload n.core)) P (λ lost. kept.dropping frame i d is) (λ queued. kept.powered d _ is)
+      cond_both (refuses i n.core) (dropped s.id frame i d) (with_new_core d n (queues i payload n.core)) P (λ lost. kept.dropping frame i d is)
+      (λ queued. kept.powered d _ is)
 
   -- a node that is off is silent
   abbrev pub Silent : Device → Type 0
@@ -53,9 +55,14 @@ module _ (clock : ℕ → ℕ) (s : Setup) (t : ℕ) where
   act_silent frame d (Declare i interval) (PowerOn n) on is = tt
   act_silent frame d (Leave i) (PowerOff boots) on is = subst (SilentBy d) (sym on) is
   act_silent frame d (Leave i) (PowerOn n) on is = tt
-  act_silent frame d (Put i payload) (PowerOff boots) on is = subst (SilentBy (dropped s.id frame i d)) (sym on) (record { radio = is.radio; alarm = is.alarm; ordered = is.ordered })
+  act_silent frame d (Put i payload) (PowerOff boots) on is = subst (SilentBy (dropped s.id frame i d)) (sym on) (record {
+    radio = is.radio;
+    alarm = is.alarm;
+    ordered = is.ordered;
+  })
   act_silent frame d (Put i payload) (PowerOn n) on is =
-      cond_both (refuses i n.core) (dropped s.id frame i d) (with_new_core d n (queues i payload n.core)) Silent (λ lost. subst (SilentBy (dropped s.id frame i d)) (sym on) tt) (λ queued. tt)
+      cond_both (refuses i n.core) (dropped s.id frame i d) (with_new_core d n (queues i payload n.core)) Silent
+      (λ lost. subst (SilentBy (dropped s.id frame i d)) (sym on) tt) (λ queued. tt)
 
   pub line_known : (d : Device) (l : ScriptLine) → IsKnown t Lines d → IsKnown t Lines (after_line clock s t d l)
   line_known d l is =
@@ -121,7 +128,9 @@ module _ (clock : ℕ → ℕ) (s : Setup) (t : ℕ) where
   begun_silent d None is = is
   begun_silent d (Some o) is =
       let y = starts s t o.packet d d.listening d.sending in
-      cond_both (o.tick == t) y d Silent (λ now. subst (SilentBy y) (sym (same_power d o.packet d.listening d.sending)) (start_silent d o.packet d.listening d.sending d.power is)) (λ other. is)
+      cond_both (o.tick == t) y d Silent
+      (λ now. subst (SilentBy y) (sym (same_power d o.packet d.listening d.sending)) (start_silent d o.packet d.listening d.sending d.power is))
+      (λ other. is)
 
   pub begun_known : 1 ≤ s.profile.byte → (d : Device) → IsKnown t Start d → IsKnown t Over (begun s t d)
   begun_known some d is =

@@ -1,5 +1,4 @@
 -- kept for the crates above
-pub mod Elements
 pub mod LifeSteps
 pub mod DriftingClocks
 pub mod OnePacketZeros
@@ -27,12 +26,13 @@ pub mod RelayedMessages
 pub mod LogsInRange
 pub mod LifeLaws
 pub mod HeedfulLogs
-pub mod FilteredElements
 pub mod MemberSteps
 pub mod UnmovedDevices
+pub mod SafeTests
 -- for this crate alone
+mod QuietPeriods
+mod FloodsInRange
 mod LifeExamples
-mod SafeTests
 mod SafeFirstRound
 mod BrokenClauses
 mod UnsafeSchedules

@@ -1,12 +1,13 @@
 -- A host that is on again may close a round that it did not open: so its silence lasts until the next opening or closing.
 use Rattle.std.proofs.Common.{◌≡◌, List, [], ◌∷◌, false, refl, arith}
 use Rattle.bus_rules.specs.Cores.{no_plan}
-use Rattle.air_safety.proofs.Elements.{not_in_none}
+use Rattle.air_log.proofs.Elements.{not_in_none}
 use Rattle.air_safety.specs.Lives.{Step, ComesOn, GoesOff, Closes, Ends, newborn, after_steps, AllMayCome}
 
 abbrev steps : List Step
 steps =
-    ComesOn 0 ∷ GoesOff 0 ∷ ComesOn 0 ∷ Ends false no_plan ∷ Ends false no_plan ∷ Ends false no_plan ∷ Ends false no_plan ∷ Ends false no_plan ∷ Closes 4 no_plan ∷ []
+    ComesOn 0 ∷ GoesOff 0 ∷ ComesOn 0 ∷ Ends false no_plan ∷ Ends false no_plan ∷ Ends false no_plan ∷ Ends false no_plan ∷ Ends false no_plan
+    ∷ Closes 4 no_plan ∷ []
 
 may_come : AllMayCome 0 1 newborn steps
 unfolding AllMayCome

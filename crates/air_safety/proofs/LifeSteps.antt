@@ -1,13 +1,15 @@
 -- Each step leaves a quiet life quiet.
-use Rattle.std.proofs.Common.{◌≡◌, ℕ, ◌+◌, ◌%◌, ◌<◌, ◌≤◌, ◌⊎◌, inl, inr, List, [], ◌∷◌, ◌++◌, Bool, true, false, ◌&&◌, ◌==◌, nat_lt, if◌then◌else◌, Some, Contains, refl, sym, ◌∙◌, ap, subst, arith, true≢false}
+use Rattle.std.proofs.Common.{◌≡◌, ℕ, ◌+◌, ◌%◌, ◌≤◌, ◌⊎◌, inl, inr, List, [], ◌∷◌, ◌++◌, Bool, true, false, ◌&&◌, ◌==◌, nat_lt, if◌then◌else◌, Some, Contains}
+use Rattle.std.proofs.Common.{refl, sym, ◌∙◌, ap, subst, arith, true≢false}
 use Rattle.std.proofs.lemmas.Bool.{and_parts, eqb-true, cases_lt}
 use Rattle.std.proofs.lemmas.List.Elements.{Contains-push_cases}
 use Rattle.lwb_base.specs.Messages.{Plan}
 use Rattle.bus_rules.specs.declared.tune.Tune.{Tune}
 use Rattle.bus_rules.specs.declared.tune.Tune.TheVariants.{Scan, Hold, Host}
 use Rattle.bus_rules.specs.Tuning.{hosts, next_tune, scan_after, is_rank}
-use Rattle.air_safety.proofs.Elements.{not_in_none, contains_head, contains_tail}
-use Rattle.air_safety.specs.Lives.{Life, OpeningMade, ClosingMade, Step, ComesOn, GoesOff, Opens, Closes, Holds, Ends, MayCome, IsPast, after_step, after_steps, AllMayCome, plan_after, newborn, Quiet, ByTune, ByPower, HostsQuietly, HostsAreQuiet, SaysNothing, QuietPeriod}
+use Rattle.air_log.proofs.Elements.{not_in_none}
+use Rattle.air_safety.specs.Lives.{Life, OpeningMade, ClosingMade, Step, ComesOn, GoesOff, Opens, Closes, Holds, Ends, MayCome, IsPast, after_step, after_steps}
+use Rattle.air_safety.specs.Lives.{AllMayCome, plan_after, newborn, Quiet, ByTune, ByPower, HostsQuietly, HostsAreQuiet}
 
 module _ (rank ranks : ℕ) (l : Life) (quiet : Quiet rank l) where
   past_later : (f g : ℕ) → f ≤ g → IsPast l f → IsPast l g
@@ -46,7 +48,7 @@ module _ (rank ranks : ℕ) (l : Life) (quiet : Quiet rank l) where
     stands = record { openings = past.openings; closings = past.closings };
   }
 
-  as_host : l.on ≡ true → l.tune ≡ Host rank l.frame → HostsQuietly rank l rank l.frame
+  pub as_host : l.on ≡ true → l.tune ≡ Host rank l.frame → HostsQuietly rank l rank l.frame
   as_host on tune = subst (λ (t : Tune). ByTune rank l t) tune (subst (λ (b : Bool). ByPower rank l b) on quiet.stands)
 
   opens : l.on ≡ true → l.tune ≡ Host rank l.frame → Quiet rank (after_step rank ranks l Opens)
@@ -279,60 +281,3 @@ all_quiet rank ranks (x ∷ xs) l quiet may = all_quiet rank ranks xs (after_ste
 
 pub hosts_are_quiet : HostsAreQuiet
 hosts_are_quiet rank ranks xs may = all_quiet rank ranks xs newborn (born_quiet rank) may
-
--- since it went off in frame b
-record Since (b : ℕ) (l : Life) : Type 0 where
-  behind : b ≤ l.frame
-  booted : l.on ≡ true → b ≤ l.boot
-  closed : (c : ClosingMade) → Contains l.closings c → c.frame < b
-
-since_step : (rank ranks b : ℕ) (l : Life) (x : Step) → SaysNothing x → MayCome rank l x → Since b l → Since b (after_step rank ranks l x)
-since_step rank ranks b l (ComesOn frame) says may since = record {
-  behind = omega (arith, since.behind, may.1);
-  booted = λ is. omega
-      (arith, since.behind, may.1);
-  closed = since.closed;
-}
-since_step rank ranks b l (GoesOff frame) says may since = record {
-  behind = omega (arith, since.behind, may.1);
-  booted = λ is. absurd
-      (true≢false (sym is));
-  closed = since.closed;
-}
-since_step rank ranks b l Opens says may since = absurd says
-since_step rank ranks b l (Closes gap plan) says may since = absurd says
-since_step rank ranks b l (Holds r due) says may since = record { behind = since.behind; booted = since.booted; closed = since.closed }
-since_step rank ranks b l (Ends joined plan) says may since = record {
-  behind =
-      (let a = since.behind in omega (arith, a));
-  booted = since.booted;
-  closed = since.closed;
-}
-
-since_steps : (rank ranks b : ℕ) (ys : List Step) (l : Life) → ((y : Step) → Contains ys y → SaysNothing y) → AllMayCome rank ranks l ys → Since b l
-    → Since b (after_steps rank ranks l ys)
-unfolding after_steps AllMayCome
-since_steps rank ranks b [] l says may since = since
-since_steps rank ranks b (y ∷ ys) l says may since =
-    since_steps rank ranks b ys (after_step rank ranks l y) (λ x there. says x (contains_tail y ys x there)) may.1
-    (since_step rank ranks b l y (says y (contains_head y ys)) may.0 since)
-
-since_off : (rank ranks b : ℕ) (xs ys : List Step) (l : Life) → ((y : Step) → Contains ys y → SaysNothing y)
-    → AllMayCome rank ranks l (xs ++ GoesOff b ∷ ys) → Since b (after_steps rank ranks l (xs ++ GoesOff b ∷ ys))
-unfolding after_steps AllMayCome
-since_off rank ranks b [] ys l says may =
-    let past = may.0.2 in
-    since_steps rank ranks b ys (after_step rank ranks l (GoesOff b)) says may.1
-    (record { behind = omega arith; booted = λ is. absurd (true≢false (sym is)); closed = past.closings })
-since_off rank ranks b (x ∷ xs) ys l says may = since_off rank ranks b xs ys (after_step rank ranks l x) says may.1
-
-quiet_from : (rank b : ℕ) (l : Life) → Quiet rank l → Since b l
-    → ((c : ClosingMade) → Contains l.closings c → c.frame + c.gap ≤ b + 3) × (hosts l.tune ≡ true → l.on ≡ true → l.tune ≡ Host rank l.frame → b + 5 ≤ l.frame)
-quiet_from rank b l quiet since = (
-  λ c there. (let a = since.closed c there in let g = quiet.gaps c there in omega (arith, a, g.1)),
-  λ hosting on tune. (let h = as_host rank 0 l quiet on tune in let a = since.booted on in let w = h.waited in omega (arith, a, w)),
-)
-
-pub quiet_period : QuietPeriod
-quiet_period rank ranks b xs ys may says = quiet_from rank b (after_steps rank ranks newborn (xs ++ GoesOff b ∷ ys))
-    (hosts_are_quiet rank ranks (xs ++ GoesOff b ∷ ys) may) (since_off rank ranks b xs ys newborn says may)

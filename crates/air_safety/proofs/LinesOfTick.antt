@@ -10,14 +10,13 @@ use Rattle.bus_rules.specs.Streams.{Streams, cleared, declared, left, put}
 use Rattle.bus_rules.specs.Cores.{Core, Setup}
 use Rattle.node_core.specs.Nodes.{Node, rebooted}
 use Rattle.node_core.specs.Rows.{boots}
-use Rattle.node_core.specs.Runs.{with_streams}
+use Rattle.node_core.specs.Nodes.{with_streams}
 use Rattle.air_log.specs.Devices.{Device, Power, PowerOff, PowerOn}
 use Rattle.air_log.specs.ScriptedDevices.{after_act, after_line, dropped, switched_on, with_new_core}
 use Rattle.air_log.specs.Trails.{setup_of, frame_start, lines_at, scripted}
-use Rattle.air_log.proofs.Elements.{not_in_none, contains_head, contains_tail, contains_cases, in_filtered}
+use Rattle.air_log.proofs.Elements.{not_in_none, contains_head, contains_tail, contains_cases, in_filtered, filtered}
 use Rattle.air_safety.specs.Phases.{IsSilent, SilentBy}
 use Rattle.air_safety.specs.TrailLinks.{IsTold, HasBooted, WentOff, WentOffBy, StaysOn, boots_of}
-use Rattle.air_safety.proofs.FilteredElements.{filtered}
 use Rattle.air_safety.proofs.RowsOfDevices.{switched_on_is}
 
 module _ (clock : ℕ → ℕ) (s : Setup) (t before : ℕ) where
@@ -60,23 +59,38 @@ module _ (clock : ℕ → ℕ) (s : Setup) (t before : ℕ) where
   counts_on frame d (Declare i interval) (PowerOn n) at is = is
   counts_on frame d (Leave i) (PowerOff count) at is = subst (CountsBy d) (sym at) is
   counts_on frame d (Leave i) (PowerOn n) at is = is
-  counts_on frame d (Put i payload) (PowerOff count) at is = subst (CountsBy (dropped s.id frame i d)) (sym at) (record { radio = is.0.radio; alarm = is.0.alarm; ordered = is.0.ordered }, is.1)
+  counts_on frame d (Put i payload) (PowerOff count) at is = subst (CountsBy (dropped s.id frame i d)) (sym at) (
+    record {
+      radio = is.0.radio;
+      alarm = is.0.alarm;
+      ordered = is.0.ordered;
+    },
+    is.1,
+  )
   counts_on frame d (Put i payload) (PowerOn n) at is =
-      cond_both (refuses i n.core) (dropped s.id frame i d) (with_new_core d n (queues i payload n.core)) Counts (λ lost. subst (CountsBy (dropped s.id frame i d)) (sym at) is) (λ kept. is)
+      cond_both (refuses i n.core) (dropped s.id frame i d) (with_new_core d n (queues i payload n.core)) Counts
+      (λ lost. subst (CountsBy (dropped s.id frame i d)) (sym at) is) (λ kept. is)
 
   goes_off : (frame : ℕ) (d : Device) (p : Power) → d.power ≡ p → CountsBy d p → Gone (after_act clock s t frame d Off p)
   goes_off frame d (PowerOff count) at is = subst (GoneBy d) (sym at) is
   goes_off frame d (PowerOn n) at is = (record { radio = refl; alarm = refl; ordered = refl }, is.1)
 
   -- streams are told something
-  other_streams : (d : Device) (n : Node) (streams : Streams) → WentOffBy clock s t before d (PowerOn n) → Gone (record d { power = PowerOn (with_streams n streams) })
+  other_streams : (d : Device) (n : Node) (streams : Streams) → WentOffBy clock s t before d (PowerOn n)
+      → Gone (record d { power = PowerOn (with_streams n streams) })
   other_streams d n streams is =
       let was = is.1.node in (
         tt,
         (
           is.0,
           record {
-            node = record { streams = streams; core = ap (λ (c : Core). record c { streams = streams }) was.core; frame = was.frame; zero = was.zero; stage = was.stage };
+            node = record {
+              streams = streams;
+              core = ap (λ (c : Core). record c { streams = streams }) was.core;
+              frame = was.frame;
+              zero = was.zero;
+              stage = was.stage;
+            };
             channel = is.1.channel;
             alarm = is.1.alarm;
             ordered = is.1.ordered;
@@ -93,10 +107,28 @@ module _ (clock : ℕ → ℕ) (s : Setup) (t before : ℕ) where
   gone_on frame d (Declare i interval) (PowerOn n) at is = other_streams d n (declared i interval n.core.streams) is.1
   gone_on frame d (Leave i) (PowerOff count) at is = subst (GoneBy d) (sym at) is
   gone_on frame d (Leave i) (PowerOn n) at is = other_streams d n (left i n.core.streams) is.1
-  gone_on frame d (Put i payload) (PowerOff count) at is = subst (GoneBy (dropped s.id frame i d)) (sym at) (record { radio = is.0.radio; alarm = is.0.alarm; ordered = is.0.ordered }, is.1)
+  gone_on frame d (Put i payload) (PowerOff count) at is = subst (GoneBy (dropped s.id frame i d)) (sym at) (
+    record {
+      radio = is.0.radio;
+      alarm = is.0.alarm;
+      ordered = is.0.ordered;
+    },
+    is.1,
+  )
   gone_on frame d (Put i payload) (PowerOn n) at is =
       cond_both (refuses i n.core) (dropped s.id frame i d) (with_new_core d n (queues i payload n.core)) Gone
-      (λ lost. subst (GoneBy (dropped s.id frame i d)) (sym at) (tt, (is.1.0, record { node = is.1.1.node; channel = is.1.1.channel; alarm = is.1.1.alarm; ordered = is.1.1.ordered })))
+      (λ lost. subst (GoneBy (dropped s.id frame i d)) (sym at) (
+        tt,
+        (
+          is.1.0,
+          record {
+            node = is.1.1.node;
+            channel = is.1.1.channel;
+            alarm = is.1.1.alarm;
+            ordered = is.1.1.ordered;
+          },
+        ),
+      ))
       (λ kept. other_streams d n (put i payload n.core.streams) is.1)
 
   gone_lines : (ls : List ScriptLine) (d : Device) → Gone d → Gone (fold (after_line clock s t) d ls)
@@ -117,7 +149,14 @@ module _ (clock : ℕ → ℕ) (s : Setup) (t before : ℕ) where
 -- no off line
 module _ (clock : ℕ → ℕ) (s : Setup) (t : ℕ) (n : Node) (d : Device) where
   new_streams : (e : Device) (is : StaysOn n d e) (m : Node) (streams : Streams) → StaysOn n d (record e { power = PowerOn (with_streams n streams) })
-  new_streams e is m streams = record { streams = streams; power = refl; listening = is.listening; alarm = is.alarm; ordered = is.ordered; sending = is.sending }
+  new_streams e is m streams = record {
+    streams = streams;
+    power = refl;
+    listening = is.listening;
+    alarm = is.alarm;
+    ordered = is.ordered;
+    sending = is.sending;
+  }
 
   -- the node of e, with what is told
   stays : (frame : ℕ) (e : Device) (a : Act) → a ≢ Off → StaysOn n d e → StaysOn n d (after_act clock s t frame e a e.power)
@@ -136,7 +175,8 @@ module _ (clock : ℕ → ℕ) (s : Setup) (t : ℕ) (n : Node) (d : Device) whe
           (λ lost. record { streams = is.streams; power = is.power; listening = is.listening; alarm = is.alarm; ordered = is.ordered; sending = is.sending })
           (λ kept. new_streams e is m (put i payload is.streams))
 
-  stays_lines : (ls : List ScriptLine) (e : Device) → StaysOn n d e → ((l : ScriptLine) → Contains ls l → l.act ≢ Off) → StaysOn n d (fold (after_line clock s t) e ls)
+  stays_lines : (ls : List ScriptLine) (e : Device) → StaysOn n d e → ((l : ScriptLine) → Contains ls l → l.act ≢ Off)
+      → StaysOn n d (fold (after_line clock s t) e ls)
   stays_lines [] e is none = is
   stays_lines (l ∷ ls) e is none =
       let on = stays l.frame e l.act (none l (contains_head l ls)) is in

@@ -33,13 +33,17 @@ module _ (clock : ℕ → ℕ) (v t : ℕ) where
   abbrev Tuned : ℕ → Device → Device → Type 0
   Tuned rank d e = HasObeyed clock t (Listen rank ∷ []) d e
 
-  on_since : (rank since : ℕ) (d : Device) (es : List Tuning) → Tuned rank d (record d { listening = Some (record { rank = rank; since = since }); made = record (d.made) { tuned = es } })
+  on_since : (rank since : ℕ) (d : Device) (es : List Tuning) → Tuned rank d (record d {
+    listening = Some (record { rank = rank; since = since });
+    made = record (d.made) { tuned = es };
+  })
   on_since rank since d es = rebuilt (Listen rank ∷ []) d (Some (record { rank = rank; since = since })) d.alarm d.ordered es refl refl refl
 
   retuned : (rank : ℕ) (d : Device) (es : List Tuning) → Tuned rank d (tunes rank t (silenced v t d) es)
   retuned rank d [] = on_since rank t d (silenced v t d).made.tuned
   retuned rank d (e ∷ es) =
-      cond_both ((e.rank == rank) && (e.end == t)) _ _ (Tuned rank d) (λ goes_on. on_since rank e.start d es) (λ anew. on_since rank t d (silenced v t d).made.tuned)
+      cond_both ((e.rank == rank) && (e.end == t)) _ _ (Tuned rank d) (λ goes_on. on_since rank e.start d es)
+      (λ anew. on_since rank t d (silenced v t d).made.tuned)
 
   one : (d : Device) (o : Order) → HasObeyed clock t (o ∷ []) d (obeyed clock v t d o)
   one d (Listen rank) =

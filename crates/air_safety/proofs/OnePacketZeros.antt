@@ -21,7 +21,8 @@ pub clocks_drift : (v : ℕ) → IsClock (drifting v)
 clocks_drift v =
     cond_both (1 == v) (segment_reading 0 ((0, pos 20) ∷ [])) (slow_or_true v) IsClock
     (λ is. rates_law 0 ((0, pos 20) ∷ []) (omega arith) tame_fast)
-    (λ other. cond_both (2 == v) (segment_reading 0 ((0, negsuc 19) ∷ [])) (λ t. t) IsClock (λ is. rates_law 0 ((0, negsuc 19) ∷ []) (omega arith) tame_slow) (λ none. true_clock))
+    (λ other. cond_both (2 == v) (segment_reading 0 ((0, negsuc 19) ∷ [])) (λ t. t) IsClock
+    (λ is. rates_law 0 ((0, negsuc 19) ∷ []) (omega arith) tame_slow) (λ none. true_clock))
 
 -- the ticks at which they come to a number
 pub host_due_at : (x : ℕ) → due (drifting 1) x ≡ fast_due x
@@ -32,7 +33,8 @@ member_due_at x = ap (λ (clock : ℕ → ℕ). due clock x) member_clock ∙ sl
 
 -- a reference by what the clock of node 2 reads when the host starts the schedule
 ref_by : (z f c j : ℕ) → 1 ≤ c → c ≤ f → f ≤ c + 4 → c ≤ 4095 → j ≤ 42
-    → Near (slow (fast_due (nominal one c j)) + f * 256000000) (z + j * 2112000 + 64000 + c * 256000000) 55 → Ref one budget_one (drifting 1) (drifting 2) z f c j
+    → Near (slow (fast_due (nominal one c j)) + f * 256000000) (z + j * 2112000 + 64000 + c * 256000000) 55
+    → Ref one budget_one (drifting 1) (drifting 2) z f c j
 ref_by z f c j begun past young run slot near =
     let reads : drifting 2 (started one (drifting 1) c j) ≡ slow (fast_due (nominal one c j)) =
     ap (drifting 2) (host_due_at (nominal one c j)) ∙ ap (λ (clock : ℕ → ℕ). clock (fast_due (nominal one c j))) member_clock in

@@ -1,5 +1,6 @@
 -- The plan that a host makes can be written, and what it leaves is in its ranges.
-use Rattle.std.proofs.Common.{◌≡◌, ℕ, zero, suc, ◌+◌, ◌≤◌, List, [], ◌∷◌, ◌++◌, length, fold, replicate, true, ◌==◌, nat_lt, nat_le, if◌then◌else◌, Some, None, Option, refl, arith}
+use Rattle.std.proofs.Common.{◌≡◌, ℕ, zero, suc, ◌+◌, ◌≤◌, List, [], ◌∷◌, ◌++◌, length, fold, replicate, true, ◌==◌, nat_lt, nat_le, if◌then◌else◌, Some, None}
+use Rattle.std.proofs.Common.{Option, refl, arith}
 use Rattle.std.specs.Prelude.{All}
 use Rattle.std.specs.List.{list_all, sum_by}
 use Rattle.std.specs.Option.{IfSome}
@@ -36,7 +37,8 @@ with_ack_few a (b ∷ bs) =
     cond_both (code_of a == code_of b) (a ∷ bs) (if nat_lt (code_of a) (code_of b) then a ∷ b ∷ bs else b ∷ with_ack a bs)
     (λ (l : List Ask). length l ≤ length (b ∷ bs) + 1)
     (λ same. omega arith)
-    (λ other. cond_both (nat_lt (code_of a) (code_of b)) (a ∷ b ∷ bs) (b ∷ with_ack a bs) (λ (l : List Ask). length l ≤ length (b ∷ bs) + 1) (λ less. omega arith) (λ more. omega (arith, with_ack_few a bs)))
+    (λ other. cond_both (nat_lt (code_of a) (code_of b)) (a ∷ b ∷ bs) (b ∷ with_ack a bs) (λ (l : List Ask). length l ≤ length (b ∷ bs) + 1)
+    (λ less. omega arith) (λ more. omega (arith, with_ack_few a bs)))
 
 record AreAnswered (x : Answered) (most : ℕ) : Type 0 where
   table : IsTable x.table
@@ -49,12 +51,17 @@ answers_are frame [] x most ranges are = record { table = are.table; acks = are.
 answers_are frame (a ∷ kept) x most ranges are =
     let both = and_parts (ask_in_range a) (list_all ask_in_range kept) ranges in
     let acks : List Ask = if is_full a x.table then x.acks else with_ack a x.acks in
-    let next : AreAnswers acks = cond_both (is_full a x.table) x.acks (with_ack a x.acks) AreAnswers (λ full. are.acks) (λ room. with_are a x.acks both.0 are.acks) in
+    let next : AreAnswers acks = cond_both (is_full a x.table) x.acks (with_ack a x.acks) AreAnswers (λ full. are.acks)
+    (λ room. with_are a x.acks both.0 are.acks) in
     let few : length acks ≤ most + 1 =
     cond_both (is_full a x.table) x.acks (with_ack a x.acks) (λ (l : List Ask). length l ≤ most + 1)
     (λ full. omega (arith, are.few))
     (λ room. omega (arith, are.few, with_ack_few a x.acks)) in
-    let rest = answers_are frame kept (answer frame x a) (most + 1) both.1 (record { table = request_is frame x.table a both.0 are.table; acks = next; few = few }) in
+    let rest = answers_are frame kept (answer frame x a) (most + 1) both.1 (record {
+      table = request_is frame x.table a both.0 are.table;
+      acks = next;
+      few = few;
+    }) in
     record { table = rest.table; acks = rest.acks; few = omega (arith, rest.few) }
 
 -- own streams are served
@@ -65,18 +72,23 @@ record AreServed (p : Numbers) (x : Served) : Type 0 where
 own_ask : (node boot i interval : ℕ) → 1 ≤ node → node ≤ 200 → IsBoot boot → i ≤ 3 → interval ≤ 120
     → ask_in_range (record { node = node; boot = boot; stream = i; interval = interval }) ≡ true
 own_ask node boot i interval low high is few short =
-    and_from _ _ (and_from _ _ (and_from _ _ (and_from _ _ (le-leb 1 node low) (le-leb node 200 high)) (and_from _ _ (le-leb 1 boot is.0) (le-leb boot 200 is.1))) (le-leb i 3 few)) (le-leb interval 120 short)
+    and_from _ _ (and_from _ _
+    (and_from _ _ (and_from _ _ (le-leb 1 node low) (le-leb node 200 high)) (and_from _ _ (le-leb 1 boot is.0) (le-leb boot 200 is.1)))
+    (le-leb i 3 few)) (le-leb interval 120 short)
 
 module _ (p : Numbers) (node boot frame : ℕ) (low : 1 ≤ node) (high : node ≤ 200) (booted : IsBoot boot) where
   put_is : (i : ℕ) (o : Option ℕ) (t : Table) → i ≤ 3 → IfSome o (λ n. n ≤ 120) → IsTable t → IsTable (put_if frame node boot i o t)
   put_is i None t few short is = is
-  put_is i (Some interval) t few short is = request_is frame t (record { node = node; boot = boot; stream = i; interval = interval }) (own_ask node boot i interval low high booted few short) is
+  put_is i (Some interval) t few short is = request_is frame t (record { node = node; boot = boot; stream = i; interval = interval })
+      (own_ask node boot i interval low high booted few short) is
 
   serve_is : (x : Served) (i : ℕ) → i ≤ 3 → AreServed p x → AreServed p (serve frame node boot x i)
   serve_is x i few are =
       let streams = with_agreed i (interval_of x.table (code node i)) x.streams in
       let now : AreStreams p streams = agreed_are p x.streams i (interval_of x.table (code node i)) (interval_is x.table (code node i) are.table) are.streams in
-      let wish : IfSome (due_of streams i) (λ n. n ≤ 120) = cond_both (is_due streams i) (Some (stream_at streams i).wish) None (λ (o : Option ℕ). IfSome o (λ n. n ≤ 120)) (λ due. (stream_is p streams i now).wish) (λ none. tt) in
+      let wish : IfSome (due_of streams i) (λ n. n ≤ 120) =
+      cond_both (is_due streams i) (Some (stream_at streams i).wish) None (λ (o : Option ℕ). IfSome o (λ n. n ≤ 120))
+      (λ due. (stream_is p streams i now).wish) (λ none. tt) in
       record { table = put_is i (due_of streams i) x.table few wish are.table; streams = now }
 
   served_is : (t : Table) (s : Streams) → IsTable t → AreStreams p s → AreServed p (served frame node boot t s)
@@ -99,7 +111,8 @@ owners_between : (share : Entry → ℕ) (es : List Entry) → All IsEntry es �
 owners_between share [] all = refl
 owners_between share (e ∷ es) all =
     let this = All-head IsEntry e es all in
-    each_between (share e) e.code (owners_by share es) (and_from _ _ (le-leb 4 e.code this.code.0) (le-leb e.code 803 this.code.1)) (owners_between share es (All-tail IsEntry e es all))
+    each_between (share e) e.code (owners_by share es) (and_from _ _ (le-leb 4 e.code this.code.0) (le-leb e.code 803 this.code.1))
+    (owners_between share es (All-tail IsEntry e es all))
 
 above_none : (es : List Entry) → All IsEntry es → Above 0 es
 above_none [] all = tt
@@ -124,7 +137,8 @@ granted_is share gap place t is = record {
 
 grants_are : (owes : Entry → ℕ) (gap : ℕ) (t : Table) → IsTable t → AreGrants (grants_for owes gap t)
 grants_are owes gap t is =
-    cond_both (nat_le (sum_by owes t.entries) 40) (granted_by owes gap t.place t.entries) (granted_by (share_in (given owes t)) gap (last_code (given owes t) + 1) t.entries) AreGrants
+    cond_both (nat_le (sum_by owes t.entries) 40) (granted_by owes gap t.place t.entries)
+    (granted_by (share_in (given owes t)) gap (last_code (given owes t) + 1) t.entries) AreGrants
     (λ fit. granted_is owes gap t.place t is) (λ more. granted_is (share_in (given owes t)) gap (last_code (given owes t) + 1) t is)
 
 round_is : (seconds frame : ℕ) (t : Table) → IsTable t → AreGrants (plan_round seconds frame t)
@@ -137,12 +151,17 @@ few_acks contend = cond_both (contend == 0) 1 4 (λ (n : ℕ). n ≤ 4) (λ one.
 
 pub host_plan_is : (p : Numbers) (node boot rank frame : ℕ) (kept : List Ask) (t : Table) (s : Streams) → IsProfile p → 1 ≤ node → node ≤ 200
     → IsBoot boot → rank ≤ 3
-    → length kept ≤ slots_named p.contend → list_all ask_in_range kept ≡ true → IsTable t → AreStreams p s → IsHostPlan p rank boot (host_plan p node boot rank frame kept t s)
+    → length kept ≤ slots_named p.contend → list_all ask_in_range kept ≡ true → IsTable t → AreStreams p s
+    → IsHostPlan p rank boot (host_plan p node boot rank frame kept t s)
 unfolding host_plan
 host_plan_is p node boot rank frame kept t s profile low high booted few_ranks few ranges is are =
     let first = answered frame kept t in
     let own = served frame node boot first.table s in
-    let answers = answers_are frame kept (record { table = t; acks = [] }) 0 ranges (record { table = is; acks = record { ascend = refl; ranges = refl }; few = omega arith }) in
+    let answers = answers_are frame kept (record { table = t; acks = [] }) 0 ranges (record {
+      table = is;
+      acks = record { ascend = refl; ranges = refl };
+      few = omega arith;
+    }) in
     let serves = served_is p node boot frame low high booted first.table s answers.table are in
     let grants = round_is p.seconds frame own.table serves.table in
     let small = host_plan_few p node boot rank frame kept t s is.entries.ascends in

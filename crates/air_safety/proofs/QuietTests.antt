@@ -1,5 +1,6 @@
 -- While nothing is due until a tick, nothing is due until an earlier one.
-use Rattle.std.proofs.Common.{◌≡◌, ℕ, ◌≤◌, List, [], ◌∷◌, Bool, true, false, not, ◌==◌, ◌&&◌, ◌||◌, nat_lt, nat_le, Option, Some, None, inl, inr, refl, sym, ◌∙◌, arith}
+use Rattle.std.proofs.Common.{◌≡◌, ℕ, ◌≤◌, List, [], ◌∷◌, Bool, true, false, not, ◌==◌, ◌&&◌, ◌||◌, nat_lt, nat_le, Option, Some, None, inl, inr, refl, sym}
+use Rattle.std.proofs.Common.{◌∙◌, arith}
 use Rattle.std.specs.List.{list_all}
 use Rattle.std.proofs.lemmas.Bool.{and_parts, and_from, leb-true, le-leb, or_cases, or_left, or_right}
 use Rattle.radio_model.specs.declared.sending.Sending.{Sending}
@@ -82,7 +83,9 @@ module _ (clock D : ℕ → ℕ) (s : ScenarioParts) (v : ℕ) (hs : List Recept
         let ends = and_parts _ _ hearings.0 in
         let starts = and_parts _ _ ends.0 in
         let set = and_parts _ _ starts.0 in
-        and_from _ _ (and_from _ _ (and_from _ _ (and_from _ _ (and_from _ _ (le-leb a t low) (alarm_earlier alarm set.1)) (start_earlier ordered starts.1)) (end_earlier sending ends.1))
+        and_from _ _ (and_from _ _
+        (and_from _ _ (and_from _ _ (and_from _ _ (le-leb a t low) (alarm_earlier alarm set.1)) (start_earlier ordered starts.1))
+        (end_earlier sending ends.1))
         (all_earlier (heard_from b) (heard_from t) hs (λ h is. earlier_outside t b h.end order is) hearings.1))
         (all_earlier (told_from b) (told_from t) s.script (λ l is. line_earlier (l.node == v) (frame_start s l.frame) is) lines.1)
       where

@@ -1,5 +1,6 @@
 -- Each row of the node table keeps a node in its ranges, and orders only packets of which Q holds.
-use Rattle.std.proofs.Common.{◌≡◌, ℕ, ◌+◌, ◌≤◌, List, [], ◌∷◌, ◌++◌, length, Bool, true, false, ◌==◌, nat_lt, if◌then◌else◌, Some, None, Option, IfSome, refl, sym, ◌∙◌, ap, subst, arith, eq-eqb}
+use Rattle.std.proofs.Common.{◌≡◌, ℕ, ◌+◌, ◌≤◌, List, [], ◌∷◌, ◌++◌, length, Bool, true, false, ◌==◌, nat_lt, if◌then◌else◌, Some, None, Option, IfSome, refl}
+use Rattle.std.proofs.Common.{sym, ◌∙◌, ap, subst, arith, eq-eqb}
 use Rattle.std.proofs.lemmas.Bool.{cond_both, and_from, ltb-true}
 use Rattle.lwb_base.specs.Messages.{Schedule}
 use Rattle.lwb_base.specs.declared.event.Event.{Event}
@@ -25,7 +26,8 @@ use Rattle.node_core.specs.declared.stage.Stage.{Stage}
 use Rattle.node_core.specs.declared.stage.Stage.TheVariants.{Idle, Scanning, AwaitFrame, AwaitSlot, InWindow}
 use Rattle.node_core.specs.Windows.{Window}
 use Rattle.node_core.specs.Nodes.{Node, stopped_frame}
-use Rattle.node_core.specs.Rows.{row, boots, stage_for, orders_for, zero_for, frame_alarms, first_sending, window_opens, relaying, joins, scanner_hears, is_foreign, reply_by, window_hears, sends, accepted_in, window_closes, at_alarm, at_heard, at_sent}
+use Rattle.node_core.specs.Rows.{row, boots, stage_for, orders_for, zero_for, frame_alarms, first_sending, window_opens, relaying, joins, scanner_hears}
+use Rattle.node_core.specs.Rows.{is_foreign, reply_by, window_hears, sends, accepted_in, window_closes, at_alarm, at_heard, at_sent}
 use Rattle.node_core.specs.Standing.{IsOwn}
 use Rattle.air_safety.specs.CoreRanges.{IsSetup}
 use Rattle.air_safety.specs.NodeRanges.{IsOpen, IsAt, IsNode}
@@ -96,7 +98,8 @@ module _ (s : Setup) (set : IsSetup s) (Q H : List ℕ → Type 0) (rules : AreR
         record {
           core = closed_is s set n.frame w.part w.flood.initiated n.core (accepted_in w) (accepted_may s set n.frame j n.core w open_) is.core;
           frame = is.frame;
-          stage = cond_both (nat_lt j w.last) (AwaitSlot (j + 1)) AwaitFrame (IsAt s n.frame c.core) (λ more. goes_on_is s n.frame n.core j w open_ (ltb-true j w.last more)) (λ last. tt);
+          stage = cond_both (nat_lt j w.last) (AwaitSlot (j + 1)) AwaitFrame (IsAt s n.frame c.core)
+              (λ more. goes_on_is s n.frame n.core j w open_ (ltb-true j w.last more)) (λ last. tt);
         },
         (tt, (tt, tt)),
       )
@@ -120,7 +123,8 @@ module _ (s : Setup) (set : IsSetup s) (Q H : List ℕ → Type 0) (rules : AreR
   joins_row n now p x is free few says ranked =
       let start = listening Kinds.Schedule (slot_of p) s.sends in (
         record { core = is.core; frame = is.frame; stage = joins_is s set n.frame n.core p x _ free (rules.short p few) says ranked },
-        both_orders Q (relaying s.profile now (reply_to start p)) (AlarmAt _ ∷ []) (relay_orders now (reply_to start p) (λ q relays. rules.relay start p q relays few)) (tt, tt),
+        both_orders Q (relaying s.profile now (reply_to start p)) (AlarmAt _ ∷ [])
+            (relay_orders now (reply_to start p) (λ q relays. rules.relay start p q relays few)) (tt, tt),
       )
 
   scanner_row : (n : Node) (now : ℕ) (p : List ℕ) (o : Option Message) → IsNode s n → hosts n.core.tune ≡ false → H p
@@ -142,7 +146,8 @@ module _ (s : Setup) (set : IsSetup s) (Q H : List ℕ → Type 0) (rules : AreR
       let rank = rank_of n.core.tune in (
         record { core = is.core; frame = is.frame; stage = hears_is s set s.profile n.frame now j n.core w p (rules.short p few) open_ },
         relay_orders now (reply_by rank w p)
-            (cond_both (is_foreign rank (message_of p)) Ignore (reply_to w.flood p) (λ (r : Reply). (q : List ℕ) → r ≡ Relay q → Q q) (λ foreign. ignored) (λ own q relays. rules.relay w.flood p q relays few)),
+            (cond_both (is_foreign rank (message_of p)) Ignore (reply_to w.flood p) (λ (r : Reply). (q : List ℕ) → r ≡ Relay q → Q q)
+            (λ foreign. ignored) (λ own q relays. rules.relay w.flood p q relays few)),
       )
 
   heard_row : (n : Node) (now : ℕ) (p : List ℕ) (stage : Stage) → IsNode s n → IsAt s n.frame n.core stage → H p

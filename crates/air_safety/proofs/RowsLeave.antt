@@ -20,13 +20,15 @@ use Rattle.node_core.specs.Nodes.{Node, closes_at, zero_from}
 use Rattle.node_core.specs.Rows.{Stepped, orders_for, relaying, first_sending, reply_by, frame_alarms, window_opens, window_closes, window_hears, joins, sends}
 use Rattle.air_log.specs.Devices.{Device, Ordered}
 use Rattle.air_safety.specs.Obeying.{channel_of, channel_by, alarm_by, ordered_by}
-use Rattle.air_safety.specs.RowEffects.{Leaves, when, relayed, said, frame_channel, frame_time, BootLeaves, JoiningLeaves, HearingLeaves, SentLeaves, FrameAlarmLeaves, OpeningLeaves, ClosingLeaves}
+use Rattle.air_safety.specs.RowEffects.{Leaves, when, relayed, said, frame_channel, frame_time, BootLeaves, JoiningLeaves, HearingLeaves, SentLeaves}
+use Rattle.air_safety.specs.RowEffects.{FrameAlarmLeaves, OpeningLeaves, ClosingLeaves}
 use Rattle.air_safety.specs.Walks.{after_row}
 use Rattle.air_safety.proofs.RowsOfDevices.{row_obeyed, switched_on_is}
 
 module _ (clock : ℕ → ℕ) (s : Setup) (t : ℕ) where
   -- these orders leave this channel, alarm and order, if those were there before
-  record Come (os : List Order) (channel alarm : Option ℕ) (ordered : Option Ordered) (channel_to alarm_to : Option ℕ) (ordered_to : Option Ordered) : Type 0 where
+  record Come (os : List Order) (channel alarm : Option ℕ) (ordered : Option Ordered) (channel_to alarm_to : Option ℕ)
+      (ordered_to : Option Ordered) : Type 0 where
     channel_by_all : fold channel_by channel os ≡ channel_to
     alarm_by_all : fold (alarm_by clock t) alarm os ≡ alarm_to
     ordered_by_all : fold (ordered_by clock t) ordered os ≡ ordered_to
@@ -88,7 +90,8 @@ module _ (clock : ℕ → ℕ) (s : Setup) (t : ℕ) where
       let spent = w.flood.sent + 1 == w.flood.limit in
       by_orders Sent (Some x) d n (sends n j w) (if spent then None else c) d.alarm d.ordered (of_test spent)
     where
-      of_test : (b : Bool) → Come (if b then Off ∷ [] else []) (channel_of d.listening) d.alarm d.ordered (if b then None else channel_of d.listening) d.alarm d.ordered
+      of_test : (b : Bool) → Come (if b then Off ∷ [] else []) (channel_of d.listening) d.alarm d.ordered
+          (if b then None else channel_of d.listening) d.alarm d.ordered
       of_test true = record { channel_by_all = refl; alarm_by_all = refl; ordered_by_all = refl }
       of_test false = record { channel_by_all = refl; alarm_by_all = refl; ordered_by_all = refl }
 
@@ -111,7 +114,8 @@ module _ (clock : ℕ → ℕ) (s : Setup) (t : ℕ) where
       let rank = rank_of n.core.tune in
       let close = closes_at s.profile n.zero j in
       let o = said clock s t n.zero j d.ordered m in
-      let come = then_alarm (first_sending s.profile n.zero j m) close (Some rank) d.alarm d.ordered (Some rank) d.alarm o (says n.zero j (Some rank) d.alarm d.ordered m) in
+      let come = then_alarm (first_sending s.profile n.zero j m) close (Some rank) d.alarm d.ordered (Some rank) d.alarm o
+      (says n.zero j (Some rank) d.alarm d.ordered m) in
       by_orders Alarm None d n (window_opens s n j) (Some rank) (Some (when clock s t close)) o
       (record { channel_by_all = come.channel_by_all; alarm_by_all = come.alarm_by_all; ordered_by_all = come.ordered_by_all })
 

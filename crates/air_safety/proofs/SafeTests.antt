@@ -1,5 +1,6 @@
 -- The clauses of *Safe* by tests of the sendings of a log and of pairs of them.
-use Rattle.std.proofs.Common.{◌≡◌, ℕ, ◌+◌, List, [], ◌∷◌, Bool, true, false, not, ◌==◌, ◌&&◌, ◌||◌, nat_lt, nat_le, Option, Some, None, Contains, All, AllPairs, refl, sym, ◌∙◌, ap, arith, inl, inr, true≢false, eqb-true, ltb-true, lt-ltb, slice_get}
+use Rattle.std.proofs.Common.{◌≡◌, ℕ, ◌+◌, List, [], ◌∷◌, Bool, true, false, not, ◌==◌, ◌&&◌, ◌||◌, nat_lt, nat_le, Option, Some, None, Contains, All, AllPairs}
+use Rattle.std.proofs.Common.{refl, sym, ◌∙◌, ap, arith, inl, inr, true≢false, eqb-true, ltb-true, lt-ltb, slice_get}
 use Rattle.std.specs.List.{list_all}
 use Rattle.std.specs.Str.{bytes_eq}
 use Rattle.std.proofs.lemmas.Bool.{and_parts, and_from, leb-true, eq-eqb, or_cases}
@@ -18,11 +19,11 @@ use Rattle.air_log.specs.Trails.{frame_start}
 use Rattle.air_log.specs.Safe.{WithinOneFrame, NoOverlap, SameButForCounter, OneInitiator, Silence, SameSlot, SameStep, Alike, Begins}
 use Rattle.air_log.proofs.ComputedTrails.{all_passes}
 
-implied : (a b : Bool) → (not a || b) ≡ true → a ≡ true → b ≡ true
+pub implied : (a b : Bool) → (not a || b) ≡ true → a ≡ true → b ≡ true
 implied true b is at = is
 implied false b is at = absurd (true≢false (sym at))
 
-no_clash : (a b c : Bool) → not (a && (b && c)) ≡ true → a ≡ true → b ≡ true → c ≡ true → ⊥
+pub no_clash : (a b c : Bool) → not (a && (b && c)) ≡ true → a ≡ true → b ≡ true → c ≡ true → ⊥
 no_clash true true true is x y z = true≢false (sym is)
 no_clash false b c is x y z = true≢false (sym x)
 no_clash true false c is x y z = true≢false (sym y)

@@ -1,5 +1,6 @@
 -- What a node says in a slot may be said there, and fits the packets of its profile.
-use Rattle.std.proofs.Common.{◌≡◌, ℕ, ◌-◌, ◌≤◌, List, [], ◌∷◌, length, Bool, true, ◌==◌, nat_lt, nat_le, if◌then◌else◌, slice_index, slice_get, Some, None, Option, IfSome, option_map, find, refl, sym, ◌∙◌, arith, eq-eqb}
+use Rattle.std.proofs.Common.{◌≡◌, ℕ, ◌-◌, ◌≤◌, List, [], ◌∷◌, length, Bool, true, ◌==◌, nat_lt, nat_le, if◌then◌else◌, slice_index, slice_get, Some, None}
+use Rattle.std.proofs.Common.{Option, IfSome, option_map, find, refl, sym, ◌∙◌, arith, eq-eqb}
 use Rattle.std.specs.List.{AllByRecursion}
 use Rattle.std.proofs.lemmas.Bool.{cond_both, and_parts, leb-true, ltb-true, ltb-false, eqb-true, eqb-false}
 use Rattle.std.proofs.lemmas.List.Elements.{recursion_from_All}
@@ -20,7 +21,7 @@ use Rattle.lwb_member.proofs.HostPlanned.{closing_fits}
 use Rattle.air_log.proofs.SmallPlans.{few_slots}
 use Rattle.air_safety.specs.StreamRanges.{IsWaiting}
 use Rattle.air_safety.specs.PlanRanges.{IsWholePlan}
-use Rattle.air_safety.specs.SpokenRanges.{IsOfProfile}
+use Rattle.air_safety.specs.PacketKinds.{IsOfProfile}
 use Rattle.air_safety.specs.CoreRanges.{IsSetup, IsCore}
 use Rattle.air_safety.proofs.StreamsInRange.{stream_is}
 use Rattle.air_safety.proofs.SpokenInRange.{kind_of, schedule_short, room}
@@ -95,7 +96,12 @@ module _ (s : Setup) (set : IsSetup s) where
   data_says j i c (Some w) is low high few next most waits =
       let has = room s.profile set.profile in
       record {
-        may = (record { slot = (low, high); counter = omega arith; boot = is.boot; stream = few; seq = omega (arith, waits.seq) }, set.id.0, set.id.1, omega (arith, waits.payload, has.payload));
+        may = (
+          record { slot = (low, high); counter = omega arith; boot = is.boot; stream = few; seq = omega (arith, waits.seq) },
+          set.id.0,
+          set.id.1,
+          omega (arith, waits.payload, has.payload),
+        );
         short = omega (arith, waits.payload, has.packet);
         of_profile = waits.payload;
         kind = refl;
@@ -107,7 +113,17 @@ module _ (s : Setup) (set : IsSetup s) where
   request_says j c None i is low high few = tt
   request_says j c (Some n) i is low high few =
       record {
-        may = (record { slot = (low, high); counter = omega arith; boot = is.boot; stream = few; interval = (stream_is s.profile c.streams n is.streams).wish }, set.id.0, set.id.1);
+        may = (
+          record {
+            slot = (low, high);
+            counter = omega arith;
+            boot = is.boot;
+            stream = few;
+            interval = (stream_is s.profile c.streams n is.streams).wish;
+          },
+          set.id.0,
+          set.id.1,
+        );
         short = (room s.profile set.profile).request;
         of_profile = tt;
         kind = refl;
@@ -123,7 +139,8 @@ module _ (s : Setup) (set : IsSetup s) where
       record {
         may = range_from x j 0 (record {
           count = omega arith;
-          place = closing_fits made.gap made.plan.contend j c.plan h.gap.0 h.plan.contend ((is.hosted host).contend ∙ sym h.contend) (few_owners c.plan is.plan) last;
+          place = closing_fits made.gap made.plan.contend j c.plan h.gap.0 h.plan.contend ((is.hosted host).contend ∙ sym h.contend)
+              (few_owners c.plan is.plan) last;
           rank = h.plan.rank;
           boot = (omega (arith, h.boot, is.boot.0), h.plan.boot);
           gap = h.gap.1;
@@ -139,18 +156,22 @@ module _ (s : Setup) (set : IsSetup s) where
       }
 
   pub says : (f j : ℕ) (part : Part) (c : Core) → IsCore s c → IsPlaced c.plan j part → Says part j (opened s f part c).message
-  says f j Opening c is at = cond_both (hosts_now f c) (Some (ScheduleOf (opening c.plan))) None (Says Opening j) (λ now. opening_says f j c is at now) (λ not. tt)
+  says f j Opening c is at = cond_both (hosts_now f c) (Some (ScheduleOf (opening c.plan))) None (Says Opening j) (λ now. opening_says f j c is at now)
+      (λ not. tt)
   says f j (DataSlot owner) c is at =
       let i = stream_of owner in
       let x = stream_is s.profile c.streams i is.streams in
       let waits : IfSome (first_waiting c.streams i) (IsWaiting s.profile (stream_at c.streams i).next) =
-      first_of (IsWaiting s.profile (stream_at c.streams i).next) (stream_at c.streams i).queue (recursion_from_All (IsWaiting s.profile (stream_at c.streams i).next) (stream_at c.streams i).queue x.queue) in
+      first_of (IsWaiting s.profile (stream_at c.streams i).next) (stream_at c.streams i).queue
+      (recursion_from_All (IsWaiting s.profile (stream_at c.streams i).next) (stream_at c.streams i).queue x.queue) in
       cond_both (node_of owner == s.id) (option_map (data_of s.id c i) (first_waiting c.streams i)) None (Says (DataSlot owner) j)
       (λ own. data_says j i c (first_waiting c.streams i) is at.0 at.1 (omega arith) (stream_at c.streams i).next x.next waits)
       (λ other. tt)
   says f j (Contention i) c is at =
-      let few : IfSome (requested c.streams) (λ n. n ≤ 3) = cond_both (c.streams.skips == 0) (due c.streams) None (λ (o : Option ℕ). IfSome o (λ n. n ≤ 3)) (λ now. few_due c.streams) (λ later. tt) in
+      let few : IfSome (requested c.streams) (λ n. n ≤ 3) =
+      cond_both (c.streams.skips == 0) (due c.streams) None (λ (o : Option ℕ). IfSome o (λ n. n ≤ 3)) (λ now. few_due c.streams) (λ later. tt) in
       cond_both (is_own c.own_slot i) (option_map (request_of s.id c) (requested c.streams)) None (Says (Contention i) j)
       (λ own. request_says j c (requested c.streams) i is at.0 at.1 few)
       (λ other. tt)
-  says f j Closing c is at = cond_both (hosts_now f c) (host_closes s f c) (silent c) (λ (o : Opened). Says Closing j o.message) (λ now. closing_says f j c is at now) (λ not. tt)
+  says f j Closing c is at = cond_both (hosts_now f c) (host_closes s f c) (silent c) (λ (o : Opened). Says Closing j o.message)
+      (λ now. closing_says f j c is at now) (λ not. tt)

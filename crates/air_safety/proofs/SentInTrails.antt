@@ -1,5 +1,6 @@
 -- What a trail has sent before a tick is what the log has of it.
-use Rattle.std.proofs.Common.{◌≡◌, ℕ, zero, suc, ◌+◌, length, ◌<◌, ◌≤◌, ◌↔◌, ◌⊎◌, inl, inr, List, [], ◌∷◌, ◌++◌, Bool, true, false, ◌==◌, if◌then◌else◌, Some, None, Option, Contains, refl, sym, ap, subst, arith}
+use Rattle.std.proofs.Common.{◌≡◌, ℕ, zero, suc, ◌+◌, length, ◌<◌, ◌≤◌, ◌↔◌, ◌⊎◌, inl, inr, List, [], ◌∷◌, ◌++◌, Bool, true, false, ◌==◌, if◌then◌else◌, Some}
+use Rattle.std.proofs.Common.{None, Option, Contains, refl, sym, ap, subst, arith}
 use Rattle.std.proofs.lemmas.Bool.{cond_both, cases_lt, eq-eqb, false≢true}
 use Rattle.std.proofs.lemmas.List.Elements.{All-contains, Contains-append_left, Contains-push_cases}
 use Rattle.std.proofs.lemmas.List.Sorted.{Contains-permutation, IsPermutation-sym}
@@ -15,9 +16,8 @@ use Rattle.air_log.specs.TrailEntries.{IsSentBefore}
 use Rattle.air_log.specs.Trails.{Reception, setup_of, run_end, begun_by, starts, sending_from, before_start, before_tick}
 use Rattle.air_log.proofs.KeptByEvents.{in_tick}
 use Rattle.air_log.proofs.TrailSendings.{kept_sent, at_tick}
-use Rattle.air_log.proofs.Elements.{not_in_none, in_filtered}
+use Rattle.air_log.proofs.Elements.{not_in_none, in_filtered, filtered}
 use Rattle.air_safety.specs.TrailLinks.{IsSentBelow, device_in}
-use Rattle.air_safety.proofs.FilteredElements.{filtered}
 
 -- as before, or one more that starts at the tick
 abbrev MoreAt : ℕ → List Sending → List Sending → Type 0
@@ -27,7 +27,8 @@ module _ (s : ScenarioParts) (v : ℕ) (clock : ℕ → ℕ) (hs : List Receptio
   abbrev pub sent : ℕ → List Sending
   sent t = (before_tick s v clock hs t).made.sent
 
-  starts_more : (t : ℕ) (packet : List ℕ) (d : Device) (l : Option Listening) (y : Option Sending) → MoreAt t d.made.sent (starts (setup_of s v) t packet d l y).made.sent
+  starts_more : (t : ℕ) (packet : List ℕ) (d : Device) (l : Option Listening) (y : Option Sending)
+      → MoreAt t d.made.sent (starts (setup_of s v) t packet d l y).made.sent
   starts_more t packet d None y = inl refl
   starts_more t packet d (Some l) (Some y) = inl refl
   starts_more t packet d (Some l) None = inr (sending_from (setup_of s v) t packet l, refl, refl)
@@ -44,7 +45,8 @@ module _ (s : ScenarioParts) (v : ℕ) (clock : ℕ → ℕ) (hs : List Receptio
   step_more t =
       let d = before_tick s v clock hs t in
       let e = before_start s v clock hs t d in
-      let same : e.made.sent ≡ d.made.sent = in_tick (λ y. y.made.sent ≡ d.made.sent) s v clock hs t d (kept_sent (λ xs. xs ≡ d.made.sent) clock (setup_of s v) t) refl in
+      let same : e.made.sent ≡ d.made.sent = in_tick (λ y. y.made.sent ≡ d.made.sent) s v clock hs t d
+      (kept_sent (λ xs. xs ≡ d.made.sent) clock (setup_of s v) t) refl in
       subst (λ (xs : List Sending). MoreAt t xs (begun_by (setup_of s v) t e e.ordered).made.sent) same (begun_more t e e.ordered)
 
   still_more : (t : ℕ) (xs ys : List Sending) (x : Sending) → MoreAt t xs ys → Contains xs x → Contains ys x
@@ -90,7 +92,8 @@ holds_if true xs x is there = there
 holds_if false xs x is there = absurd (false≢true is)
 
 module _ (s : ScenarioParts) (clocks : ℕ → ℕ → ℕ) (air : List Entry) (follows : FollowsTrails s clocks air) where
-  in_trail : (v : ℕ) (x : Sending) → Contains (sendings_of air) x → x.node ≡ v → (knows s.nodes v ≡ true) × Contains (device_in s clocks air v (run_end s)).made.sent x
+  in_trail : (v : ℕ) (x : Sending) → Contains (sendings_of air) x → x.node ≡ v
+      → (knows s.nodes v ≡ true) × Contains (device_in s clocks air v (run_end s)).made.sent x
   in_trail v x there node =
       let own : Contains (sent_by air v) x = in_filtered (λ (y : Sending). y.node == v) (sendings_of air) x there (eq-eqb x.node v node) in
       let of = follows.sent v in
@@ -106,12 +109,14 @@ module _ (s : ScenarioParts) (clocks : ℕ → ℕ → ℕ) (air : List Entry) (
       let own = All-contains (IsSentBefore s v (run_end s)) (device_in s clocks air v (run_end s)).made.sent x all (in_trail v x there refl).1 in
       (own.before, own.lasts)
 
-  pub sent_below : (v : ℕ) → knows s.nodes v ≡ true → (t : ℕ) → t ≤ run_end s → (x : Sending) → IsSentBelow air v t x ↔ Contains (device_in s clocks air v t).made.sent x
+  pub sent_below : (v : ℕ) → knows s.nodes v ≡ true → (t : ℕ) → t ≤ run_end s → (x : Sending) → IsSentBelow air v t x
+      ↔ Contains (device_in s clocks air v t).made.sent x
   sent_below v known t within x = (
     λ is. was_sent s v (clocks v) (heard_by air v) t (run_end s) within x (in_trail v x is.there is.node).1 is.below,
     λ there.
         let own = All-contains (IsSentBefore s v t) (device_in s clocks air v t).made.sent x (at_tick s v (clocks v) (heard_by air v) t).0 there in
-        let all = holds_if (knows s.nodes v) (device_in s clocks air v (run_end s)).made.sent x known (stays_sent s v (clocks v) (heard_by air v) t (run_end s) within x there) in
+        let all = holds_if (knows s.nodes v) (device_in s clocks air v (run_end s)).made.sent x known
+        (stays_sent s v (clocks v) (heard_by air v) t (run_end s) within x there) in
         let both = filtered (λ (y : Sending). y.node == v) (sendings_of air) x (Contains-permutation _ _ x (follows.sent v) all) in
         record { there = both.0; node = own.node; below = own.before },
   )

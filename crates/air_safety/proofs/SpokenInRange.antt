@@ -1,5 +1,6 @@
 -- A packet that is a spelling says a message in its ranges; so do relays of it, and what a node says itself.
-use Rattle.std.proofs.Common.{◌≡◌, ℕ, zero, suc, ◌+◌, ◌*◌, ◌<◌, ◌≤◌, List, [], ◌∷◌, length, Bool, true, false, ◌||◌, ◌==◌, if◌then◌else◌, is_some, Some, None, Option, option_map, inl, inr, refl, sym, ap, subst, arith, mul-le-mul_left}
+use Rattle.std.proofs.Common.{◌≡◌, ℕ, zero, suc, ◌+◌, ◌*◌, ◌<◌, ◌≤◌, List, [], ◌∷◌, length, Bool, true, false, ◌||◌, ◌==◌, if◌then◌else◌, is_some, Some, None}
+use Rattle.std.proofs.Common.{Option, option_map, inl, inr, refl, sym, ap, subst, arith, mul-le-mul_left}
 use Rattle.std.specs.Prelude.{slice_index, slice_set, bytes_eq}
 use Rattle.std.proofs.lemmas.Bool.{cond_both, and_parts, or_left, or_right, leb-true, ltb-true, eqb-true, false≢true}
 use Rattle.std.proofs.lemmas.List.{length-set, length-drop}
@@ -106,7 +107,9 @@ schedule_parts q x is = parts_of x (slot_of q) (counter_of q) (and_parts _ _ (sp
 schedule_may : (q : List ℕ) (x : Schedule) → schedule_of q ≡ Some x → IsSized q × MaySay (slot_of q) (ScheduleOf x)
 schedule_may q x is =
     let parts = schedule_parts q x is in
-    let same : spelling x (slot_of q) (counter_of q) ≡ q = bytes_same (spelling x (slot_of q) (counter_of q)) q (and_parts (in_range x (slot_of q) (counter_of q)) (bytes_eq (spelling x (slot_of q) (counter_of q)) q) (spelled_by q x is)).1 in
+    let same : spelling x (slot_of q) (counter_of q) ≡ q =
+    bytes_same (spelling x (slot_of q) (counter_of q)) q
+    (and_parts (in_range x (slot_of q) (counter_of q)) (bytes_eq (spelling x (slot_of q) (counter_of q)) q) (spelled_by q x is)).1 in
     let long = length-spelling x (slot_of q) (counter_of q) in (
       record { least = omega (arith, ap length same, long, schedule_long x); counter = parts.count },
       range_from x (slot_of q) 0 (record {
@@ -136,8 +139,18 @@ read_by q b c o = if b then Some (DataOf (data_in q)) else if c then Some (Reque
 meant : (q : List ℕ) (b c : Bool) (o : Option Schedule) → is_data q ≡ b → is_request q ≡ c → schedule_of q ≡ o → (b || c || is_some o) ≡ true
     → IsMeant q (read_by q b c o)
 meant q true c o sent request schedule is = let may = data_may q sent in record { message = DataOf (data_in q); read = refl; sized = may.0; may = may.1 }
-meant q false true o sent request schedule is = let may = request_may q request in record { message = RequestOf (request_in q); read = refl; sized = may.0; may = may.1 }
-meant q false false (Some x) sent request schedule is = let may = schedule_may q x schedule in record { message = ScheduleOf x; read = refl; sized = may.0; may = may.1 }
+meant q false true o sent request schedule is = let may = request_may q request in record {
+  message = RequestOf (request_in q);
+  read = refl;
+  sized = may.0;
+  may = may.1;
+}
+meant q false false (Some x) sent request schedule is = let may = schedule_may q x schedule in record {
+  message = ScheduleOf x;
+  read = refl;
+  sized = may.0;
+  may = may.1;
+}
 meant q false false None sent request schedule is = absurd (false≢true is)
 
 pub spoken : (p : Numbers) (q : List ℕ) → is_packet q ≡ true → length q ≤ p.packet_max → IsSpoken p q
@@ -175,7 +188,9 @@ pub relay_spoken : (p : Numbers) (f : FloodState) (h q : List ℕ) → reply_to 
 relay_spoken p f h q is few =
     let parts = relayed_parts f h q is in
     let again = spelled_again f.kind h (counter_of h + 1) (fitting f h parts.0).0 (omega (arith, parts.1)) in
-    subst (IsSpoken p) (sym parts.2) (spoken p (slice_set h 2 (counter_of h + 1)) (packet_of f.kind (slice_set h 2 (counter_of h + 1)) again) (omega (arith, length-set h 2 (counter_of h + 1), few)))
+    subst (IsSpoken p) (sym parts.2)
+    (spoken p (slice_set h 2 (counter_of h + 1)) (packet_of f.kind (slice_set h 2 (counter_of h + 1)) again)
+    (omega (arith, length-set h 2 (counter_of h + 1), few)))
 
 -- what a node says itself
 abbrev pub kind_of : Message → Kind
@@ -200,7 +215,8 @@ own_spoken p m j may few = spoken p (bytes_of m j) (said_is m j may).packet (ome
 least_most : (n w : ℕ) (passes : ℕ → Bool) → least n w passes ≤ w + n
 unfolding least
 least_most zero w passes = omega arith
-least_most (suc n) w passes = cond_both (passes w) w (least n (w + 1) passes) (λ (k : ℕ). k ≤ w + suc n) (λ here. omega arith) (λ further. omega (arith, least_most n (w + 1) passes))
+least_most (suc n) w passes = cond_both (passes w) w (least n (w + 1) passes) (λ (k : ℕ). k ≤ w + suc n) (λ here. omega arith)
+    (λ further. omega (arith, least_most n (w + 1) passes))
 
 few_owners : (cs : List ℕ) → length cs ≤ 40 → owners_length cs ≤ 52
 few_owners [] few = omega arith
@@ -229,7 +245,12 @@ pub record HasRoom (p : Numbers) : Type 0 where
 
 pub room : (p : Numbers) → IsProfile p → HasRoom p
 room p (inl is) = rw is (record { packet = omega arith; payload = omega arith; request = omega arith; schedule = omega arith })
-room p (inr is) = rw is.0 (record { packet = omega arith; payload = omega arith; request = omega arith; schedule = cond_both (p.contend == 0) 61 74 (λ (n : ℕ). n ≤ 125) (λ none. omega arith) (λ some. omega arith) })
+room p (inr is) = rw is.0 (record {
+  packet = omega arith;
+  payload = omega arith;
+  request = omega arith;
+  schedule = cond_both (p.contend == 0) 61 74 (λ (n : ℕ). n ≤ 125) (λ none. omega arith) (λ some. omega arith);
+})
 
 pub schedule_short : (p : Numbers) (x : Schedule) → IsProfile p → IsWholePlan x.plan → x.plan.contend ≡ p.contend
     → message_length (ScheduleOf x) ≤ p.packet_max

@@ -1,5 +1,6 @@
 -- A tick, step by step: what each step keeps holds behind it.
-use Rattle.std.proofs.Common.{◌≡◌, inl, inr, ℕ, zero, suc, ◌<◌, ◌≤◌, List, [], ◌∷◌, ◌++◌, Bool, true, false, ◌==◌, if◌then◌else◌, fold, Some, None, Option, Contains, refl, sym, ◌∙◌, ap, subst, arith, eqb-true, true≢false}
+use Rattle.std.proofs.Common.{◌≡◌, inl, inr, ℕ, zero, suc, ◌<◌, ◌≤◌, List, [], ◌∷◌, ◌++◌, Bool, true, false, ◌==◌, if◌then◌else◌, fold, Some, None, Option}
+use Rattle.std.proofs.Common.{Contains, refl, sym, ◌∙◌, ap, subst, arith, eqb-true, true≢false}
 use Rattle.std.proofs.lemmas.Bool.{cond_both, cond-false}
 use Rattle.std.proofs.lemmas.List.{append_assoc}
 use Rattle.std.proofs.lemmas.List.Sums.{fold-append}
@@ -22,17 +23,16 @@ use Rattle.node_core.specs.declared.stage.Stage.{Stage}
 use Rattle.node_core.specs.declared.stage.Stage.TheVariants.{Idle, Scanning, AwaitFrame, AwaitSlot, InWindow}
 use Rattle.node_core.specs.Nodes.{Node}
 use Rattle.node_core.specs.Rows.{Stepped, at_alarm, at_heard, at_sent, scanner_hears, joins, sends}
-use Rattle.node_core.specs.Runs.{orders_by}
+use Rattle.node_core.specs.Rows.{orders_by}
 use Rattle.air_log.specs.Devices.{Device, Power, PowerOff, PowerOn, Listening, Ordered, obeyed, moved, event, event_by}
 use Rattle.air_log.specs.ScriptedDevices.{after_act, after_line, dropped, with_new_core}
 use Rattle.air_log.specs.AlarmRuns.{IsAlarmRun, after_alarms}
 use Rattle.air_log.specs.Trails.{Reception, setup_of, run_end, lines_at, ending_at, hears, ended, ended_by, is_due, begun, begun_by, starts, before_tick}
 use Rattle.air_log.proofs.AlarmRuns.{alarms_are_run}
 use Rattle.air_log.proofs.NextDue.{some_byte}
-use Rattle.air_log.proofs.Elements.{contains_head}
+use Rattle.air_log.proofs.Elements.{contains_head, filtered}
 use Rattle.air_safety.specs.Phases.{Phase, Lines, Hearings, End, Alarms, Start, Over, device_at, IsKnown, SilentBy, IsNextLine, IsNextHearing, IsNextAlarm}
 use Rattle.air_safety.specs.Walks.{AwaitsFrame, NoWindow, HasNoWindow, IsLost, Now, Keeps}
-use Rattle.air_safety.proofs.FilteredElements.{filtered}
 use Rattle.air_safety.proofs.KnownDevices.{line_known, told_known, hearing_known, taken_known, end_known, alarm_known, over_known, begun_known, passed_known}
 use Rattle.air_safety.proofs.LinesOfTick.{is_told}
 use Rattle.air_safety.proofs.UnmovedDevices.{unmoved}

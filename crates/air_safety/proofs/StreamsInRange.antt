@@ -1,5 +1,6 @@
 -- Whatever is done to the streams of a node, they stay in their ranges.
-use Rattle.std.proofs.Common.{◌≡◌, ℕ, zero, suc, ◌+◌, ◌-◌, ◌%◌, ◌^◌, ◌<◌, ◌≤◌, List, [], ◌∷◌, length, fold, map, Bool, true, false, not, ◌&&◌, ◌||◌, ◌==◌, nat_lt, is_none, if◌then◌else◌, Some, refl, ◌∙◌, arith}
+use Rattle.std.proofs.Common.{◌≡◌, ℕ, zero, suc, ◌+◌, ◌-◌, ◌%◌, ◌^◌, ◌<◌, ◌≤◌, List, [], ◌∷◌, length, fold, map, Bool, true, false, not, ◌&&◌, ◌||◌, ◌==◌}
+use Rattle.std.proofs.Common.{nat_lt, is_none, if◌then◌else◌, Some, refl, ◌∙◌, arith}
 use Rattle.std.specs.List.{AllByRecursion, list_all, slice_index_or}
 use Rattle.std.proofs.lemmas.Bool.{cond_both, and_parts, leb-true, ltb-true}
 use Rattle.std.proofs.lemmas.List.{length-set, length-map, length_push, length-drop}
@@ -7,7 +8,9 @@ use Rattle.std.proofs.lemmas.List.Elements.{All-nil, All-set, All-map, All-push,
 use Rattle.lwb_base.specs.Profile.{Numbers}
 use Rattle.lwb_base.specs.Messages.{Ask, Schedule, node_of, stream_of}
 use Rattle.schedule_codec.specs.AckLists.{ask_in_range}
-use Rattle.bus_rules.specs.Streams.{Waiting, Stream, Streams, no_stream, cleared, stream_at, with_stream, queued, put_to, put, declared, left, taken, without_first, unbound, heard_host, is_host, names, acknowledged, owns, forgets, forgotten, agrees, with_agreed, after_contention, tries_after, due, schedule_heard, granted, named_in, wishes, emptied}
+use Rattle.bus_rules.specs.Streams.{Waiting, Stream, Streams, no_stream, cleared, stream_at, with_stream, queued, put_to, put, declared, left, taken}
+use Rattle.bus_rules.specs.Streams.{without_first, unbound, heard_host, is_host, names, acknowledged, owns, forgets, forgotten, agrees, with_agreed}
+use Rattle.bus_rules.specs.Streams.{after_contention, tries_after, due, schedule_heard, granted, named_in, wishes, emptied}
 use Rattle.air_safety.specs.StreamRanges.{IsWaiting, IsStream, AreStreams}
 
 -- the element at a place, or another
@@ -24,7 +27,11 @@ module _ (p : Numbers) where
   no_stream_is = record { wish = omega arith; agreed = omega arith; few = omega arith; next = omega arith; queue = All-nil (IsWaiting p 0) }
 
   pub cleared_are : AreStreams p cleared
-  cleared_are = record { four = refl; each = All-from_recursion (IsStream p) cleared.all (no_stream_is, (no_stream_is, (no_stream_is, (no_stream_is, tt)))); tries = omega arith }
+  cleared_are = record {
+    four = refl;
+    each = All-from_recursion (IsStream p) cleared.all (no_stream_is, (no_stream_is, (no_stream_is, (no_stream_is, tt))));
+    tries = omega arith;
+  }
 
   pub stream_is : (s : Streams) (i : ℕ) → AreStreams p s → IsStream p (stream_at s i)
   stream_is s i are = at_or (IsStream p) s.all i no_stream no_stream_is (recursion_from_All (IsStream p) s.all are.each)
@@ -40,7 +47,13 @@ module _ (p : Numbers) where
   pub left_are : (s : Streams) (i : ℕ) → AreStreams p s → AreStreams p (left i s)
   left_are s i are =
       let x = stream_is s i are in
-      with_are s i (emptied (stream_at s i)) are (record { wish = omega arith; agreed = x.agreed; few = omega arith; next = x.next; queue = All-nil (IsWaiting p (stream_at s i).next) })
+      with_are s i (emptied (stream_at s i)) are (record {
+        wish = omega arith;
+        agreed = x.agreed;
+        few = omega arith;
+        next = x.next;
+        queue = All-nil (IsWaiting p (stream_at s i).next);
+      })
 
   -- a packet that is put
   queued_is : (x : Stream) (payload : List ℕ) → length payload ≤ p.payload_max → length x.queue < 16 → x.next < 65535 → IsStream p x
@@ -53,7 +66,12 @@ module _ (p : Numbers) where
         agreed = is.agreed;
         few = omega arith;
         next = omega arith;
-        queue = All-push (IsWaiting p (x.next + 1)) x.queue w (All-weaker (IsWaiting p x.next) (IsWaiting p (x.next + 1)) (λ y early. record { seq = omega (arith, early.seq); payload = early.payload }) x.queue is.queue) (record { seq = omega arith; payload = short });
+        queue = All-push (IsWaiting p (x.next + 1)) x.queue w
+            (All-weaker (IsWaiting p x.next) (IsWaiting p (x.next + 1))
+            (λ y early. record { seq = omega (arith, early.seq); payload = early.payload }) x.queue is.queue) (record {
+              seq = omega arith;
+              payload = short;
+            });
       }
 
   put_to_is : (x : Stream) (payload : List ℕ) → length payload ≤ p.payload_max → IsStream p x → IsStream p (put_to payload x)
@@ -72,7 +90,13 @@ module _ (p : Numbers) where
   taken_are s i are =
       let x = stream_is s i are in
       let gone = length-drop 1 (stream_at s i).queue in
-      with_are s i (without_first (stream_at s i)) are (record { wish = x.wish; agreed = x.agreed; few = omega (arith, gone, x.few); next = x.next; queue = All-drop (IsWaiting p (stream_at s i).next) 1 (stream_at s i).queue x.queue })
+      with_are s i (without_first (stream_at s i)) are (record {
+        wish = x.wish;
+        agreed = x.agreed;
+        few = omega (arith, gone, x.few);
+        next = x.next;
+        queue = All-drop (IsWaiting p (stream_at s i).next) 1 (stream_at s i).queue x.queue;
+      })
 
   -- what is agreed
   agrees_is : (x : Stream) (interval : ℕ) → interval ≤ 120 → IsStream p x → IsStream p (agrees interval x)
@@ -83,7 +107,11 @@ module _ (p : Numbers) where
 
   each_are : (f : Stream → Stream) (s : Streams) → ((x : Stream) → IsStream p x → IsStream p (f x)) → AreStreams p s
       → AreStreams p (record s { all = map f s.all })
-  each_are f s keeps are = record { four = length-map s.all f ∙ are.four; each = All-map (IsStream p) f s.all (All-weaker (IsStream p) (λ x. IsStream p (f x)) keeps s.all are.each); tries = are.tries }
+  each_are f s keeps are = record {
+    four = length-map s.all f ∙ are.four;
+    each = All-map (IsStream p) f s.all (All-weaker (IsStream p) (λ x. IsStream p (f x)) keeps s.all are.each);
+    tries = are.tries;
+  }
 
   pub unbound_are : (s : Streams) → AreStreams p s → AreStreams p (unbound s)
   unbound_are s are =
@@ -92,7 +120,8 @@ module _ (p : Numbers) where
 
   pub contention_are : (s : Streams) (node : ℕ) → AreStreams p s → AreStreams p (after_contention node s)
   contention_are s node are =
-      cond_both (is_none (due s)) s (if s.skips == 0 then record s { tries = tries_after s; skips = node % 2 ^ tries_after s } else record s { skips = s.skips - 1 }) (AreStreams p)
+      cond_both (is_none (due s)) s
+      (if s.skips == 0 then record s { tries = tries_after s; skips = node % 2 ^ tries_after s } else record s { skips = s.skips - 1 }) (AreStreams p)
       (λ none. are)
       (λ some. cond_both (s.skips == 0) (record s { tries = tries_after s; skips = node % 2 ^ tries_after s }) (record s { skips = s.skips - 1 }) (AreStreams p)
       (λ now. record { four = are.four; each = are.each; tries = omega arith })

@@ -1,5 +1,6 @@
 -- Whatever a host does to its table, it stays in its ranges.
-use Rattle.std.proofs.Common.{◌≡◌, ◌≢◌, ◌⊎◌, inl, inr, ℕ, ◌+◌, ◌≤◌, List, [], ◌∷◌, length, filter, filter_map, map, Bool, true, false, not, ◌&&◌, ◌==◌, nat_lt, is_none, cond, if◌then◌else◌, Some, None, Option, refl, sym, subst, arith}
+use Rattle.std.proofs.Common.{◌≡◌, ◌≢◌, ◌⊎◌, inl, inr, ℕ, ◌+◌, ◌≤◌, List, [], ◌∷◌, length, filter, filter_map, map, Bool, true, false, not, ◌&&◌, ◌==◌, nat_lt}
+use Rattle.std.proofs.Common.{is_none, cond, if◌then◌else◌, Some, None, Option, refl, sym, subst, arith}
 use Rattle.std.specs.Prelude.{All}
 use Rattle.std.specs.List.{cons_option}
 use Rattle.std.specs.Option.{IfSome, option_map_or}
@@ -9,7 +10,8 @@ use Rattle.std.proofs.lemmas.List.Elements.{All-nil, All-cons, All-head, All-tai
 use Rattle.lwb_packets.specs.Ranges.{between}
 use Rattle.lwb_base.specs.Messages.{Ask, code_of}
 use Rattle.schedule_codec.specs.AckLists.{ask_in_range}
-use Rattle.bus_rules.specs.Tables.{Entry, Table, AreEntries, Above, Ascends, no_table, has_code, entry_of, without, with_entry, is_full, new_entry, after_request, interval_in, interval_of, seen, missed}
+use Rattle.bus_rules.specs.Tables.{Entry, Table, AreEntries, Above, Ascends, no_table, has_code, entry_of, without, with_entry, is_full, new_entry}
+use Rattle.bus_rules.specs.Tables.{after_request, interval_in, interval_of, seen, missed}
 use Rattle.bus_rules.specs.Slots.{owner_heard}
 use Rattle.stream_table.proofs.Order.{Keeps, Sifts, none_above, ascends_map, ascends_filter_map, ascends_filter, ascends_with}
 use Rattle.air_safety.specs.TableRanges.{IsEntry, IsTable}
@@ -61,7 +63,8 @@ with_option (Some e) es is all = All-cons IsEntry e es is all
 
 each_sifted : (g : Entry → Option Entry) (es : List Entry) → ((e : Entry) → IsEntry e → IfSome (g e) IsEntry) → All IsEntry es → All IsEntry (filter_map g es)
 each_sifted g [] keeps all = all
-each_sifted g (e ∷ es) keeps all = with_option (g e) (filter_map g es) (keeps e (All-head IsEntry e es all)) (each_sifted g es keeps (All-tail IsEntry e es all))
+each_sifted g (e ∷ es) keeps all = with_option (g e) (filter_map g es) (keeps e (All-head IsEntry e es all))
+    (each_sifted g es keeps (All-tail IsEntry e es all))
 
 pub mapped_is : (f : Entry → Entry) (t : Table) (place : ℕ) → Keeps f → ((e : Entry) → IsEntry e → IsEntry (f e)) → IsTable t
     → IsTable (record { entries = map f t.entries; place = place })
@@ -89,7 +92,10 @@ missed_is c e is = missed_cases (λ o. IfSome o IsEntry) c e (record { code = is
 pub owner_is : (owner : ℕ) (heard : Bool) (t : Table) → IsTable t → IsTable (owner_heard heard owner t)
 owner_is owner true t is = mapped_is (seen owner) t t.place (seen_keeps owner) (λ e x. record { code = x.code; boot = x.boot; interval = x.interval }) is
 owner_is owner false t is = record {
-  entries = record { few = omega (arith, sifted_few (missed owner) t.entries, is.entries.few); ascends = ascends_filter_map (missed owner) t.entries (missed_sifts owner) is.entries.ascends };
+  entries = record {
+    few = omega (arith, sifted_few (missed owner) t.entries, is.entries.few);
+    ascends = ascends_filter_map (missed owner) t.entries (missed_sifts owner) is.entries.ascends;
+  };
   each = each_sifted (missed owner) t.entries (missed_is owner) is.each;
 }
 
@@ -100,7 +106,8 @@ with_few e (x ∷ es) =
     cond_both (e.code == x.code) (e ∷ es) (if nat_lt e.code x.code then e ∷ x ∷ es else x ∷ with_entry e es)
     (λ (l : List Entry). length l ≤ length (x ∷ es) + 1)
     (λ same. omega arith)
-    (λ other. cond_both (nat_lt e.code x.code) (e ∷ x ∷ es) (x ∷ with_entry e es) (λ (l : List Entry). length l ≤ length (x ∷ es) + 1) (λ less. omega arith) (λ more. omega (arith, with_few e es)))
+    (λ other. cond_both (nat_lt e.code x.code) (e ∷ x ∷ es) (x ∷ with_entry e es) (λ (l : List Entry). length l ≤ length (x ∷ es) + 1)
+    (λ less. omega arith) (λ more. omega (arith, with_few e es)))
 
 -- an entry instead of one of the same code
 above_lower : (low high : ℕ) (es : List Entry) → low ≤ high → Above high es → Above low es
@@ -116,7 +123,8 @@ with_same e (x ∷ es) up there =
     (λ other.
     let apart = eqb-false e.code x.code other in
     let turned : x.code ≢ e.code = omega arith in
-    let later : is_none (entry_of es e.code) ≡ false = subst (λ (b : Bool). is_none (cond b (Some x) (entry_of es e.code)) ≡ false) (ne_eqb x.code e.code turned) there in
+    let later : is_none (entry_of es e.code) ≡ false =
+    subst (λ (b : Bool). is_none (cond b (Some x) (entry_of es e.code)) ≡ false) (ne_eqb x.code e.code turned) there in
     cond_both (nat_lt e.code x.code) (e ∷ x ∷ es) (x ∷ with_entry e es) (λ (l : List Entry). length l ≤ length (x ∷ es))
     (λ less.
     let below = ltb-true e.code x.code less in
@@ -130,7 +138,8 @@ with_is e [] this all = All-cons IsEntry e [] this all
 with_is e (x ∷ es) this all =
     let first = All-head IsEntry x es all in
     let rest = All-tail IsEntry x es all in
-    cond_both (e.code == x.code) (e ∷ es) (if nat_lt e.code x.code then e ∷ x ∷ es else x ∷ with_entry e es) (All IsEntry) (λ same. All-cons IsEntry e es this rest)
+    cond_both (e.code == x.code) (e ∷ es) (if nat_lt e.code x.code then e ∷ x ∷ es else x ∷ with_entry e es) (All IsEntry)
+    (λ same. All-cons IsEntry e es this rest)
     (λ other. cond_both (nat_lt e.code x.code) (e ∷ x ∷ es) (x ∷ with_entry e es) (All IsEntry) (λ less. All-cons IsEntry e (x ∷ es) this all)
     (λ more. All-cons IsEntry x (with_entry e es) first (with_is e es this rest)))
 
@@ -157,12 +166,19 @@ request_is frame t a range is =
     cond_both (is_full a t) t.entries (if a.interval == 0 then gone else with_entry new t.entries) Kept (λ full. is)
     (λ room. cond_both (a.interval == 0) gone (with_entry new t.entries) Kept
     (λ ends. record {
-      entries = record { few = omega (arith, filtered_few (λ e. not (has_code (code_of a) e)) t.entries, is.entries.few); ascends = ascends_filter (λ e. not (has_code (code_of a) e)) t.entries is.entries.ascends };
+      entries = record {
+        few = omega (arith, filtered_few (λ e. not (has_code (code_of a) e)) t.entries, is.entries.few);
+        ascends = ascends_filter (λ e. not (has_code (code_of a) e)) t.entries is.entries.ascends;
+      };
       each = All-filter (λ e. not (has_code (code_of a) e)) IsEntry t.entries is.each;
     })
     (λ asks.
     let some = eqb-false a.interval 0 asks in
-    let entry : IsEntry new = record { code = (omega (arith, asked.node, asked.stream), omega (arith, asked.node, asked.stream)); boot = asked.boot; interval = (omega (arith, some), asked.interval) } in
+    let entry : IsEntry new = record {
+      code = (omega (arith, asked.node, asked.stream), omega (arith, asked.node, asked.stream));
+      boot = asked.boot;
+      interval = (omega (arith, some), asked.interval);
+    } in
     record {
       entries = record { few = with_room a t new refl asks room is.entries; ascends = ascends_with new t.entries is.entries.ascends };
       each = with_is new t.entries entry is.each;
@@ -175,7 +191,8 @@ interval_found (Some e) is = is.interval.1
 
 found_is : (es : List Entry) (c : ℕ) → All IsEntry es → IfSome (entry_of es c) IsEntry
 found_is [] c all = tt
-found_is (e ∷ es) c all = cond_both (has_code c e) (Some e) (entry_of es c) (λ (o : Option Entry). IfSome o IsEntry) (λ this. All-head IsEntry e es all) (λ other. found_is es c (All-tail IsEntry e es all))
+found_is (e ∷ es) c all = cond_both (has_code c e) (Some e) (entry_of es c) (λ (o : Option Entry). IfSome o IsEntry)
+    (λ this. All-head IsEntry e es all) (λ other. found_is es c (All-tail IsEntry e es all))
 
 pub interval_is : (t : Table) (c : ℕ) → IsTable t → interval_of t c ≤ 120
 interval_is t c is = interval_found (entry_of t.entries c) (found_is t.entries c is.each)

@@ -23,7 +23,13 @@ own_is v hosts =
 
 module _ (s : ScenarioParts) (sound : IsSoundScenario s) (v : ℕ) (low : 1 ≤ v) (high : v ≤ 200) where
   pub set : IsSetup (setup_of s v)
-  set = record { profile = sound.profile; id = (low, high); own = own_is v s.hosts; ranks = (sound.some_hosts, sound.few_hosts); sends = (sound.some_sends, sound.few_sends) }
+  set = record {
+    profile = sound.profile;
+    id = (low, high);
+    own = own_is v s.hosts;
+    ranks = (sound.some_hosts, sound.few_hosts);
+    sends = (sound.some_sends, sound.few_sends);
+  }
 
   module _ (Q H : List ℕ → Type 0) (rules : AreRules (setup_of s v) Q H) (clock : ℕ → ℕ) (hs : List Reception) where
     lines : (t : ℕ) → AllByRecursion (IsLine (setup_of s v) set Q H rules clock t) (lines_at s v t)
@@ -32,7 +38,8 @@ module _ (s : ScenarioParts) (sound : IsSoundScenario s) (v : ℕ) (low : 1 ≤ 
         (λ l is both. ((and_parts (l.node == v) (starts_at s l == t) both).0, is.act)) (recursion_from_All (IsScriptLine s) s.script sound.script)
 
     shorter : (t : ℕ) → HeardBefore H hs (suc t) → HeardBefore H hs t
-    shorter t short = All-weaker (λ (h : Reception). h.end < suc t → H h.packet) (λ (h : Reception). h.end < t → H h.packet) (λ h few before. few (omega (arith, before))) hs short
+    shorter t short = All-weaker (λ (h : Reception). h.end < suc t → H h.packet) (λ (h : Reception). h.end < t → H h.packet)
+        (λ h few before. few (omega (arith, before))) hs short
 
     now_short : (t : ℕ) → HeardBefore H hs (suc t) → AllByRecursion (λ (h : Reception). h.end ≡ t → H h.packet) hs
     now_short t short =
@@ -53,7 +60,8 @@ module _ (s : ScenarioParts) (sound : IsSoundScenario s) (v : ℕ) (low : 1 ≤ 
     scripted_well : (t : ℕ) (d : Device) → IsSoFar t d → IsRanged Q (setup_of s v) (scripted s v clock t d)
     scripted_well t d is = lines_are (setup_of s v) set Q H rules clock t (lines_at s v t) d (lines t) (few_turned s sound v t d is.turned) is.well
 
-    heard_well : (t : ℕ) (d : Device) → HeardBefore H hs (suc t) → IsSoFar t d → IsRanged Q (setup_of s v) (heard clock (setup_of s v) t hs (scripted s v clock t d))
+    heard_well : (t : ℕ) (d : Device) → HeardBefore H hs (suc t) → IsSoFar t d
+        → IsRanged Q (setup_of s v) (heard clock (setup_of s v) t hs (scripted s v clock t d))
     heard_well t d short is = heard_is (setup_of s v) set Q H rules clock t hs (scripted s v clock t d) (now_short t short) (scripted_well t d is)
 
     ended_well : (t : ℕ) (d : Device) → HeardBefore H hs (suc t) → IsSoFar t d → IsRanged Q (setup_of s v) (before_alarms s v clock hs t d)
@@ -80,4 +88,10 @@ module _ (s : ScenarioParts) (sound : IsSoundScenario s) (v : ℕ) (low : 1 ≤ 
     through t short =
         let d = before_tick s v clock hs t in
         let is = so_far t (shorter t short) in
-        record { before = is.well; told = scripted_well t d is; hearing = heard_well t d short is; end = ended_well t d short is; alarms = alarmed_well t d short is }
+        record {
+          before = is.well;
+          told = scripted_well t d is;
+          hearing = heard_well t d short is;
+          end = ended_well t d short is;
+          alarms = alarmed_well t d short is;
+        }

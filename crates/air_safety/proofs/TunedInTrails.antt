@@ -24,10 +24,10 @@ use Rattle.air_safety.proofs.SentInTrails.{if_holds}
 
 module _ (s : ScenarioParts) (v : ℕ) (clock : ℕ → ℕ) (hs : List Reception) where
   -- before tick t the device was tuned to r at tick k
-  abbrev Tuned : ℕ → ℕ → ℕ → Type 0
+  abbrev pub Tuned : ℕ → ℕ → ℕ → Type 0
   Tuned t r k = let d = before_tick s v clock hs t in TunedAt d.made.tuned d.listening r k
 
-  step_stays : (t : ℕ) → IsTunedAs t (before_tick s v clock hs t) (before_tick s v clock hs (suc t))
+  pub step_stays : (t : ℕ) → IsTunedAs t (before_tick s v clock hs t) (before_tick s v clock hs (suc t))
   unfolding before_tick
   step_stays t =
       let d = before_tick s v clock hs t in
@@ -58,7 +58,8 @@ module _ (s : ScenarioParts) (v : ℕ) (clock : ℕ → ℕ) (hs : List Receptio
         | inr on ↦ heard_on r k d.listening d refl on
       ]
 
-  in_trail : (e : Tuning) → Contains (trail s v clock hs).made.tuned e → (k : ℕ) → e.start ≤ k → k < e.end → ListensSince e.rank k (before_tick s v clock hs (suc k))
+  in_trail : (e : Tuning) → Contains (trail s v clock hs).made.tuned e → (k : ℕ) → e.start ≤ k → k < e.end
+      → ListensSince e.rank k (before_tick s v clock hs (suc k))
   in_trail e there k from until =
       let all = All-contains (IsTunedBy v (run_end s)) (trail s v clock hs).made.tuned e (each_tuned s v clock hs) there in
       let by = all.by in
@@ -68,7 +69,8 @@ module _ (s : ScenarioParts) (v : ℕ) (clock : ℕ → ℕ) (hs : List Receptio
       listens e.rank k below ((off.same e.rank k below).0 (inl (e, there, record { rank = refl; since = from; until = until })))
 
 module _ (s : ScenarioParts) (clocks : ℕ → ℕ → ℕ) (air : List Entry) (follows : FollowsTrails s clocks air) where
-  tuned_there : (v : ℕ) (e : Tuning) → Contains (tunings_of air) e → e.node ≡ v → (knows s.nodes v ≡ true) × Contains (trail s v (clocks v) (heard_by air v)).made.tuned e
+  tuned_there : (v : ℕ) (e : Tuning) → Contains (tunings_of air) e → e.node ≡ v
+      → (knows s.nodes v ≡ true) × Contains (trail s v (clocks v) (heard_by air v)).made.tuned e
   tuned_there v e there node =
       let own : Contains (tuned_by air v) e = in_filtered (λ (y : Tuning). y.node == v) (tunings_of air) e there (eq-eqb e.node v node) in
       if_holds (knows s.nodes v) (trail s v (clocks v) (heard_by air v)).made.tuned e (Contains-permutation _ _ e (IsPermutation-sym _ _ (follows.tuned v)) own)

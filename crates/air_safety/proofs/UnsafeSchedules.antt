@@ -7,7 +7,8 @@ use Rattle.air_log.specs.Safe.{WithinOneFrame, NoOverlap, SameButForCounter, One
 use Rattle.air_log.specs.TwoNodeLog.{true_time}
 use Rattle.air_log.specs.FirstRound.{first_round}
 use Rattle.air_safety.specs.BrokenClauses.{BreaksOnly, InFrame, Apart, Alike, OneBegins}
-use Rattle.air_safety.specs.UnsafeLogs.{opened, opened_too, opened_late, closed_early, relayed_early, relayed_otherwise, relayed, relayed_late, ends_late, slots_meet, steps_meet, starts_apart, other_bytes, two_begin, not_the_host}
+use Rattle.air_safety.specs.UnsafeLogs.{opened, opened_too, opened_late, closed_early, relayed_early, relayed_otherwise, relayed, relayed_late, ends_late}
+use Rattle.air_safety.specs.UnsafeLogs.{slots_meet, steps_meet, starts_apart, other_bytes, two_begin, not_the_host}
 use Rattle.air_safety.proofs.BrokenClauses.{breaks}
 use Rattle.air_safety.proofs.SafeTests.{in_frame_by, apart_by, alike_by, one_by, silent_by}
 

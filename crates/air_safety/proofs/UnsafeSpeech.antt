@@ -20,7 +20,8 @@ use Rattle.air_log.specs.TwoNodeLog.{true_time}
 use Rattle.air_log.proofs.Elements.{not_in_none, contains_cases}
 use Rattle.air_log.proofs.ComputedTrails.{goes_through, after_ticks, computed, true_due}
 use Rattle.air_safety.specs.BrokenClauses.{BreaksOnly, Silent}
-use Rattle.air_safety.specs.UnsafeLogs.{no_power, switched_off, data_said, later_data, asked, opened, closed, granted, unheard, not_the_owner, not_due, not_opened, gone_off}
+use Rattle.air_safety.specs.UnsafeLogs.{no_power, switched_off, data_said, later_data, asked, opened, closed, granted, unheard, not_the_owner, not_due}
+use Rattle.air_safety.specs.UnsafeLogs.{not_opened, gone_off}
 use Rattle.air_safety.proofs.BrokenClauses.{breaks}
 use Rattle.air_safety.proofs.SafeTests.{in_frame_by, apart_by, alike_by, one_by}
 

@@ -41,7 +41,12 @@ keeps_nothing s v clock hs t = record {
 pub known_before : (s : ScenarioParts) (v : ℕ) (clock : ℕ → ℕ) (hs : List Reception) → IsSoundScenario s → IsClock clock
     → (t : ℕ) → t ≤ run_end s → IsKnown t Lines (before_tick s v clock hs t)
 unfolding before_tick
-known_before s v clock hs sound drifts zero within = record { sending = tt; alarm = tt; ordered = tt; off = record { radio = refl; alarm = refl; ordered = refl } }
+known_before s v clock hs sound drifts zero within = record {
+  sending = tt;
+  alarm = tt;
+  ordered = tt;
+  off = record { radio = refl; alarm = refl; ordered = refl };
+}
 known_before s v clock hs sound drifts (suc t) within =
     let in_run : t < run_end s = omega (arith, within) in
     let keeps = keeps_nothing s v clock hs t in
@@ -71,7 +76,8 @@ known_in_phase s v clock hs sound drifts t in_run phase =
     let keeps = keeps_nothing s v clock hs t in
     of_phase phase (all_hold Nothing s v clock hs t sound drifts in_run keeps (known_before s v clock hs sound drifts t (omega (arith, in_run))) tt)
   where
-    of_phase : (phase : Phase) → HoldsAll Nothing s v clock hs t sound drifts in_run (keeps_nothing s v clock hs t) → IsKnown t phase (device_at s v clock hs t phase)
+    of_phase : (phase : Phase) → HoldsAll Nothing s v clock hs t sound drifts in_run (keeps_nothing s v clock hs t)
+        → IsKnown t phase (device_at s v clock hs t phase)
     of_phase Lines all = all.lines.0
     of_phase Hearings all = all.hearings.0
     of_phase End all = all.end.0

@@ -1,5 +1,6 @@
 -- A window stays in its ranges: where it opens, where packets are heard in it, where a sending ends, and what it leaves where it closes.
-use Rattle.std.proofs.Common.{◌≡◌, ℕ, ◌<◌, ◌≤◌, ◌⊎◌, List, length, Bool, true, false, not, ◌==◌, nat_lt, if◌then◌else◌, Some, None, Option, IfSome, option_map, option_and_then, inl, inr, refl, sym, ◌∙◌, ap, subst, arith}
+use Rattle.std.proofs.Common.{◌≡◌, ℕ, ◌<◌, ◌≤◌, ◌⊎◌, List, length, Bool, true, false, not, ◌==◌, if◌then◌else◌, Some, None, Option, IfSome, option_map}
+use Rattle.std.proofs.Common.{option_and_then, inl, inr, refl, sym, ◌∙◌, ap, subst, arith}
 use Rattle.std.proofs.lemmas.Bool.{cond_both, and_from, eqb-true, le-leb}
 use Rattle.lwb_base.specs.Profile.{Numbers}
 use Rattle.lwb_base.specs.Messages.{Schedule, Ask}
@@ -10,8 +11,8 @@ use Rattle.lwb_packets.specs.declared.kind.Kind.TheVariants as Kinds
 use Rattle.schedule_codec.specs.AckLists.{ask_in_range}
 use Rattle.schedule_codec.specs.Reading.{schedule_of}
 use Rattle.schedule_codec.proofs.Readings.{Parts, parts_of}
-use Rattle.glossy_relay.specs.FloodState.{FloodState, listening, initiating}
-use Rattle.glossy_relay.specs.Relaying.{is_spelling, slot_of, counter_of, fits, first_of, after_heard, after_sent}
+use Rattle.glossy_relay.specs.FloodState.{FloodState, listening}
+use Rattle.glossy_relay.specs.Relaying.{is_spelling, slot_of, counter_of, fits, after_heard, after_sent}
 use Rattle.bus_rules.specs.declared.part.Part.{Part}
 use Rattle.bus_rules.specs.declared.part.Part.TheVariants.{Opening, Data as DataSlot, Contention, Closing}
 use Rattle.bus_rules.specs.Plans.{last_slot, opening}
@@ -19,8 +20,7 @@ use Rattle.bus_rules.specs.Tuning.{rank_of, hosts}
 use Rattle.bus_rules.specs.Cores.{Core, Setup}
 use Rattle.bus_rules.specs.Slots.{Opened, Message, ScheduleOf, DataOf, RequestOf, hosts_now, part_of, opened, host_closes, silent, is_schedule_part}
 use Rattle.lwb_member.specs.Places.{IsPlaced, kind_for}
-use Rattle.lwb_member.specs.Said.{bytes_of, message_of, data_in, request_in, MaySay}
-use Rattle.lwb_member.proofs.Lengths.{said_long}
+use Rattle.lwb_member.specs.Said.{message_of, data_in, request_in, MaySay}
 use Rattle.node_core.specs.Windows.{Window}
 use Rattle.node_core.specs.Rows.{flood_for, last_by, part_by, is_foreign, flood_by, hearing, accepted_in}
 use Rattle.node_core.specs.Standing.{IsOwn}
@@ -28,62 +28,10 @@ use Rattle.air_log.proofs.SmallPlans.{few_slots, read_few}
 use Rattle.air_safety.specs.PlanRanges.{IsWholePlan}
 use Rattle.air_safety.specs.CoreRanges.{IsSetup, IsCore}
 use Rattle.air_safety.specs.NodeRanges.{IsCarried, IsFlood, IsOpen}
-use Rattle.air_safety.proofs.SpokenInRange.{said_is, said_slot, fitting, read_may}
+use Rattle.air_safety.proofs.SpokenInRange.{read_may}
 use Rattle.air_safety.proofs.SaidInRange.{IsSayable, few_owners, placed, says as says_in}
 use Rattle.air_safety.proofs.CoresInRange.{MayTake}
-
--- a flood
-module _ (s : Setup) (k : Kind) (j : ℕ) where
-  listening_is : IsFlood s k j (listening k j s.sends)
-  listening_is = record { kind = refl; slot = refl; limit = refl; sent = omega arith; waiting = λ waits. absurd (cc); first = tt }
-
-  initiating_is : (m : Message) → 1 ≤ s.sends → IsSayable s k j m → IsFlood s k j (initiating (bytes_of m j) s.sends)
-  initiating_is m some is =
-      let said = said_is m j is.may in
-      record {
-        kind = said.named ∙ is.kind;
-        slot = said_slot m j;
-        limit = refl;
-        sent = omega arith;
-        waiting = λ waits. omega arith;
-        first = record { spelled = subst (λ (x : Kind). is_spelling x (bytes_of m j) ≡ true) is.kind said.spelled; slot = said_slot m j; most = omega (arith, said_long m j, is.short) };
-      }
-
-  first_is : (P : List ℕ → Type 0) (first : Option (List ℕ)) (q : List ℕ) → P q → IfSome first P → IfSome (first_of first q) P
-  first_is P None q new old = new
-  first_is P (Some x) q new old = old
-
-  heard_is : (f : FloodState) (q : List ℕ) → length q ≤ s.profile.packet_max → IsFlood s k j f → IsFlood s k j (after_heard f q)
-  heard_is f q few is =
-      cond_both (fits f q) (record f { waiting = nat_lt (counter_of q) 11; first = first_of f.first q }) f (IsFlood s k j)
-      (λ fit.
-      let parts = fitting f q fit in
-      record {
-        kind = is.kind;
-        slot = is.slot;
-        limit = is.limit;
-        sent = is.sent;
-        waiting = λ waits. parts.2;
-        first = first_is (IsCarried s k j) f.first q (record { spelled = subst (λ (x : Kind). is_spelling x q ≡ true) is.kind parts.0; slot = parts.1 ∙ is.slot; most = few }) is.first;
-      })
-      (λ other. is)
-
-  sent_is : (f : FloodState) → f.waiting ≡ true → IsFlood s k j f → IsFlood s k j (after_sent f)
-  sent_is f waits is = let less = is.waiting waits in record { kind = is.kind; slot = is.slot; limit = is.limit; sent = omega arith; waiting = λ more. absurd (cc); first = is.first }
-
--- what hearing leaves as it was
-begun_here : (f : FloodState) (q : List ℕ) → (after_heard f q).initiated ≡ f.initiated
-begun_here f q = cond_both (fits f q) (record f { waiting = nat_lt (counter_of q) 11; first = first_of f.first q }) f (λ (g : FloodState). g.initiated ≡ f.initiated) (λ is. refl) (λ is. refl)
-
-heard_first : (P : List ℕ → Type 0) (f : FloodState) (q : List ℕ) → P q → IfSome f.first P → IfSome (after_heard f q).first P
-heard_first P f q new old =
-    cond_both (fits f q) (record f { waiting = nat_lt (counter_of q) 11; first = first_of f.first q }) f (λ (g : FloodState). IfSome g.first P)
-    (λ is. by_first f.first old)
-    (λ is. old)
-  where
-    by_first : (first : Option (List ℕ)) → IfSome first P → IfSome (first_of first q) P
-    by_first None had = new
-    by_first (Some x) had = had
+use Rattle.air_safety.proofs.FloodsInRange.{listening_is, initiating_is, heard_is, sent_is, begun_here, heard_first}
 
 -- a spelling of one kind says no message of another
 pub schedule_said : (part : Part) (q : List ℕ) (x : Schedule) → is_spelling (kind_for part) q ≡ true → message_of q ≡ Some (ScheduleOf x)
@@ -93,20 +41,30 @@ schedule_said Closing q x spelled is = refl
 schedule_said (DataSlot owner) q x spelled is = by_test (is_data q) spelled is
   where
     by_test : (b : Bool) → b ≡ true
-        → (if b then Some (DataOf (data_in q)) else if is_request q then Some (RequestOf (request_in q)) else option_map ScheduleOf (schedule_of q)) ≡ Some (ScheduleOf x) → false ≡ true
+        → (if b then Some (DataOf (data_in q)) else if is_request q then Some (RequestOf (request_in q)) else option_map ScheduleOf (schedule_of q))
+        ≡ Some (ScheduleOf x) → false ≡ true
     by_test true sent says = absurd (cc)
     by_test false sent says = sent
 schedule_said (Contention i) q x spelled is = by_tests (is_data q) (is_request q) spelled is
   where
     by_tests : (b c : Bool) → c ≡ true
-        → (if b then Some (DataOf (data_in q)) else if c then Some (RequestOf (request_in q)) else option_map ScheduleOf (schedule_of q)) ≡ Some (ScheduleOf x) → false ≡ true
+        → (if b then Some (DataOf (data_in q)) else if c then Some (RequestOf (request_in q)) else option_map ScheduleOf (schedule_of q)) ≡ Some
+        (ScheduleOf x) → false ≡ true
     by_tests true c request says = absurd (cc)
     by_tests false true request says = absurd (cc)
     by_tests false false request says = request
 
 -- what was read of a schedule
 whole_of : (x : Schedule) (j k : ℕ) → Parts x j k → IsWholePlan x.plan
-whole_of x j k parts = record { rank = parts.rank; boot = parts.boot.1; contend = parts.contend; few = parts.few; acks = parts.acks; ordered = parts.ordered; owners = parts.owners }
+whole_of x j k parts = record {
+  rank = parts.rank;
+  boot = parts.boot.1;
+  contend = parts.contend;
+  few = parts.few;
+  acks = parts.acks;
+  ordered = parts.ordered;
+  owners = parts.owners;
+}
 
 same_rank : (a b : ℕ) → not (a == b) ≡ false → a ≡ b
 same_rank a b is = by_test (a == b) refl is
@@ -117,7 +75,10 @@ same_rank a b is = by_test (a == b) refl is
 
 ask_of : (a : Ask) (j : ℕ) → MaySay j (RequestOf a) → ask_in_range a ≡ true
 ask_of a j may =
-    and_from _ _ (and_from _ _ (and_from _ _ (and_from _ _ (le-leb 1 a.node may.1) (le-leb a.node 200 may.2)) (and_from _ _ (le-leb 1 a.boot may.0.boot.0) (le-leb a.boot 200 may.0.boot.1))) (le-leb a.stream 3 may.0.stream)) (le-leb a.interval 120 may.0.interval)
+    and_from _ _ (and_from _ _
+    (and_from _ _ (and_from _ _ (le-leb 1 a.node may.1) (le-leb a.node 200 may.2))
+    (and_from _ _ (le-leb 1 a.boot may.0.boot.0) (le-leb a.boot 200 may.0.boot.1))) (le-leb a.stream 3 may.0.stream))
+    (le-leb a.interval 120 may.0.interval)
 
 module _ (s : Setup) (set : IsSetup s) where
   -- a window opens at its alarm
@@ -148,7 +109,8 @@ module _ (s : Setup) (set : IsSetup s) where
 
   hosted_is : (f j : ℕ) (part : Part) (c : Core) → IsOwn f c → hosts (opened s f part c).core.tune ≡ true → is_schedule_part part ≡ true
       → (flood_for s part j (opened s f part c).message).initiated ≡ true
-  hosted_is f j Opening c own host is = subst (λ (b : Bool). (flood_for s Opening j (if b then Some (ScheduleOf (opening c.plan)) else None)).initiated ≡ true) (sym (own host)) refl
+  hosted_is f j Opening c own host is =
+      subst (λ (b : Bool). (flood_for s Opening j (if b then Some (ScheduleOf (opening c.plan)) else None)).initiated ≡ true) (sym (own host)) refl
   hosted_is f j (DataSlot owner) c own host is = absurd (cc)
   hosted_is f j (Contention i) c own host is = absurd (cc)
   hosted_is f j Closing c own host is =
@@ -187,7 +149,12 @@ module _ (s : Setup) (set : IsSetup s) where
 
   pub joins_is : (f : ℕ) (c : Core) (q : List ℕ) (x : Schedule) (z : ℕ) → hosts c.tune ≡ false → length q ≤ s.profile.packet_max
       → message_of q ≡ Some (ScheduleOf x) → (x.plan.rank == rank_of c.tune) ≡ true
-      → IsOpen s f c (slot_of q) (record { part = part_by x; last = last_by x (slot_of q); flood = after_heard (listening Kinds.Schedule (slot_of q) s.sends) q; reference = Some z })
+      → IsOpen s f c (slot_of q) (record {
+        part = part_by x;
+        last = last_by x (slot_of q);
+        flood = after_heard (listening Kinds.Schedule (slot_of q) s.sends) q;
+        reference = Some z;
+      })
   joins_is f c q x z free few says ranked =
       let j = slot_of q in
       let start = listening Kinds.Schedule j s.sends in
@@ -199,7 +166,8 @@ module _ (s : Setup) (set : IsSetup s) where
         slot = within_last (x.gap == 0) _ j (last_slot x.plan) parts.place;
         last = cond_both (x.gap == 0) (last_slot x.plan) j (λ (l : ℕ). l ≤ 45) (λ opens. small.0) (λ closes. small.1);
         next = λ less. inl (first_slot (x.gap == 0) _ j (last_slot x.plan) parts.place less);
-        flood = subst (λ (k : Kind). IsFlood s k j (after_heard start q)) (of_schedules x) (heard_is s Kinds.Schedule j start q few (listening_is s Kinds.Schedule j));
+        flood = subst (λ (k : Kind). IsFlood s k j (after_heard start q)) (of_schedules x)
+            (heard_is s Kinds.Schedule j start q few (listening_is s Kinds.Schedule j));
         own = λ other. heard_first (λ p. is_foreign (rank_of c.tune) (message_of p) ≡ false) start q mine tt;
         goes_on = λ less host. absurd (none host);
         hosted = λ host is. absurd (none host);
@@ -219,15 +187,25 @@ module _ (s : Setup) (set : IsSetup s) where
         slot = is.slot;
         last = is.last;
         next = is.next;
-        flood = cond_both (is_foreign rank (message_of q)) w.flood (after_heard w.flood q) (IsFlood s (kind_for w.part) j) (λ foreign. is.flood) (λ own. heard_is s (kind_for w.part) j w.flood q few is.flood);
-        own = λ other. cond_both (is_foreign rank (message_of q)) w.flood (after_heard w.flood q) (λ (g : FloodState). IfSome g.first Mine) (λ foreign. is.own (sym same ∙ other)) (λ mine. heard_first Mine w.flood q mine (is.own (sym same ∙ other)));
+        flood = cond_both (is_foreign rank (message_of q)) w.flood (after_heard w.flood q) (IsFlood s (kind_for w.part) j) (λ foreign. is.flood)
+            (λ own. heard_is s (kind_for w.part) j w.flood q few is.flood);
+        own = λ other. cond_both (is_foreign rank (message_of q)) w.flood (after_heard w.flood q) (λ (g : FloodState). IfSome g.first Mine)
+            (λ foreign. is.own (sym same ∙ other)) (λ mine. heard_first Mine w.flood q mine (is.own (sym same ∙ other)));
         goes_on = is.goes_on;
         hosted = λ host said. same ∙ is.hosted host said;
       }
 
   -- a sending ends
   pub ends_is : (f j : ℕ) (c : Core) (w : Window) → w.flood.waiting ≡ true → IsOpen s f c j w → IsOpen s f c j (record w { flood = after_sent w.flood })
-  ends_is f j c w waits is = record { slot = is.slot; last = is.last; next = is.next; flood = sent_is s (kind_for w.part) j w.flood waits is.flood; own = is.own; goes_on = is.goes_on; hosted = is.hosted }
+  ends_is f j c w waits is = record {
+    slot = is.slot;
+    last = is.last;
+    next = is.next;
+    flood = sent_is s (kind_for w.part) j w.flood waits is.flood;
+    own = is.own;
+    goes_on = is.goes_on;
+    hosted = is.hosted;
+  }
 
   -- what it accepted
   taken_by : (f j : ℕ) (c : Core) (w : Window) (q : List ℕ) (m : Message) → IsOpen s f c j w → w.flood.initiated ≡ false
@@ -251,13 +229,14 @@ module _ (s : Setup) (set : IsSetup s) where
   by_message f j c w q None is other spelled own says = tt
   by_message f j c w q (Some m) is other spelled own says = taken_by f j c w q m is other spelled own says
 
-  by_first : (f j : ℕ) (c : Core) (w : Window) (b : Bool) (first : Option (List ℕ)) → IsOpen s f c j w → w.flood.initiated ≡ b
+  pub by_first : (f j : ℕ) (c : Core) (w : Window) (b : Bool) (first : Option (List ℕ)) → IsOpen s f c j w → w.flood.initiated ≡ b
       → w.flood.first ≡ first → IfSome (accepted_by b first) (MayTake c)
   by_first f j c w true first is begun at = tt
   by_first f j c w false None is begun at = tt
   by_first f j c w false (Some q) is begun at =
       let carried : IsCarried s (kind_for w.part) j q = subst (λ (o : Option (List ℕ)). IfSome o (IsCarried s (kind_for w.part) j)) at is.flood.first in
-      let own : is_foreign (rank_of c.tune) (message_of q) ≡ false = subst (λ (o : Option (List ℕ)). IfSome o (λ p. is_foreign (rank_of c.tune) (message_of p) ≡ false)) at (is.own begun) in
+      let own : is_foreign (rank_of c.tune) (message_of q) ≡ false =
+      subst (λ (o : Option (List ℕ)). IfSome o (λ p. is_foreign (rank_of c.tune) (message_of p) ≡ false)) at (is.own begun) in
       by_message f j c w q (message_of q) is begun carried.spelled own refl
 
   pub accepted_may : (f j : ℕ) (c : Core) (w : Window) → IsOpen s f c j w → IfSome (accepted_in w) (MayTake c)

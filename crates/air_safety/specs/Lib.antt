@@ -2,7 +2,9 @@ pub mod Lives
 pub mod DueDevices
 pub mod OnePacket
 pub mod OnePacketNodes
+pub mod OnePacketHostNodes
 pub mod OnePacketHost
+pub mod OnePacketMemberNodes
 pub mod OnePacketMember
 pub mod BrokenClauses
 pub mod UnsafeLogs

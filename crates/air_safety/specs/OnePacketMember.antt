@@ -1,95 +1,17 @@
 -- The trail of node 2 in the worked rounds of one packet: the device before each tick at which something happens, each
 -- with the windows of the trail so far.
-use Rattle.std.specs.Prelude.{true, false, None, Some, ℕ, List, [], ◌∷◌, Bool, take, drop}
-use Rattle.lwb_packets.specs.declared.kind.Kind.TheVariants.{Schedule, Payload, Request}
-use Rattle.bus_rules.specs.declared.part.Part.TheVariants.{Opening, Data, Contention, Closing}
-use Rattle.node_core.specs.declared.stage.Stage.TheVariants.{Scanning, AwaitFrame, AwaitSlot}
-use Rattle.node_core.specs.Nodes.{Node}
+use Rattle.std.specs.Prelude.{true, false, None, Some, List, [], ◌∷◌, take, drop}
+use Rattle.node_core.specs.declared.stage.Stage.TheVariants.{AwaitSlot}
 use Rattle.air_log.specs.WindowLogs.{WindowLog}
 use Rattle.air_log.specs.Devices.{Device}
 use Rattle.air_log.specs.FirstRound.{opening_with, tuned_at}
 use Rattle.air_safety.specs.DueDevices.{Due}
-use Rattle.air_safety.specs.OnePacket.{request_with, grant_with, reopening_with, data_with, closing_with, opening_1, opening_3, request_0, request_2, grant_1, grant_3, reopening_1, data_0, data_2, closing_1, closing_3, sent_by_member, tuned_by_member}
-use Rattle.air_safety.specs.OnePacketNodes.{scans_waiting, joins, holds, reopened, waiting, holds_on, made_with, node, window, flood, since, to_send, by_member, device, rests}
-
--- nodes by frame and slot: before the window of a slot, while it listens, and after so many sendings of its flood
-abbrev pub scanning : ℕ → Node
-scanning waited = node (scans_waiting waited) waited 0 Scanning
-
-abbrev pub floods_5_0 : ℕ → Bool → Node
-floods_5_0 sent waits = node (scans_waiting 5) 5 1343946238 (window 0 Opening 2 (flood Schedule 0 sent waits false (Some (opening_with 0))) (Some 1343946238))
-
-abbrev pub awaits_5_1 : Node
-awaits_5_1 = node (joins 0) 5 1343946238 (AwaitSlot 1)
-
-abbrev pub floods_5_1 : ℕ → Bool → Node
-floods_5_1 sent waits = node (joins 1) 5 1343946238 (window 1 (Contention 1) 2 (flood Request 1 sent waits true (Some (request_with 0))) None)
-
-abbrev pub awaits_5_2 : Node
-awaits_5_2 = node (joins 1) 5 1343946238 (AwaitSlot 2)
-
-abbrev pub listens_5_2 : Node
-listens_5_2 = node (joins 1) 5 1343946238 (window 2 Closing 2 (flood Schedule 2 0 false false None) None)
-
-abbrev pub floods_5_2 : ℕ → Bool → Node
-floods_5_2 sent waits = node (joins 1) 5 1343946238 (window 2 Closing 2 (flood Schedule 2 sent waits false (Some (grant_with 0))) (Some 1343946068))
-
-abbrev pub rests_after_5 : ℕ → Node
-rests_after_5 frame = node (holds (Some 1)) frame 2367946068 AwaitFrame
-
-abbrev pub waits_for_9 : ℕ → Node
-waits_for_9 frame = node (holds None) frame 2367946068 AwaitFrame
-
-abbrev pub awaits_9_0 : Node
-awaits_9_0 = node (holds None) 9 2367946068 (AwaitSlot 0)
-
-abbrev pub listens_9_0 : Node
-listens_9_0 = node (holds None) 9 2367946068 (window 0 Opening 6 (flood Schedule 0 0 false false None) None)
-
-abbrev pub floods_9_0 : ℕ → Bool → Node
-floods_9_0 sent waits = node (holds None) 9 2367946068 (window 0 Opening 6 (flood Schedule 0 sent waits false (Some (reopening_with 0))) (Some 2367905278))
-
-abbrev pub floods_9_1 : ℕ → Bool → Node
-floods_9_1 sent waits = node (reopened []) 9 2367905278 (window 1 (Data 8) 6 (flood Payload 1 sent waits true (Some (data_with 0))) None)
-
-abbrev pub awaits_9_2 : Node
-awaits_9_2 = node (reopened []) 9 2367905278 (AwaitSlot 2)
-
-abbrev pub listens_9_2 : Node
-listens_9_2 = node (reopened []) 9 2367905278 (window 2 (Data 8) 6 (flood Payload 2 0 false false None) None)
-
-abbrev pub awaits_9_3 : Node
-awaits_9_3 = node (reopened []) 9 2367905278 (AwaitSlot 3)
-
-abbrev pub listens_9_3 : Node
-listens_9_3 = node (reopened []) 9 2367905278 (window 3 (Data 8) 6 (flood Payload 3 0 false false None) None)
-
-abbrev pub awaits_9_4 : Node
-awaits_9_4 = node (reopened []) 9 2367905278 (AwaitSlot 4)
-
-abbrev pub listens_9_4 : Node
-listens_9_4 = node (reopened []) 9 2367905278 (window 4 (Data 8) 6 (flood Payload 4 0 false false None) None)
-
-abbrev pub awaits_9_5 : Node
-awaits_9_5 = node (reopened []) 9 2367905278 (AwaitSlot 5)
-
-abbrev pub listens_9_5 : Node
-listens_9_5 = node (reopened []) 9 2367905278 (window 5 (Contention 1) 6 (flood Request 5 0 false false None) None)
-
-abbrev pub awaits_9_6 : Node
-awaits_9_6 = node (reopened []) 9 2367905278 (AwaitSlot 6)
-
-abbrev pub listens_9_6 : Node
-listens_9_6 = node (reopened []) 9 2367905278 (window 6 Closing 6 (flood Schedule 6 0 false false None) None)
-
-abbrev pub floods_9_6 : ℕ → Bool → Node
-floods_9_6 sent waits = node (reopened []) 9 2367905278 (window 6 Closing 6 (flood Schedule 6 sent waits false (Some (closing_with 0))) (Some 2367904772))
-
-abbrev pub rests_after_9 : ℕ → Node
-rests_after_9 frame = node (holds_on (Some 1)) frame 3391904772 AwaitFrame
-
-abbrev pub waits_for_13 : ℕ → Node
-waits_for_13 frame = node (holds_on None) frame 3391904772 AwaitFrame
+use Rattle.air_safety.specs.OnePacket.{request_with, grant_with, reopening_with, data_with, closing_with, opening_1, opening_3, request_0, request_2, grant_1}
+use Rattle.air_safety.specs.OnePacket.{grant_3, reopening_1, data_0, data_2, closing_1, closing_3, sent_by_member, tuned_by_member}
+use Rattle.air_safety.specs.OnePacketNodes.{reopened, waiting, made_with, node, since, to_send, by_member, device, rests}
+use Rattle.air_safety.specs.OnePacketMemberNodes.{scanning, floods_5_0, awaits_5_1, floods_5_1, awaits_5_2, listens_5_2, floods_5_2, rests_after_5, waits_for_9}
+use Rattle.air_safety.specs.OnePacketMemberNodes.{awaits_9_0, listens_9_0, floods_9_0, floods_9_1, awaits_9_2, listens_9_2, awaits_9_3, listens_9_3, awaits_9_4}
+use Rattle.air_safety.specs.OnePacketMemberNodes.{listens_9_4, awaits_9_5, listens_9_5, awaits_9_6, listens_9_6, floods_9_6, rests_after_9, waits_for_13}
 
 -- devices by the place of their tick
 abbrev pub member_0 : List WindowLog → Device

@@ -99,7 +99,8 @@ module _ (clock : ℕ → ℕ) (s : Setup) (t : ℕ) where
   OpeningLeaves = (d : Device) (n : Node) (j : ℕ)
       → (let r = window_opens s n j in
       let o = opened s n.frame (part_of n.core.plan j) n.core in
-      Leaves d r.node (Some (rank_of n.core.tune)) (Some (when (closes_at s.profile n.zero j))) (said n.zero j d.ordered o.message) (after_row clock s t Alarm None d n r))
+      Leaves d r.node (Some (rank_of n.core.tune)) (Some (when (closes_at s.profile n.zero j))) (said n.zero j d.ordered o.message)
+      (after_row clock s t Alarm None d n r))
 
   abbrev pub ClosingLeaves : Type 0
   ClosingLeaves = (d : Device) (n : Node) (j : ℕ) (w : Window)

@@ -1,9 +1,10 @@
 -- What is said on the air: packets that are spellings, of messages in their ranges, and what a profile has room for.
-use Rattle.std.specs.Prelude.{◌≡◌, ℕ, ◌≤◌, List, true, Some, length, ⊤}
+use Rattle.std.specs.Prelude.{◌≡◌, ℕ, ◌≤◌, List, true, Some, length}
 use Rattle.lwb_base.specs.Profile.{Numbers}
 use Rattle.glossy_relay.specs.Relaying.{is_packet, slot_of, counter_of}
-use Rattle.bus_rules.specs.Slots.{Message, ScheduleOf, DataOf, RequestOf}
+use Rattle.bus_rules.specs.Slots.{Message}
 use Rattle.lwb_member.specs.Said.{message_of, MaySay}
+use Rattle.air_safety.specs.PacketKinds.{IsOfProfile}
 
 -- the packet says a message that may be said in its slot
 pub record Says (q : List ℕ) : Type 0 where
@@ -17,12 +18,6 @@ pub record IsSpoken (p : Numbers) (q : List ℕ) : Type 0 where
   pub most : length q ≤ p.packet_max
   pub counter : counter_of q ≤ 11
   pub says : Says q
-
--- a schedule names the profile's contention slots, and a payload is no longer than the profile's greatest
-abbrev pub IsOfProfile : Numbers → Message → Type 0
-IsOfProfile p (ScheduleOf x) = x.plan.contend ≡ p.contend
-IsOfProfile p (DataOf d) = length d.payload ≤ p.payload_max
-IsOfProfile p (RequestOf a) = ⊤
 
 -- the profile has room for the packet, and what it says, if it says something, is of the profile
 pub record IsFitting (p : Numbers) (q : List ℕ) : Type 0 where

@@ -8,7 +8,7 @@ use Rattle.bus_rules.specs.Streams.{Streams}
 use Rattle.bus_rules.specs.Cores.{Setup, booted}
 use Rattle.node_core.specs.declared.stage.Stage.TheVariants.{Scanning}
 use Rattle.node_core.specs.Nodes.{Node, stopped_frame, frame_alarm}
-use Rattle.node_core.specs.Runs.{with_streams}
+use Rattle.node_core.specs.Nodes.{with_streams}
 use Rattle.air_log.specs.declared.entry.Entry.{Entry}
 use Rattle.air_log.specs.Entries.{sendings_of, IsHeard}
 use Rattle.air_log.specs.Devices.{Device, Power, PowerOff, PowerOn, Listening}

@@ -16,7 +16,8 @@ use Rattle.bus_model.specs.Rounds.{opened_at, closed_by, left_by, after_slot, sl
 pub open_core : (s : Setup) (n : Node) (j : ℕ) → (window_opens s n j).node.core ≡ (opened s n.frame (part_of n.core.plan j) n.core).core
 open_core s n j = refl
 
-pub close_core : (s : Setup) (n : Node) (j : ℕ) (w : Window) → (window_closes s n j w).node.core ≡ (closed s n.frame w.part w.flood.initiated n.core (accepted_in w)).core
+pub close_core : (s : Setup) (n : Node) (j : ℕ) (w : Window)
+    → (window_closes s n j w).node.core ≡ (closed s n.frame w.part w.flood.initiated n.core (accepted_in w)).core
 close_core s n j w = refl
 
 pub frame_core : (s : Setup) (n : Node) → (frame_alarms s n).node.core ≡ frame_ended s n.frame n.core
@@ -24,7 +25,9 @@ frame_core s n = refl
 
 -- a member's state after a slot
 pub member_after : (s : ScenarioParts) (rank f : ℕ) (p : Plan) (j v : ℕ) (states : ℕ → State) (c : Core) → states v ≡ StateOn c → is_member rank f c ≡ true
-    → after_slot s rank f p j states v ≡ StateOn (closed (setup_in s v) f (part_of p j) (is_some (opened (setup_in s v) f (part_of p j) c).message) (opened (setup_in s v) f (part_of p j) c).core (accepted_at (slot_of s rank f p j states) v)).core
+    → after_slot s rank f p j states v ≡ StateOn
+    (closed (setup_in s v) f (part_of p j) (is_some (opened (setup_in s v) f (part_of p j) c).message)
+    (opened (setup_in s v) f (part_of p j) c).core (accepted_at (slot_of s rank f p j states) v)).core
 member_after s rank f p j v states c up member =
     let part = part_of p j in
     let o = opened (setup_in s v) f part c in

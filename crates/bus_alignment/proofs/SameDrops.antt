@@ -1,5 +1,6 @@
 -- Where the states at frame starts are the bus's, the drops are.
-use Rattle.std.proofs.Common.{◌≡◌, ℕ, suc, ◌*◌, ◌/◌, ◌<◌, List, [], ◌∷◌, ◌++◌, Bool, ◌==◌, ◌&&◌, Option, inl, inr, refl, ap, sym, ◌∙◌, filter, arith, option_to_list, All}
+use Rattle.std.proofs.Common.{◌≡◌, ℕ, suc, ◌*◌, ◌/◌, ◌<◌, List, [], ◌∷◌, ◌++◌, Bool, ◌==◌, ◌&&◌, Option, inl, inr, refl, ap, sym, ◌∙◌, filter, arith}
+use Rattle.std.proofs.Common.{option_to_list, All}
 use Rattle.std.proofs.Math.Nat.{mul-div_cancel}
 use Rattle.std.proofs.lemmas.Bool.{cases_eq, eq-eqb, ne_eqb}
 use Rattle.scenario_text.specs.ScenarioParts.{ScenarioParts}
@@ -18,7 +19,10 @@ use Rattle.bus_alignment.proofs.ScriptedCores.{lines_same, drop_same}
 
 -- equal frames have equal first ticks, and others do not
 same_frames : (n a b : ℕ) → 0 < n → (a * n == b * n) ≡ (a == b)
-same_frames n a b some = elim (cases_eq a b) [ inl is ↦ eq-eqb (a * n) (b * n) (ap (λ x. x * n) is) ∙ sym (eq-eqb a b is) | inr other ↦ ne_eqb (a * n) (b * n) (λ e. other (cancel e)) ∙ sym (ne_eqb a b other) ]
+same_frames n a b some = elim (cases_eq a b) [
+  | inl is ↦ eq-eqb (a * n) (b * n) (ap (λ x. x * n) is) ∙ sym (eq-eqb a b is)
+  | inr other ↦ ne_eqb (a * n) (b * n) (λ e. other (cancel e)) ∙ sym (ne_eqb a b other)
+]
   where
     cancel : a * n ≡ b * n → a ≡ b
     cancel e = sym (mul-div_cancel a some) ∙ ap (λ x. x / n) e ∙ mul-div_cancel b some
@@ -33,7 +37,7 @@ same_filter f g same (x ∷ xs) = rw (same x, same_filter f g same xs) refl
 same_lines : (s : ScenarioParts) (f v : ℕ) → 0 < s.profile.frame → lines_at s v (frame_start s f) ≡ Bus.lines_of s f v
 same_lines s f v some = same_filter _ _ (λ (l : ScriptLine). both_tests (l.node == v) _ _ (same_frames s.profile.frame l.frame f some)) s.script
 
-same_told : (s : ScenarioParts) (above : List ScriptLine) (l : ScriptLine) → 0 < s.profile.frame → AirDrops.told_before s above l ≡ Bus.told_above above l
+same_told : (s : ScenarioParts) (above : List ScriptLine) (l : ScriptLine) → 0 < s.profile.frame → AirDrops.told_at_tick s above l ≡ Bus.told_above above l
 same_told s above l some = same_filter _ _ (λ (m : ScriptLine). both_tests (m.node == l.node) _ _ (same_frames s.profile.frame m.frame l.frame some)) above
 
 -- the first phase of a frame

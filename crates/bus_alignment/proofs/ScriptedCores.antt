@@ -13,7 +13,7 @@ use Rattle.scenario_text.specs.declared.script.ScriptLine.{ScriptLine}
 use Rattle.bus_rules.specs.Cores.{Setup}
 use Rattle.node_core.specs.Nodes.{Node, rebooted}
 use Rattle.node_core.specs.Rows.{row}
-use Rattle.node_core.specs.Runs.{node_after, orders_by}
+use Rattle.node_core.specs.Rows.{node_after, orders_by}
 use Rattle.air_log.specs.Devices.{Device, Power, PowerOff, PowerOn, obeyed, tunes, listens_to, silenced, stepped, moved}
 use Rattle.air_log.specs.ScriptedDevices as Air
 use Rattle.air_log.specs.Drops as AirDrops
@@ -26,7 +26,8 @@ tuned_power rank t d [] = refl
 tuned_power rank t d (e ∷ es) = cond_both ((e.rank == rank) && (e.end == t)) _ _ (λ (x : Device). x.power ≡ d.power) (λ p. refl) (λ p. refl)
 
 obeyed_power : (clock : ℕ → ℕ) (v t : ℕ) (d : Device) (o : Order) → (obeyed clock v t d o).power ≡ d.power
-obeyed_power clock v t d (Listen rank) = cond_both (listens_to rank d.listening) _ _ (λ (x : Device). x.power ≡ d.power) (λ p. refl) (λ p. tuned_power rank t (silenced v t d) (silenced v t d).made.tuned)
+obeyed_power clock v t d (Listen rank) = cond_both (listens_to rank d.listening) _ _ (λ (x : Device). x.power ≡ d.power) (λ p. refl)
+    (λ p. tuned_power rank t (silenced v t d) (silenced v t d).made.tuned)
 obeyed_power clock v t d RadioOff = refl
 obeyed_power clock v t d (SendAt local p) = refl
 obeyed_power clock v t d (Alarm local) = refl
@@ -36,17 +37,20 @@ all_obeyed clock v t d [] = refl
 all_obeyed clock v t d (o ∷ os) = all_obeyed clock v t (obeyed clock v t d o) os ∙ obeyed_power clock v t d o
 
 -- an event leaves the node where its row leaves it
-event_power : (clock : ℕ → ℕ) (s : Setup) (t : ℕ) (e : Event) (x : Option Sending) (d : Device) (n : Node) → (stepped clock s t e x d n).power ≡ PowerOn (node_after n (row s n (clock t) e))
+event_power : (clock : ℕ → ℕ) (s : Setup) (t : ℕ) (e : Event) (x : Option Sending) (d : Device) (n : Node)
+    → (stepped clock s t e x d n).power ≡ PowerOn (node_after n (row s n (clock t) e))
 event_power clock s t e x d n = all_obeyed clock s.id t (moved t e x d n (row s n (clock t) e)) (orders_by (row s n (clock t) e))
 
-put_same : (s : Setup) (f i : ℕ) (payload : List ℕ) (d : Device) (n : Node) → d.power ≡ PowerOn n → seen (Air.put_or_dropped s f i payload d n).power ≡ Bus.after_act (Put i payload) (StateOn n.core)
+put_same : (s : Setup) (f i : ℕ) (payload : List ℕ) (d : Device) (n : Node) → d.power ≡ PowerOn n
+    → seen (Air.put_or_dropped s f i payload d n).power ≡ Bus.after_act (Put i payload) (StateOn n.core)
 put_same s f i payload d n is = by_drop (refuses i n.core) refl
   where
     by_drop : (b : Bool) → refuses i n.core ≡ b → seen (Air.put_or_dropped s f i payload d n).power ≡ Bus.after_act (Put i payload) (StateOn n.core)
     by_drop true e = rw (e, is) refl
     by_drop false e = rw e refl
 
-act_same : (clock : ℕ → ℕ) (s : Setup) (t f : ℕ) (d : Device) (a : Act) (p : Power) → d.power ≡ p → seen (Air.after_act clock s t f d a p).power ≡ Bus.after_act a (seen p)
+act_same : (clock : ℕ → ℕ) (s : Setup) (t f : ℕ) (d : Device) (a : Act) (p : Power) → d.power ≡ p
+    → seen (Air.after_act clock s t f d a p).power ≡ Bus.after_act a (seen p)
 act_same clock s t f d On (PowerOff b) is = ap seen (event_power clock s t Boot None (record d { power = PowerOn (rebooted (b + 1)) }) (rebooted (b + 1)))
 act_same clock s t f d On (PowerOn n) is = ap seen is
 act_same clock s t f d Off (PowerOff b) is = ap seen is
@@ -59,9 +63,11 @@ act_same clock s t f d (Put i payload) (PowerOff b) is = ap seen is
 act_same clock s t f d (Put i payload) (PowerOn n) is = put_same s f i payload d n is
 
 -- any list of lines of the node, at one tick
-pub lines_same : (clock : ℕ → ℕ) (s : Setup) (t : ℕ) (d : Device) (x : State) (ls : List ScriptLine) → seen d.power ≡ x → seen (fold (Air.after_line clock s t) d ls).power ≡ fold Bus.after_line x ls
+pub lines_same : (clock : ℕ → ℕ) (s : Setup) (t : ℕ) (d : Device) (x : State) (ls : List ScriptLine) → seen d.power ≡ x
+    → seen (fold (Air.after_line clock s t) d ls).power ≡ fold Bus.after_line x ls
 lines_same clock s t d x [] is = is
-lines_same clock s t d x (l ∷ ls) is = lines_same clock s t (Air.after_line clock s t d l) (Bus.after_line x l) ls (act_same clock s t l.frame d l.act d.power refl ∙ ap (Bus.after_act l.act) is)
+lines_same clock s t d x (l ∷ ls) is = lines_same clock s t (Air.after_line clock s t d l) (Bus.after_line x l) ls
+    (act_same clock s t l.frame d l.act d.power refl ∙ ap (Bus.after_act l.act) is)
 
 -- a lost put is the same
 pub drop_same : (l : ScriptLine) (a : Act) (p : Power) → AirDrops.drop_by l a p ≡ Bus.lost_by l a (seen p)

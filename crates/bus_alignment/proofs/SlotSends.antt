@@ -1,5 +1,6 @@
 -- Of a run of a slot: who sends in a step of the bus's flood, and who accepts, is who does so on the air.
-use Rattle.std.proofs.Common.{◌≡◌, ℕ, ◌≤◌, ◌↔◌, true, Some, refl, ap, sym, ◌∙◌, subst, slice_index, slice_set, List, [], ◌∷◌, Option, None, false, Bool, is_some}
+use Rattle.std.proofs.Common.{◌≡◌, ℕ, ◌≤◌, ◌↔◌, true, Some, refl, ap, sym, ◌∙◌, subst, slice_index, slice_set, List, [], ◌∷◌, Option, None, false, Bool}
+use Rattle.std.proofs.Common.{is_some}
 use Rattle.lwb_base.specs.Messages.{Plan}
 use Rattle.scenario_text.specs.ScenarioParts.{ScenarioParts}
 use Rattle.bus_rules.specs.Slots.{Message, ScheduleOf, DataOf, RequestOf}
@@ -24,7 +25,8 @@ slot_said (RequestOf a) j k = refl
 -- events leave an initiator one
 kept : (t : FloodState) (es : List Event) → (after_all t es).initiated ≡ t.initiated
 kept t [] = refl
-kept t (Heard x ∷ es) = kept (after_heard t x.packet) es ∙ cond_both (fits t x.packet) _ _ (λ (u : FloodState). u.initiated ≡ t.initiated) (λ p. refl) (λ p. refl)
+kept t (Heard x ∷ es) = kept (after_heard t x.packet) es
+    ∙ cond_both (fits t x.packet) _ _ (λ (u : FloodState). u.initiated ≡ t.initiated) (λ p. refl) (λ p. refl)
 kept t (Ended x ∷ es) = kept (after_sent t) es
 
 none_accepted : (t : FloodState) → t.initiated ≡ true → accepted_of t ≡ None
@@ -88,7 +90,8 @@ module _ (s : ScenarioParts) (clocks : ℕ → ℕ → ℕ) (air : List Entry) (
 
   accepted_in_run : IsAcceptance s clocks air f rank j v k m → Accepts r.setting v o k
   accepted_in_run a =
-      let is : accepted_of (ended r v) ≡ Some (packet r o k, k) = ap accepted_of (run.flood v a.window a.here a.closed) ∙ a.accepted ∙ ap with_counter (sym (run.message o m says)) in
+      let is : accepted_of (ended r v) ≡ Some (packet r o k, k) = ap accepted_of (run.flood v a.window a.here a.closed) ∙ a.accepted
+      ∙ ap with_counter (sym (run.message o m says)) in
       (steps.accepts v k o (run.part v a.window a.here) (listener r v (packet r o k, k) is) starts).0 is
 
   pub accepts_same : Accepts (bus_slot s f rank p j).flood v o k ↔ IsAcceptance s clocks air f rank j v k m

@@ -28,12 +28,14 @@ pub record IsSlotStart (s : ScenarioParts) (clocks : ℕ → ℕ → ℕ) (air :
   pub core : (v : ℕ) (w : WindowLog) → IsWindowOf s clocks air f rank j v w → w.by_alarm ≡ true → bus_before s f rank p j v ≡ StateOn w.before.core
   pub member : (v : ℕ) (w : WindowLog) → IsWindowOf s clocks air f rank j v w → w.by_alarm ≡ true → is_member rank f w.before.core ≡ true
   pub plan : (v : ℕ) (w : WindowLog) → IsWindowOf s clocks air f rank j v w → w.by_alarm ≡ true → w.before.core.plan ≡ p
-  pub window : (v : ℕ) (c : Core) → knows s.nodes v ≡ true → bus_before s f rank p j v ≡ StateOn c → is_member rank f c ≡ true → HasWindow s clocks air f rank j v
+  pub window : (v : ℕ) (c : Core) → knows s.nodes v ≡ true → bus_before s f rank p j v ≡ StateOn c → is_member rank f c ≡ true
+      → HasWindow s clocks air f rank j v
   pub others : (v : ℕ) → knows s.nodes v ≡ true → (HasWindow s clocks air f rank j v → ⊥) → bus_before s f rank p j v ≡ state_at s f v
 
 -- what the flood of slot j gives for the windows of it: all that the step asks of the theorem on floods
 pub record IsSlotHeard (s : ScenarioParts) (clocks : ℕ → ℕ → ℕ) (air : List Entry) (f rank : ℕ) (p : Plan) (j : ℕ) : Type 0 where
-  pub accepted : (v : ℕ) (w : WindowLog) → IsWindowOf s clocks air f rank j v w → is_some w.closed ≡ true → accepted_in w.last ≡ accepted_at (bus_slot s f rank p j) v
+  pub accepted : (v : ℕ) (w : WindowLog) → IsWindowOf s clocks air f rank j v w → is_some w.closed ≡ true
+      → accepted_in w.last ≡ accepted_at (bus_slot s f rank p j) v
   pub initiated : (v : ℕ) (w : WindowLog) → IsWindowOf s clocks air f rank j v w → w.last.flood.initiated ≡ is_some (said_in ((bus_slot s f rank p j).window v))
   -- a scanner with no window accepted nothing
   pub deaf : (v : ℕ) → knows s.nodes v ≡ true → ((w : WindowLog) → IsWindowOf s clocks air f rank j v w → ⊥) → accepted_at (bus_slot s f rank p j) v ≡ None
@@ -49,8 +51,10 @@ SlotStepLaw = (s : ScenarioParts) (clocks : ℕ → ℕ → ℕ) (air : List Ent
 
 -- after the last slot: who had a window in it is as that left it
 pub record IsRoundEnd (s : ScenarioParts) (clocks : ℕ → ℕ → ℕ) (air : List Entry) (f rank : ℕ) (p : Plan) : Type 0 where
-  pub core : (v : ℕ) (w : WindowLog) (c : Closing) → IsWindowOf s clocks air f rank (last_slot p) v w → w.closed ≡ Some c → round s rank f (state_at s f) v ≡ StateOn c.after.core
-  pub others : (v : ℕ) → knows s.nodes v ≡ true → ((w : WindowLog) → IsWindowOf s clocks air f rank (last_slot p) v w → ⊥) → round s rank f (state_at s f) v ≡ state_at s f v
+  pub core : (v : ℕ) (w : WindowLog) (c : Closing) → IsWindowOf s clocks air f rank (last_slot p) v w → w.closed ≡ Some c
+      → round s rank f (state_at s f) v ≡ StateOn c.after.core
+  pub others : (v : ℕ) → knows s.nodes v ≡ true → ((w : WindowLog) → IsWindowOf s clocks air f rank (last_slot p) v w → ⊥)
+      → round s rank f (state_at s f) v ≡ state_at s f v
 
 abbrev pub RoundEndLaw : Type 0
 RoundEndLaw = (s : ScenarioParts) (clocks : ℕ → ℕ → ℕ) (air : List Entry) → IsLawfulRun s clocks air
@@ -69,4 +73,5 @@ rank_by_rank s f states zero = states
 rank_by_rank s f states (suc rank) = round s rank f (rank_by_rank s f states rank)
 
 abbrev pub AnyOrderLaw : Type 0
-AnyOrderLaw = (s : ScenarioParts) → IsSoundScenario s → (f v : ℕ) → f < s.frames → rank_by_rank s f (state_at s f) (length s.hosts) v ≡ rounds s f (state_at s f) v
+AnyOrderLaw = (s : ScenarioParts) → IsSoundScenario s → (f v : ℕ) → f < s.frames
+    → rank_by_rank s f (state_at s f) (length s.hosts) v ≡ rounds s f (state_at s f) v

@@ -7,23 +7,7 @@ use Rattle.std.specs.Option.{option_map_or}
 use Rattle.std.proofs.lemmas.Bool.{cases_lt, cond_both, cond-true, cond-false, eq-eqb, eqb-true, ne_eqb}
 use Rattle.std.proofs.lemmas.List.Sums.{sum_by-cons}
 use Rattle.air_log.proofs.Elements.{Distinct, contains_cases, contains_head, contains_tail, not_in_none}
-
--- the numbers of a range
-pub in_range : (a n k : ℕ) → a ≤ k → k < a + n → Contains (range_with_len a n) k
-in_range a zero k from below = absurd (omega (arith, from, below))
-in_range a (suc n) k from below =
-    elim (cases_lt a k) [
-      | inl later ↦ contains_tail a (range_with_len (a + 1) n) k (in_range (a + 1) n k (omega (arith, later)) (omega (arith, below)))
-      | inr first ↦ subst (λ (i : ℕ). Contains (a ∷ range_with_len (a + 1) n) i) (omega (arith, from, first)) (contains_head a (range_with_len (a + 1) n))
-    ]
-
-pub from_range : (a n k : ℕ) → Contains (range_with_len a n) k → (a ≤ k) × (k < a + n)
-from_range a zero k there = absurd (not_in_none k there)
-from_range a (suc n) k there =
-    elim (contains_cases a (range_with_len (a + 1) n) k there) [
-      | inl same ↦ (omega (arith, same), omega (arith, same))
-      | inr later ↦ (let within = from_range (a + 1) n k later in (omega (arith, within), omega (arith, within)))
-    ]
+use Rattle.bus_induction.proofs.NumbersOfRanges.{from_range}
 
 module _ {X : Type 0} where
   -- terms that are the same

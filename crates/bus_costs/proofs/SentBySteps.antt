@@ -16,7 +16,7 @@ use Rattle.air_log.specs.Charges.{step_and_length}
 use Rattle.air_log.specs.Entries.{sendings_of}
 use Rattle.bus_model.specs.Costs.{length_at}
 use Rattle.bus_model.specs.FloodOfText.{ids}
-use Rattle.bus_model.specs.Flooding.{Setting, Sends, has, moment}
+use Rattle.bus_model.specs.Flooding.{Setting, Sends, has, moment, steps}
 use Rattle.bus_model.specs.Rounds.{Slot, said_in}
 use Rattle.bus_model.proofs.ReceivedByPaths.{of_filtered}
 use Rattle.safe_air.proofs.RunSendings.{of_flood}
@@ -26,7 +26,14 @@ use Rattle.bus_alignment.specs.LawfulRuns.{IsLawfulRun}
 use Rattle.bus_alignment.specs.SlotLaws.{Says, bus_slot}
 use Rattle.bus_alignment.specs.SlotRuns.{IsRunOf}
 use Rattle.bus_induction.proofs.RunsOfLogs.{whole}
-use Rattle.slot_floods.proofs.HeardOrigins.{sent_origin}
+use Rattle.bus_model.proofs.HeardOrigins.{sent_origin}
+use Rattle.std.specs.List.{range_with_len}
+
+pub all_steps : steps ≡ range_with_len 0 12
+all_steps = refl
+
+pub not_given : (a : ℕ × ℕ) → ◌≡◌ {A = Option (ℕ × ℕ)} None (Some a) → ⊥
+not_given a is = cc
 
 -- a step and a length
 abbrev pair : ℕ → ℕ → ℕ × ℕ

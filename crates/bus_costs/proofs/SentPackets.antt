@@ -2,7 +2,7 @@
 -- as much.
 use Rattle.std.proofs.Common.{◌≡◌, ◌≢◌, ℕ, ◌<◌, ◌≤◌, ◌==◌, List, [], ◌∷◌, Bool, true, false, if◌then◌else◌, Some, None, Option}
 use Rattle.std.proofs.Common.{Contains, AllPairs, filter_map, map, option_map, is_some, length, refl, sym, ◌∙◌, ap, subst, arith}
-use Rattle.std.specs.List.{last_or, range_with_len}
+use Rattle.std.specs.List.{last_or}
 use Rattle.std.proofs.lemmas.List.{length-map}
 use Rattle.std.proofs.lemmas.List.Elements.{Contains-get_or}
 use Rattle.lwb_base.specs.Messages.{Plan}
@@ -29,9 +29,9 @@ use Rattle.bus_alignment.specs.SlotLaws.{IsWindowOf, bus_slot}
 use Rattle.bus_alignment.specs.SlotRuns.{IsRunOf}
 use Rattle.bus_induction.proofs.RunsOfLogs.{whole}
 use Rattle.bus_costs.proofs.AscendingLists.{same_ascending}
-use Rattle.bus_costs.proofs.KeyedSums.{from_range, in_range}
-use Rattle.bus_costs.proofs.SentBySteps.{IsSentHere, on_bus, sent_as, sent_once, step_of}
+use Rattle.bus_costs.proofs.SentBySteps.{IsSentHere, on_bus, sent_as, sent_once, step_of, all_steps, not_given}
 use Rattle.bus_costs.proofs.StepsInTurn.{lower_first}
+use Rattle.bus_induction.proofs.NumbersOfRanges.{from_range, in_range}
 
 -- of an own sending that has ended
 abbrev own_step : Event → Option (ℕ × ℕ)
@@ -56,14 +56,8 @@ last_of_mapped {X} {Y} g n xs =
     by_test true = last_mapped g None xs
     by_test false = refl
 
-not_given : (a : ℕ × ℕ) → ◌≡◌ {A = Option (ℕ × ℕ)} None (Some a) → ⊥
-not_given a is = cc
-
 is_given : (a b : ℕ × ℕ) → ◌≡◌ {A = Option (ℕ × ℕ)} (Some a) (Some b) → a ≡ b
 is_given a b is = cc
-
-all_steps : steps ≡ range_with_len 0 12
-all_steps = refl
 
 module _ (s : ScenarioParts) (clocks : ℕ → ℕ → ℕ) (air : List Entry) (lawful : IsLawfulRun s clocks air) (f rank : ℕ) (p : Plan) (j : ℕ)
     (r : Run) (is : IsRunOf s clocks air f rank p j r) (by_steps : IsFloodBySteps r) (v : ℕ) where

@@ -33,22 +33,17 @@ use Rattle.bus_alignment.specs.SlotSteps.{SlotHeardLaw}
 use Rattle.bus_induction.proofs.CoresOfWindows.{all_slots}
 use Rattle.bus_induction.proofs.RunsOfLogs.{run}
 use Rattle.slot_floods.proofs.HeardSlots.{slots_heard}
-use Rattle.bus_costs.proofs.KeyedSums.{by_key, from_range, no_sum, one_counts, same_sums, sum_given, under, under_its, under_none}
+use Rattle.bus_costs.proofs.KeyedSums.{by_key, no_sum, one_counts, same_sums, sum_given, under, under_its, under_none}
 use Rattle.bus_costs.proofs.PlacedWindows.{round_here, sending_placed, sending_rank, sent_of}
-use Rattle.bus_costs.proofs.SentBySteps.{IsSent, IsSentHere, on_bus, sent_as, sent_once, step_of}
+use Rattle.bus_costs.proofs.SentBySteps.{IsSent, IsSentHere, on_bus, sent_as, sent_once, step_of, all_steps, not_given}
 use Rattle.bus_costs.proofs.SumsOverRounds.{over_rounds, plan_at, rank_at, slot_in}
+use Rattle.bus_induction.proofs.NumbersOfRanges.{from_range}
 
 abbrev lasts : Sending → ℕ
 lasts y = y.end - y.start
 
 abbrev steps_sent : Sending → ℕ
 steps_sent y = counter_of y.packet
-
-all_steps : steps ≡ range_with_len 0 12
-all_steps = refl
-
-not_given : (a : ℕ × ℕ) → ◌≡◌ {A = Option (ℕ × ℕ)} None (Some a) → ⊥
-not_given a is = cc
 
 module _ (runs : RunsLaw) (s : ScenarioParts) (clocks : ℕ → ℕ → ℕ) (air : List Entry) (lawful : IsLawfulRun s clocks air)
     (v : ℕ) (known : knows s.nodes v ≡ true) where

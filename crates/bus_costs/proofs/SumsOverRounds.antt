@@ -9,7 +9,8 @@ use Rattle.bus_rules.specs.Plans.{last_slot}
 use Rattle.bus_model.specs.Bus.{state_at, frames_of, over_frames}
 use Rattle.bus_model.specs.Costs.{over_round}
 use Rattle.bus_model.specs.Rounds.{Slot, rank_in, round_plan, slot_at, slots_of}
-use Rattle.bus_costs.proofs.KeyedSums.{by_key, from_range, no_sum, same_sums, under, under_none}
+use Rattle.bus_costs.proofs.KeyedSums.{by_key, no_sum, same_sums, under, under_none}
+use Rattle.bus_induction.proofs.NumbersOfRanges.{from_range}
 
 not_both : (p : Plan) → ◌≡◌ {A = Option Plan} None (Some p) → ⊥
 not_both p is = cc

@@ -1,6 +1,6 @@
 -- One frame more of a run.
-use Rattle.std.proofs.Common.{◌≡◌, ◌<◌, ◌≤◌, ◌+◌, ◌*◌, ◌++◌, ◌==◌, [], ℕ, zero, suc, List, Bool, true, false, All, inl, inr, if◌then◌else◌, length, map}
-use Rattle.std.proofs.Common.{flat_map, get_or, take, drop, count_by, sum_by, subst, refl, sym, ◌∙◌, ap, arith, add-one}
+use Rattle.std.proofs.Common.{◌≡◌, ◌<◌, ◌≤◌, ◌+◌, ◌*◌, ◌++◌, [], ℕ, suc, List, All, inl, inr, if◌then◌else◌, length, map}
+use Rattle.std.proofs.Common.{get_or, take, count_by, sum_by, subst, refl, sym, ◌∙◌, ap, arith, add-one}
 use Rattle.std.specs.List.{range_with_len}
 use Rattle.std.proofs.lemmas.Bool.{cases_lt}
 use Rattle.std.proofs.lemmas.List.{get_or-map, length-map, take_all}
@@ -12,7 +12,7 @@ use Rattle.scenario_text.specs.declared.script.Act.TheVariants.{Off}
 use Rattle.scenario_text.specs.declared.script.ScriptLine.{ScriptLine}
 use Rattle.bus_rules.specs.States.{State, StateOff}
 use Rattle.bus_rules.specs.Tuning.{is_scan}
-use Rattle.bus_model.specs.Bus.{Cost, before_frame, bus_cost, state_at}
+use Rattle.bus_model.specs.Bus.{Cost, before_frame, state_at}
 use Rattle.bus_model.specs.Costs.{over_round, slot_sent, slot_window}
 use Rattle.bus_model.specs.FloodOfText.{ids}
 use Rattle.bus_model.specs.Rounds.{rank_in, rounds}
@@ -22,7 +22,7 @@ use Rattle.plain_bus.specs.Networks.{Network, IsReady, no_cost, off_at}
 use Rattle.plain_bus.specs.SlotCosts.{IsBelow}
 use Rattle.plain_bus.proofs.MembersOfSlots.{map_of_map, map_same}
 use Rattle.plain_bus.proofs.SlotsMet.{ids_each}
-use Rattle.bus_frames.specs.FrameNodes.{HavePower, IsAtFrame, IsCut, begun, deliveries_to, ended_at, frame_deliveries, nodes_with, power, prior_ranks}
+use Rattle.bus_frames.specs.FrameNodes.{HavePower, IsCut, begun, deliveries_to, ended_at, frame_deliveries, nodes_with, power, prior_ranks}
 use Rattle.bus_frames.specs.RoundCosts.{cost_after, with_round, with_scan}
 use Rattle.bus_frames.proofs.LinesAllowed.{ended_early}
 use Rattle.bus_frames.proofs.PowerKept.{ended_power, rounds_power}

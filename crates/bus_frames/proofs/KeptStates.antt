@@ -1,14 +1,14 @@
 -- What holds of the states of all nodes through slots and rounds, where openings and closings keep it.
-use Rattle.std.proofs.Common.{◌≡◌, ◌+◌, ℕ, zero, suc, Bool, true, false, Option, Some, None, is_some, if◌then◌else◌, option_and_then, refl, sym, ◌∙◌, ap, subst}
+use Rattle.std.proofs.Common.{◌≡◌, ◌+◌, ℕ, zero, suc, Bool, true, false, Option, Some, None, is_some, if◌then◌else◌, option_and_then}
 use Rattle.lwb_base.specs.Messages.{Plan}
 use Rattle.scenario_text.specs.ScenarioParts.{ScenarioParts}
 use Rattle.bus_rules.specs.declared.part.Part.{Part}
 use Rattle.bus_rules.specs.Plans.{last_slot}
-use Rattle.bus_rules.specs.Slots.{Message, Opened, Closed, opened, closed, part_of}
+use Rattle.bus_rules.specs.Slots.{Message, opened, closed, part_of}
 use Rattle.bus_rules.specs.Cores.{Core, is_member}
 use Rattle.bus_rules.specs.States.{State, StateOff, StateOn}
 use Rattle.bus_model.specs.Flooding.{accepted}
-use Rattle.bus_model.specs.Rounds.{Slot, slot_of, opened_at, said_in, accepted_at, closed_by, left_by, after_slot, before_slot, after_round, round, rounds}
+use Rattle.bus_model.specs.Rounds.{slot_of, opened_at, said_in, accepted_at, closed_by, left_by, before_slot, after_round, rounds}
 use Rattle.bus_model.specs.Rounds.{round_plan, rank_in}
 use Rattle.bus_model.specs.ScriptedStates.{setup_in}
 

@@ -1,21 +1,20 @@
 -- The lines of a frame, told one after another.
-use Rattle.std.proofs.Common.{◌≡◌, ◌<◌, ◌≤◌, ◌+◌, ◌++◌, ◌∷◌, ◌==◌, ◌&&◌, [], ℕ, zero, suc, List, Bool, true, false, inl, inr, Option, if◌then◌else◌, length}
-use Rattle.std.proofs.Common.{map, take, drop, get_or, set, filter, fold, option_to_list, refl, sym, ◌∙◌, ap, subst, arith, append-nil, append_assoc, add-zero}
+use Rattle.std.proofs.Common.{◌≡◌, ◌<◌, ◌≤◌, ◌+◌, ◌++◌, ◌∷◌, ◌==◌, ◌&&◌, [], ℕ, zero, suc, List, Bool, true, false, inl, inr, if◌then◌else◌, length}
+use Rattle.std.proofs.Common.{map, take, drop, get_or, set, filter, fold, option_to_list, refl, sym, ◌∙◌, ap, arith, append-nil, append_assoc}
 use Rattle.std.proofs.Common.{take-append-drop, length-drop}
 use Rattle.std.specs.List.{AllPairs}
-use Rattle.std.proofs.lemmas.Bool.{cases_lt, cases_Bool, cases_eq, eqb-true, eq-eqb, ne_eqb, false≢true}
-use Rattle.std.proofs.lemmas.List.{take_more, length-take-le, get_or-take, get_or-drop, get_or-map, length-map}
+use Rattle.std.proofs.lemmas.Bool.{cases_lt, eq-eqb, ne_eqb}
+use Rattle.std.proofs.lemmas.List.{take_more, length-take-le, get_or-take, get_or-drop, get_or-map}
 use Rattle.std.proofs.lemmas.List.Elements.{filter-append}
 use Rattle.std.proofs.lemmas.List.Sums.{fold_push}
 use Rattle.scenario_text.specs.ScenarioParts.{ScenarioParts}
-use Rattle.scenario_text.specs.ScenarioFacts.{IsSoundScenario, turned, turned_by}
-use Rattle.scenario_text.specs.declared.script.Act.{Act}
+use Rattle.scenario_text.specs.ScenarioFacts.{turned, turned_by}
 use Rattle.scenario_text.specs.declared.script.ScriptLine.{ScriptLine}
 use Rattle.bus_rules.specs.declared.delivery.DropLine.{DropLine}
 use Rattle.bus_rules.specs.States.{State}
 use Rattle.bus_model.specs.Bus.{before_frame, before_line, drops_below, state_at}
 use Rattle.bus_model.specs.FloodOfText.{ids}
-use Rattle.bus_model.specs.ScriptedStates.{after_line, lost_by, told_above}
+use Rattle.bus_model.specs.ScriptedStates.{after_line, lost_by}
 use Rattle.plain_bus.specs.BusNodes.{BusNode, bus_node}
 use Rattle.bus_frames.specs.FrameNodes.{HavePower, IsCut, nodes_with, power, told, told_at}
 use Rattle.bus_frames.proofs.PowerKept.{act_power}

@@ -1,11 +1,10 @@
 -- Whether a node is on, and how often it booted, through the rounds and the end of a frame.
-use Rattle.std.proofs.Common.{◌≡◌, ℕ, Bool, true, false, Option, Some, None, if◌then◌else◌, refl, sym, ◌∙◌, ap}
+use Rattle.std.proofs.Common.{◌≡◌, ℕ, Bool, true, false, Option, Some, None, if◌then◌else◌, refl, ◌∙◌, ap}
 use Rattle.scenario_text.specs.ScenarioParts.{ScenarioParts}
 use Rattle.scenario_text.specs.ScenarioFacts.{turned_by}
 use Rattle.scenario_text.specs.declared.script.Act.{Act}
 use Rattle.scenario_text.specs.declared.script.Act.TheVariants.{On, Off, Declare, Leave, Put}
 use Rattle.bus_rules.specs.Cores.{Core, Setup, as_host, begins_host, frame_ended}
-use Rattle.bus_rules.specs.Slots.{Message}
 use Rattle.bus_rules.specs.States.{State, StateOff, StateOn, at_core, refuses, queues}
 use Rattle.bus_rules.specs.declared.tune.Tune.{Tune}
 use Rattle.bus_model.specs.Rounds.{rounds}

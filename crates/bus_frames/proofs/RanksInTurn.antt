@@ -1,7 +1,6 @@
 -- The rounds of the ranks, one after another.
-use Rattle.std.proofs.Common.{◌≡◌, ◌<◌, ◌+◌, ◌==◌, ℕ, List, Bool, true, false, nat_lt, inl, inr, Option, Some, None, if◌then◌else◌, map, flat_map, sum_by, refl}
-use Rattle.std.proofs.Common.{sym, ◌∙◌, ap, subst, arith, add-zero}
-use Rattle.std.specs.List.{range_with_len}
+use Rattle.std.proofs.Common.{◌≡◌, ◌<◌, ◌+◌, ◌==◌, ℕ, List, Bool, true, false, nat_lt, inl, inr, Option, Some, None, if◌then◌else◌, map, sum_by, refl}
+use Rattle.std.proofs.Common.{sym, ◌∙◌, ap, arith, add-zero}
 use Rattle.std.specs.Option.{option_map, option_map_or}
 use Rattle.std.proofs.lemmas.Bool.{cases_lt, cases_Bool, eqb-true, false≢true, lt-ltb, le-ltb, eq-eqb}
 use Rattle.lwb_base.specs.Messages.{Plan}
@@ -12,10 +11,10 @@ use Rattle.bus_model.specs.Bus.{Cost}
 use Rattle.bus_model.specs.Costs.{slot_sent, slot_window}
 use Rattle.bus_model.specs.FloodOfText.{ids}
 use Rattle.bus_model.specs.Rounds.{round, rounds, slot_at, slots_of}
-use Rattle.plain_bus.specs.BusNodes.{BusNode, bus_node, mixed, nodes_in, ranks_in}
+use Rattle.plain_bus.specs.BusNodes.{bus_node, mixed, nodes_in, ranks_in}
 use Rattle.plain_bus.specs.Leaders.{parts_of}
 use Rattle.plain_bus.proofs.MembersOfSlots.{map_same}
-use Rattle.bus_frames.specs.FrameNodes.{AreRanked, nodes_with, run_below}
+use Rattle.bus_frames.specs.FrameNodes.{nodes_with, run_below}
 use Rattle.bus_frames.specs.RoundCosts.{cost_below, with_round}
 
 -- whether there is a round, by its parts

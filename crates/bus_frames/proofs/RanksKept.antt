@@ -1,9 +1,9 @@
 -- The rank that a node scans, holds or hosts is one of the scenario.
 use Rattle.std.proofs.Common.{◌≡◌, ◌<◌, ◌≤◌, ◌+◌, ◌%◌, ◌&&◌, ◌==◌, ℕ, zero, suc, List, [], ◌∷◌, Bool, true, false, Option, Some, None, nat_lt, if◌then◌else◌}
-use Rattle.std.proofs.Common.{is_some, length, fold, option_map, refl, sym, ◌∙◌, ap, subst, arith, mod-lt}
+use Rattle.std.proofs.Common.{length, fold, option_map, refl, sym, ◌∙◌, ap, subst, arith, mod-lt}
 use Rattle.std.proofs.lemmas.Bool.{false≢true}
 use Rattle.lwb_base.specs.Profile.{Numbers}
-use Rattle.lwb_base.specs.Messages.{Ask, Plan, Schedule, node_of, stream_of}
+use Rattle.lwb_base.specs.Messages.{Ask, Schedule, node_of, stream_of}
 use Rattle.scenario_text.specs.ScenarioFacts.{IsSoundScenario}
 use Rattle.scenario_text.specs.ScenarioParts.{ScenarioParts}
 use Rattle.scenario_text.specs.declared.script.Act.{Act}
@@ -13,7 +13,7 @@ use Rattle.bus_rules.specs.declared.part.Part.{Part}
 use Rattle.bus_rules.specs.declared.part.Part.TheVariants.{Opening, Data as DataSlot, Contention, Closing}
 use Rattle.bus_rules.specs.declared.tune.Tune.{Tune}
 use Rattle.bus_rules.specs.declared.tune.Tune.TheVariants.{Scan, Hold, Host}
-use Rattle.bus_rules.specs.Cores.{Core, Setup, as_host, begins_host, frame_ended, is_fresh, new_host, opening_accepted, closing_accepted, schedule_accepted}
+use Rattle.bus_rules.specs.Cores.{Core, Setup, as_host, begins_host, frame_ended, is_fresh, opening_accepted, closing_accepted, schedule_accepted}
 use Rattle.bus_rules.specs.HostPlans.{host_plan}
 use Rattle.bus_rules.specs.Plans.{opening}
 use Rattle.bus_rules.specs.Slots.{Message, ScheduleOf, DataOf, RequestOf, opened, closed, slot_heard, hosts_now, host_closes, silent, is_own, data_of}
@@ -21,10 +21,10 @@ use Rattle.bus_rules.specs.Slots.{request_of}
 use Rattle.bus_rules.specs.States.{State, StateOff, StateOn, at_core, refuses, queues}
 use Rattle.bus_rules.specs.Streams.{Streams, Waiting, first_waiting, requested}
 use Rattle.bus_rules.specs.Tables.{Table}
-use Rattle.bus_rules.specs.Tuning.{rank_of, hosts_in, is_rank, is_scan, next_tune, scan_after}
+use Rattle.bus_rules.specs.Tuning.{rank_of, hosts_in, is_rank, is_scan, next_tune}
 use Rattle.bus_model.specs.Bus.{before_frame, state_at}
 use Rattle.bus_model.specs.Rounds.{rank_in, rounds}
-use Rattle.bus_model.specs.ScriptedStates.{after_act, after_line, ended, lines_of, scripted, setup_in}
+use Rattle.bus_model.specs.ScriptedStates.{after_act, after_line, lines_of, scripted, setup_in}
 use Rattle.bus_frames.specs.FrameNodes.{AreRanked}
 use Rattle.bus_frames.proofs.KeptStates.{rounds_keep}
 

@@ -1,6 +1,6 @@
 -- The slots of a round, one after another.
-use Rattle.std.proofs.Common.{◌≡◌, ◌≤◌, ◌<◌, ◌+◌, ◌*◌, ◌++◌, ◌∷◌, ◌==◌, [], ℕ, zero, suc, List, Bool, true, false, All, if◌then◌else◌, length, map, flat_map}
-use Rattle.std.proofs.Common.{get_or, sum_by, refl, sym, ◌∙◌, ap, subst, arith, add-one, add-zero, append-nil, append_assoc, mul-le-mul_right}
+use Rattle.std.proofs.Common.{◌≡◌, ◌≤◌, ◌<◌, ◌+◌, ◌++◌, ◌∷◌, ◌==◌, [], ℕ, zero, List, Bool, true, false, if◌then◌else◌, length, map, flat_map}
+use Rattle.std.proofs.Common.{get_or, sum_by, refl, sym, ◌∙◌, ap, arith, add-zero, append-nil, mul-le-mul_right}
 use Rattle.std.specs.List.{range_with_len}
 use Rattle.std.proofs.lemmas.List.Concat.{flat_map-append}
 use Rattle.std.proofs.lemmas.List.FromFn.{get_or-map-range_with_len, length-map-range_with_len}
@@ -15,7 +15,7 @@ use Rattle.bus_model.specs.Bus.{Cost}
 use Rattle.bus_model.specs.Costs.{slot_sent, slot_window}
 use Rattle.bus_model.specs.FloodOfText.{ids}
 use Rattle.bus_model.specs.Rounds.{before_slot, slot_at}
-use Rattle.plain_bus.specs.BusNodes.{BusNode, nodes_in, nodes_before, ranks_in}
+use Rattle.plain_bus.specs.BusNodes.{nodes_in, nodes_before, ranks_in}
 use Rattle.plain_bus.specs.Leaders.{parts_of}
 use Rattle.plain_bus.specs.Networks.{Network, IsReady, with_slot_at}
 use Rattle.plain_bus.specs.SlotCosts.{IsBelow}

@@ -1,5 +1,5 @@
 -- What rounds and frames cost the nodes.
-use Rattle.std.specs.Prelude.{ℕ, ◌+◌, ◌==◌, nat_lt, List, if◌then◌else◌, sum_by, count_by}
+use Rattle.std.specs.Prelude.{ℕ, ◌+◌, nat_lt, if◌then◌else◌, sum_by, count_by}
 use Rattle.std.specs.List.{range_with_len}
 use Rattle.lwb_base.specs.Messages.{Plan}
 use Rattle.scenario_text.specs.ScenarioParts.{ScenarioParts}

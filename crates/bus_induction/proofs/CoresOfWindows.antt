@@ -1,5 +1,6 @@
 -- The windows of a lawful run are those of the bus, and their cores too.
-use Rattle.std.proofs.Common.{◌≡◌, ℕ, suc, ◌<◌, ◌≤◌, List, Bool, true, false, if◌then◌else◌, Some, None, Option, Contains, is_some, refl, sym, ◌∙◌, ap, subst, arith, true≢false}
+use Rattle.std.proofs.Common.{◌≡◌, ℕ, suc, ◌<◌, ◌≤◌, List, Bool, true, false, if◌then◌else◌, Some, None, Option, Contains, is_some, refl, sym, ◌∙◌, ap, subst}
+use Rattle.std.proofs.Common.{arith, true≢false}
 use Rattle.std.specs.Option.{IfSome}
 use Rattle.std.proofs.lemmas.Bool.{cond-true}
 use Rattle.lwb_base.specs.Messages.{Plan}

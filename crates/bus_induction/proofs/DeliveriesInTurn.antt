@@ -1,5 +1,6 @@
 -- The deliveries of the bus stand by frame, rank, slot and node, and no two deliveries of a run are of one place.
-use Rattle.std.proofs.Common.{◌≡◌, ℕ, ◌+◌, ◌<◌, List, [], ◌∷◌, true, Some, None, Option, option_map, option_to_list, inl, inr, Contains, flat_map, length, refl, sym, ◌∙◌, ap, subst, arith}
+use Rattle.std.proofs.Common.{◌≡◌, ℕ, ◌+◌, ◌<◌, List, [], ◌∷◌, true, Some, None, Option, option_map, option_to_list, inl, inr, Contains, flat_map, length, refl}
+use Rattle.std.proofs.Common.{sym, ◌∙◌, ap, subst, arith}
 use Rattle.std.specs.Option.{IfSome, option_map_or}
 use Rattle.std.specs.List.{AllByRecursion}
 use Rattle.std.proofs.lemmas.List.Elements.{Contains-append_cases}
@@ -24,10 +25,12 @@ use Rattle.air_bus.proofs.WindowFacts.{close_in_time, one_a_slot, open_in_time, 
 use Rattle.bus_model.specs.FloodOfText.{ids}
 use Rattle.bus_model.specs.Rounds.{delivered_at, round_deliveries, round_plan, slot_deliveries, slots_of}
 use Rattle.bus_model.specs.Bus.{bus_deliveries, frames_of, ranks_of, state_at}
-use Rattle.bus_model.proofs.ListsInTurn.{InTurn, each_given, each_more, each_of_pieces, given_in_turn, pairs_in_turn, pieces_in_turn, range_in_turn, turn_append}
+use Rattle.bus_model.proofs.ListsInTurn.{InTurn, each_given, each_more, each_of_pieces, given_in_turn, pairs_in_turn, pieces_in_turn, range_in_turn}
+use Rattle.bus_model.proofs.ListsInTurn.{turn_append}
 use Rattle.bus_model.proofs.ReceivedInRounds.{ids_rise}
 use Rattle.bus_alignment.specs.LawfulRuns.{IsLawfulRun}
-use Rattle.bus_induction.proofs.DeliveryOrder.{Apart, Before, by_frame, by_node, by_rank, by_slot, places_apart}
+use Rattle.air_log.proofs.DeliveryOrder.{Before, by_frame, by_node, by_rank, by_slot}
+use Rattle.bus_induction.proofs.DeliveriesApart.{Apart, places_apart}
 use Rattle.bus_induction.proofs.RunsOfLogs.{run}
 
 -- where a delivery comes from

@@ -6,6 +6,7 @@ pub mod PlannedRounds
 pub mod RoundsInTurn
 pub mod MembersByTune
 pub mod WindowsOfRounds
+pub mod NumbersOfRanges
 pub mod SameDeliveries
 pub mod CoresOfWindows
 pub mod SameScans
@@ -14,6 +15,6 @@ pub mod StartingNodes
 pub mod BusLeaders
 pub mod LedRounds
 pub mod FramesInTurn
-pub mod DeliveryOrder
+pub mod DeliveriesApart
 pub mod DeliveredInSlots
 pub mod DeliveriesInTurn

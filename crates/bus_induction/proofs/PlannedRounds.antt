@@ -1,5 +1,6 @@
 -- All windows of a rank in a frame are of one round, by one plan that was sent for it.
-use Rattle.std.proofs.Common.{◌≡◌, ℕ, ◌<◌, ◌≤◌, List, [], ◌∷◌, Bool, true, false, ◌==◌, Some, None, Option, inl, inr, fold, is_some, refl, sym, ◌∙◌, ap, subst, arith, eq-eqb, true≢false}
+use Rattle.std.proofs.Common.{◌≡◌, ℕ, ◌<◌, ◌≤◌, List, [], ◌∷◌, Bool, true, false, ◌==◌, Some, None, Option, inl, inr, fold, is_some, refl, sym, ◌∙◌, ap, subst}
+use Rattle.std.proofs.Common.{arith, eq-eqb, true≢false}
 use Rattle.std.specs.Prelude.{◌⊎◌}
 use Rattle.std.proofs.lemmas.Bool.{cases_lt, ne_eqb, cond-true, cond-false, cond_both}
 use Rattle.lwb_base.specs.Messages.{Plan}

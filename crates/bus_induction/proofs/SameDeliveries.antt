@@ -1,8 +1,8 @@
 -- What is delivered in a lawful run, and what is lost before it is queued, is that of the bus.
-use Rattle.std.proofs.Common.{◌≡◌, ℕ, zero, suc, ◌+◌, ◌<◌, ◌≤◌, ◌==◌, eq-eqb, List, [], ◌∷◌, Bool, true, false, Some, None, Option, option_to_list, inl, inr, All, Contains, flat_map, length, get_or, refl, sym, ◌∙◌, ap, subst, arith}
+use Rattle.std.proofs.Common.{◌≡◌, ℕ, ◌+◌, ◌<◌, ◌≤◌, ◌==◌, eq-eqb, List, [], ◌∷◌, Bool, true, false, Some, None, Option, option_to_list, inl, inr, All}
+use Rattle.std.proofs.Common.{Contains, flat_map, length, get_or, refl, sym, ◌∙◌, ap, subst, arith}
 use Rattle.std.specs.Option.{option_map_or}
-use Rattle.std.specs.List.{AllByRecursion, range_with_len}
-use Rattle.std.proofs.lemmas.Bool.{cases_lt}
+use Rattle.std.specs.List.{AllByRecursion}
 use Rattle.std.proofs.lemmas.List.Elements.{Contains-append_left, Contains-append_right}
 use Rattle.lwb_base.specs.Messages.{Plan}
 use Rattle.bus_rules.specs.declared.delivery.Delivery.{Delivery}
@@ -11,7 +11,7 @@ use Rattle.bus_rules.specs.Plans.{last_slot}
 use Rattle.scenario_text.specs.ScenarioParts.{ScenarioParts}
 use Rattle.scenario_text.specs.FloodParts.{knows}
 use Rattle.scenario_text.specs.declared.lines.NodeLine.{NodeLine}
-use Rattle.radio_model.proofs.Members.{any_of, from_filter, from_flat, from_map, in_filter, in_flat, in_head, in_map, in_tail, not_in_none, of_option}
+use Rattle.radio_model.proofs.Members.{any_of, from_filter, from_flat, from_map, in_filter, in_flat, in_map, not_in_none, of_option}
 use Rattle.air_log.specs.declared.entry.Entry.{Entry}
 use Rattle.air_log.specs.Deliveries.{delivered_at as delivered_in_air, deliveries_of}
 use Rattle.air_log.specs.Devices.{Device}
@@ -36,28 +36,12 @@ use Rattle.bus_alignment.proofs.SameDrops.{IsStart, drops_same}
 use Rattle.bus_induction.proofs.CoresOfWindows.{all_slots, cores_law}
 use Rattle.bus_induction.proofs.DeliveredInSlots.{delivered_nowhere, delivered_same}
 use Rattle.bus_induction.proofs.DeliveriesInTurn.{bus_in_turn, from_windows, node_apart, node_places}
-use Rattle.bus_induction.proofs.DeliveryOrder.{Apart, put_in_order, places_apart}
+use Rattle.bus_induction.proofs.DeliveriesApart.{Apart, put_in_order, places_apart}
 use Rattle.bus_induction.proofs.FramesInTurn.{frame_before}
 use Rattle.bus_induction.proofs.RunsOfLogs.{run, known_by}
 use Rattle.bus_induction.proofs.SlotsAtNodes.{look_up}
 use Rattle.bus_induction.proofs.WindowsInTurn.{closing_of}
-
--- the numbers of a range
-in_range : (a n k : ℕ) → a ≤ k → k < a + n → Contains (range_with_len a n) k
-in_range a zero k from below = absurd (omega (arith, from, below))
-in_range a (suc n) k from below =
-    elim (cases_lt a k) [
-      | inl later ↦ in_tail (range_with_len (a + 1) n) a k (in_range (a + 1) n k (omega (arith, later)) (omega (arith, below)))
-      | inr first ↦ subst (λ (i : ℕ). Contains (a ∷ range_with_len (a + 1) n) i) (omega (arith, from, first)) (in_head (range_with_len (a + 1) n) a)
-    ]
-
-from_range : (a n k : ℕ) → Contains (range_with_len a n) k → k < a + n
-from_range a zero k there = absurd (not_in_none k there)
-from_range a (suc n) k there =
-    elim (contains_cases a (range_with_len (a + 1) n) k there) [
-      | inl same ↦ omega (arith, same)
-      | inr later ↦ (let below = from_range (a + 1) n k later in omega (arith, below))
-    ]
+use Rattle.bus_induction.proofs.NumbersOfRanges.{in_range, from_range}
 
 -- what a window delivers is among what its node delivers
 in_windows : (S : Setup) (ws : List WindowLog) (w : WindowLog) (c : Closing) (a : Delivery) → Contains ws w → w.closed ≡ Some c → at_closing S w ≡ Some a
@@ -174,7 +158,7 @@ module _ (heards : SlotHeardLaw) (s : ScenarioParts) (clocks : ℕ → ℕ → �
   from_plan f rank in_run hosted a (Some p) is within =
       let slot = from_flat (slot_deliveries s rank f p (state_at s f)) (slots_of p) a within in
       let node = from_filter (delivered_at s rank f p (state_at s f) slot.0) (ids s.nodes) a slot.2 in
-      let below = from_range 0 (last_slot p + 1) slot.0 slot.1 in
+      let below = (from_range 0 (last_slot p + 1) slot.0 slot.1).1 in
       let line = from_map (λ (m : NodeLine). m.node) s.nodes node.0 node.1 in
       in_all f rank slot.0 node.0 p (record { in_run = in_run; hosted = hosted; plan = is }) (omega (arith, below)) a line.0 line.1 line.2 node.2
 
@@ -182,8 +166,8 @@ module _ (heards : SlotHeardLaw) (s : ScenarioParts) (clocks : ℕ → ℕ → �
   here a within =
       let frame = from_flat (λ (g : ℕ). flat_map (of_round g) (ranks_of s)) (frames_of s) a within in
       let rank = from_flat (of_round frame.0) (ranks_of s) a frame.2 in
-      let below = from_range 0 s.frames frame.0 frame.1 in
-      let hosted = from_range 0 (length s.hosts) rank.0 rank.1 in
+      let below = (from_range 0 s.frames frame.0 frame.1).1 in
+      let hosted = (from_range 0 (length s.hosts) rank.0 rank.1).1 in
       from_plan frame.0 rank.0 (omega (arith, below)) (omega (arith, hosted)) a (round_plan s rank.0 frame.0 (state_at s frame.0)) refl rank.2
 
   pub same_deliveries : deliveries_of s clocks air ≡ bus_deliveries s

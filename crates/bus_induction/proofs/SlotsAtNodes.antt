@@ -1,6 +1,7 @@
 -- One slot at each node: a member is left by it as its window closes, and so is a scanner that heard in it; every other
 -- node stays as it is.
-use Rattle.std.proofs.Common.{◌≡◌, ℕ, suc, ◌<◌, List, [], ◌∷◌, Bool, true, false, Some, None, Option, inl, inr, Contains, is_some, refl, sym, ◌∙◌, ap, true≢false}
+use Rattle.std.proofs.Common.{◌≡◌, ℕ, suc, ◌<◌, List, [], ◌∷◌, Bool, true, false, Some, None, Option, inl, inr, Contains, is_some, refl, sym, ◌∙◌, ap}
+use Rattle.std.proofs.Common.{true≢false}
 use Rattle.std.specs.Prelude.{◌⊎◌}
 use Rattle.std.proofs.lemmas.Bool.{cases_eq, cases_Bool, cond-false}
 use Rattle.lwb_base.specs.Messages.{Plan}

@@ -1,5 +1,6 @@
 -- The windows of a node in a frame, one after another: each closes by its row, and is followed by that of the next slot.
-use Rattle.std.proofs.Common.{◌≡◌, ℕ, suc, ◌+◌, ◌<◌, ◌≤◌, List, Bool, true, nat_lt, Some, None, Option, Contains, is_some, refl, sym, ◌∙◌, ap, subst, arith, lt-ltb, true≢false}
+use Rattle.std.proofs.Common.{◌≡◌, ℕ, suc, ◌+◌, ◌<◌, ◌≤◌, List, Bool, true, nat_lt, Some, None, Option, Contains, is_some, refl, sym, ◌∙◌, ap, subst, arith}
+use Rattle.std.proofs.Common.{lt-ltb, true≢false}
 use Rattle.std.specs.Option.{IfSome}
 use Rattle.std.proofs.lemmas.Bool.{ltb-true, cond-true, cond_both}
 use Rattle.bus_rules.specs.Cores.{is_member}

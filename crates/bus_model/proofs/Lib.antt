@@ -2,6 +2,7 @@
 pub mod Options
 pub mod OneInitiator
 pub mod FirstHearings
+pub mod HeardOrigins
 pub mod LeastPaths
 pub mod SendingCounts
 pub mod ReceivedByPaths

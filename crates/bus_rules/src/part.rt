@@ -1,3 +1,6 @@
+ghost use Rattle.std.specs.Prelude.{◌≡◌};
+ghost use Rattle.bus_rules.specs.Slots.{is_schedule_part};
+
 use lwb_base::Owner;
 
 /// What a slot of a round is for.
@@ -11,4 +14,16 @@ pub enum Part {
     Contention(u8),
     /// The last slot, in which the host closes the round.
     Closing,
+}
+
+impl Part {
+    /// Whether the host says its schedule in such a slot: in the first and in the last one.
+    pub fn is_for_schedule(self) -> bool
+        ensures { result ≡ is_schedule_part self }
+    {
+        match self {
+            Part::Opening | Part::Closing => true,
+            Part::Data(_) | Part::Contention(_) => false,
+        }
+    }
 }

@@ -1,5 +1,5 @@
 -- The line of a node by what was counted of it.
-use Rattle.std.proofs.Common.{◌≡◌, ℕ, ◌<◌, List, length, get_or, true, ◌==◌, All, sym, ◌∙◌, ap, subst, arith, eq-eqb}
+use Rattle.std.proofs.Common.{◌≡◌, ℕ, ◌<◌, List, length, get_or, true, ◌==◌, All, sym, ◌∙◌, ap, arith, eq-eqb}
 use Rattle.std.specs.Prelude.{slice_index_or}
 use Rattle.std.proofs.lemmas.List.{get_or-map}
 use Rattle.std.proofs.lemmas.List.Folds.{list_any_at}
@@ -12,7 +12,6 @@ use Rattle.air_log.specs.declared.entry.Entry.{Entry}
 use Rattle.air_log.specs.Lawful.{Lawful}
 use Rattle.air_log.specs.NodeCharges.{charge_in, charges_in}
 use Rattle.energy_account.specs.declared.account.AccountLine.{AccountLine}
-use Rattle.energy_account.specs.declared.energy.Energy.{Energy}
 use Rattle.energy_account.specs.Accounts.{line_for}
 use Rattle.energy_account.specs.Energies.{energy_of}
 use Rattle.energy_account.specs.Times.{TimesState, HasTimes, EndsEarly}

@@ -1,14 +1,13 @@
 -- The sums of a log, entry by entry, and that they fit in 64 bits.
-use Rattle.std.proofs.Common.{◌≡◌, ◌≢◌, ℕ, zero, suc, ◌+◌, ◌-◌, ◌%◌, ◌^◌, ◌<◌, ◌≤◌, List, [], ◌∷◌, ◌++◌, filter, filter_map, replicate, reverse, sum_by, length}
+use Rattle.std.proofs.Common.{◌≡◌, ◌≢◌, ℕ, zero, suc, ◌+◌, ◌-◌, ◌%◌, ◌^◌, ◌≤◌, List, [], ◌∷◌, ◌++◌, filter, filter_map, replicate, reverse, sum_by}
 use Rattle.std.proofs.Common.{get_or, Bool, true, ◌==◌, if◌then◌else◌, All, Contains, Some, None, ◌⊎◌, inl, inr, refl, sym, ◌∙◌, ap, subst, arith, eq-eqb}
 use Rattle.std.specs.Prelude.{slice_index_or}
 use Rattle.std.proofs.Math.Nat.{mod-eq_of_lt}
 use Rattle.std.proofs.lemmas.Bool.{cond-true, cond-false, cond_both, ne_eqb, cases_eq}
 use Rattle.std.proofs.lemmas.List.{append-nil}
 use Rattle.std.proofs.lemmas.List.Elements.{filter-append, filter_map-append, All-contains, All-contains_itself, All-head, All-tail}
-use Rattle.std.proofs.lemmas.List.Sorted.{sum_by-IsPermutation, IsPermutation-reverse, Contains-permutation}
+use Rattle.std.proofs.lemmas.List.Sorted.{sum_by-IsPermutation, Contains-permutation}
 use Rattle.std.proofs.lemmas.List.Sums.{sum_by-cons, sum_by_push}
-use Rattle.tick_clock.specs.Clocks.{IsClock}
 use Rattle.radio_model.specs.declared.sending.Sending.{Sending}
 use Rattle.radio_model.specs.OnAir.{Tuning}
 use Rattle.scenario_text.specs.FloodParts.{knows}
@@ -22,7 +21,6 @@ use Rattle.air_log.specs.declared.entry.TunedEntry.{TunedEntry}
 use Rattle.air_log.specs.Entries.{sending_in, tuning_in, sendings_of, tunings_of}
 use Rattle.air_log.specs.Lawful.{Lawful, heard_by, sent_by, tuned_by, trail_in, trail_sent, trail_tuned}
 use Rattle.air_log.specs.Trails.{run_end}
-use Rattle.air_log.specs.TrailEntries.{IsTunedBy}
 use Rattle.air_log.proofs.AlarmLoop.{early_in_run}
 use Rattle.air_log.proofs.Elements.{filter_from, contains_head, contains_tail, contains_cases}
 use Rattle.air_log.proofs.TrailTunings.{each_tuned}

@@ -1,5 +1,6 @@
 -- What each step of a tick makes of a node on its way through its frame.
-use Rattle.std.proofs.Common.{◌≡◌, ℕ, suc, ◌+◌, ◌/◌, ◌<◌, ◌⊎◌, inl, inr, List, ◌∷◌, Bool, true, false, if◌then◌else◌, nat_lt, Some, None, Option, Contains, refl, sym, ◌∙◌, ap, subst, arith}
+use Rattle.std.proofs.Common.{◌≡◌, ℕ, suc, ◌+◌, ◌/◌, ◌<◌, ◌⊎◌, inl, inr, List, ◌∷◌, Bool, true, false, if◌then◌else◌, nat_lt, Some, None, Option, Contains}
+use Rattle.std.proofs.Common.{refl, sym, ◌∙◌, ap, subst, arith}
 use Rattle.lwb_base.specs.Messages.{Schedule}
 use Rattle.lwb_base.specs.declared.event.Event.{Event}
 use Rattle.lwb_base.specs.declared.event.Event.TheVariants.{Boot, Alarm, Heard, Sent}
@@ -39,7 +40,7 @@ use Rattle.air_bus.proofs.RowsOfWindows.{begun_after, joined_after, gone_on_afte
 use Rattle.air_bus.proofs.WindowWalk.{on_in}
 use Rattle.bus_alignment.specs.FrameCourses.{power_at}
 use Rattle.bus_alignment.proofs.AlignedSlots.{frame_core}
-use Rattle.frame_courses.proofs.AcceptedRanks.{HasOwnFlood, closing_rank}
+use Rattle.frame_courses.proofs.OwnRanks.{HasOwnFlood, closing_rank}
 use Rattle.frame_courses.proofs.LinkedWindows.{AreEarlier, AreTold, GoOn, IsLeft, IsUnderWay, IsUntouched, LinksTo, Stands, StandsIn, one_changed, one_more}
 
 -- a place after a window

@@ -26,7 +26,7 @@ use Rattle.air_bus.proofs.PlacesWithout.{by_power, no_window}
 use Rattle.air_bus.proofs.RowsOfWindows.{open_first, first_known}
 use Rattle.air_bus.proofs.WindowWalk.{P, at_tick, fine_before, keeps, waits, windows_before}
 use Rattle.bus_alignment.specs.FrameCourses.{power_at}
-use Rattle.frame_courses.proofs.AcceptedRanks.{IsOwn, own_steps}
+use Rattle.frame_courses.proofs.OwnRanks.{IsOwn, own_steps}
 use Rattle.frame_courses.proofs.CourseSteps.{at_line, closes_in, comes_on, ends_frame, hears_in, joins_in, opens_in, sends_in}
 use Rattle.frame_courses.proofs.LinkedWindows.{GoOn, HasAdded, IsUnderWay, StandsIn}
 

@@ -23,7 +23,7 @@ use Rattle.air_bus.specs.OpenWindows.{AreClosed}
 use Rattle.air_bus.proofs.PlacesWithout.{no_window}
 use Rattle.air_bus.proofs.WindowWalk.{windows_in_phase}
 use Rattle.bus_alignment.specs.FrameCourses.{IsWindowIn, power_at, power_after}
-use Rattle.frame_courses.proofs.AcceptedRanks.{IsOwn, own_steps}
+use Rattle.frame_courses.proofs.OwnRanks.{IsOwn, own_steps}
 use Rattle.frame_courses.proofs.CourseWalk.{under_way_before, under_way_over}
 use Rattle.frame_courses.proofs.LinkedWindows.{AreEarlier, AreLinked, HasAdded, HasEnded, IsUnderWay, StandsIn, windows_until}
 

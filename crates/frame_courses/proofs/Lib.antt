@@ -5,7 +5,7 @@ pub mod Strangers
 pub mod LinkedWindows
 pub mod CourseWalk
 -- the crate's own
-mod AcceptedRanks
+mod OwnRanks
 mod CourseSteps
 mod FrameEnds
 mod FoundWindows

@@ -1,5 +1,6 @@
 -- How the windows of a node follow one another, frame by frame, and where the node stands in its frame.
-use Rattle.std.proofs.Common.{◌≡◌, ℕ, suc, ◌/◌, ◌<◌, ◌≤◌, ◌⊎◌, inl, inr, List, [], ◌∷◌, ◌++◌, Bool, true, false, Some, None, is_some, Option, Contains, sym, ◌∙◌, ap, subst, arith, true≢false}
+use Rattle.std.proofs.Common.{◌≡◌, ℕ, suc, ◌/◌, ◌<◌, ◌≤◌, ◌⊎◌, inl, inr, List, [], ◌∷◌, ◌++◌, Bool, true, false, Some, None, is_some, Option, Contains, sym}
+use Rattle.std.proofs.Common.{◌∙◌, ap, subst, arith, true≢false}
 use Rattle.std.specs.Bool.{⊤}
 use Rattle.scenario_text.specs.ScenarioParts.{ScenarioParts}
 use Rattle.scenario_text.specs.ScenarioFacts.{IsSoundScenario}

@@ -1,5 +1,6 @@
 -- An id of no node is told nothing, so it stays off, does nothing, and has no windows.
-use Rattle.std.proofs.Common.{◌≡◌, ℕ, zero, suc, ◌+◌, List, [], ◌∷◌, Bool, true, false, ◌==◌, ◌&&◌, if◌then◌else◌, filter, fold, Contains, refl, sym, ◌∙◌, ap, subst, eqb-true, true≢false}
+use Rattle.std.proofs.Common.{◌≡◌, ℕ, zero, suc, ◌+◌, List, [], ◌∷◌, Bool, true, false, ◌==◌, ◌&&◌, if◌then◌else◌, filter, fold, Contains, refl, sym, ◌∙◌, ap}
+use Rattle.std.proofs.Common.{subst, eqb-true, true≢false}
 use Rattle.std.proofs.lemmas.List.Elements.{All-contains}
 use Rattle.scenario_text.specs.ScenarioParts.{ScenarioParts}
 use Rattle.scenario_text.specs.ScenarioFacts.{IsScriptLine}

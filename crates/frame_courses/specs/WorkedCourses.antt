@@ -13,7 +13,8 @@ use Rattle.air_log.specs.Devices.{Device, PowerOn, seen}
 use Rattle.air_log.specs.Trails.{one_alarm, setup_of}
 use Rattle.air_log.specs.WindowLogs.{WindowLog, opened_log}
 use Rattle.air_safety.specs.OnePacket.{data_with, drifting, one_packet, one_packet_log}
-use Rattle.air_safety.specs.OnePacketMember.{awaits_9_0, floods_9_1, listens_9_0, member_32, member_36, member_late, rests_after_5, waits_for_9}
+use Rattle.air_safety.specs.OnePacketMember.{member_32, member_36, member_late}
+use Rattle.air_safety.specs.OnePacketMemberNodes.{awaits_9_0, floods_9_1, listens_9_0, rests_after_5, waits_for_9}
 use Rattle.air_safety.specs.OnePacketNodes.{flood, node, reopened, waiting}
 use Rattle.bus_alignment.specs.FrameCourses.{power_after, power_at}
 use Rattle.frame_courses.specs.FramePlaces.{StandsByTune}

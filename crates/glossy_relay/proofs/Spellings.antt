@@ -1,5 +1,5 @@
 -- A packet of any kind is one with each counter up to 11.
-use Rattle.std.proofs.Common.{◌≡◌, ℕ, ◌+◌, ◌*◌, ◌<◌, ◌≤◌, List, Bool, true, ◌&&◌, sym, ◌∙◌, ap, subst, arith, length, drop, Option, Some, None, is_some, refl, ◌==◌, nat_le}
+use Rattle.std.proofs.Common.{◌≡◌, ℕ, ◌+◌, ◌*◌, ◌≤◌, List, Bool, true, ◌&&◌, sym, ◌∙◌, ap, subst, arith, length, drop, Option, Some, None, is_some, refl, ◌==◌, nat_le}
 use Rattle.std.specs.Prelude.{slice_index, slice_set}
 use Rattle.std.proofs.lemmas.Bool.{and_parts, le-leb, false≢true}
 use Rattle.std.proofs.lemmas.List.{get_or-set_same, get_or-set_other, length-set, drop-set-lt}

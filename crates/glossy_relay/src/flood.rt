@@ -1,4 +1,5 @@
-ghost use Rattle.std.specs.Prelude.{◌≡◌, ◌≤◌, ◌&&◌, IfSome, slice_index, true};
+ghost use Rattle.std.specs.Prelude.{◌≡◌, ◌≤◌, ◌&&◌, IfSome, None, is_some, slice_index, true, if◌then◌else◌};
+ghost use Rattle.std.specs.Option.{option_copied};
 ghost use Rattle.std.specs.Str.{bytes_eq};
 ghost use Rattle.lwb_packets.specs.Body.{body};
 ghost use Rattle.glossy_relay.specs.Relaying.{carries, is_packet, is_spelling as spells};
@@ -148,14 +149,29 @@ impl Flood {
         }
     }
 
+    /// Whether a listener heard a packet that fitted. False where the flood began here.
+    pub fn has_accepted(&self) -> bool
+        ensures { result ≡ is_some (accepted_of self.now) }
+    {
+        !self.initiated && self.first.is_some()
+    }
+
+    /// A listener's first packet that fitted. None exactly where none did or the flood began here.
+    pub fn first_accepted(&self) -> Option<&Packet>
+        ensures { option_copied result ≡ (if self.now.initiated then None else self.now.first) }
+    {
+        if self.initiated {
+            None
+        } else {
+            self.first.as_ref()
+        }
+    }
+
     /// A listener's first packet that fitted, and its counter. None exactly where none did or the flood began here.
     pub fn accepted(&self) -> Option<(Packet, u8)>
         ensures { result ≡ accepted_of self.now }
     {
-        if self.initiated {
-            return None;
-        }
-        let p = self.first.as_ref()?;
+        let p = self.first_accepted()?;
         Some((p.copy(), p.counter()))
     }
 }

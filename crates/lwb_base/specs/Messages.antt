@@ -31,6 +31,11 @@ pub record Plan : Type 0 where
   pub acks : List Ask
   pub owners : List ℕ
 
+-- the last slot of the longest round, by the number of contention slots that is named: behind the opening come 40 data
+-- slots, and one contention slot where none is named, else at most 4
+abbrev pub greatest_slot : ℕ → ℕ
+greatest_slot contend = if contend == 0 then 42 else 45
+
 -- gap 0 opens the round of this plan, and gap g above 0 closes the round g frames before it
 pub record Schedule : Type 0 where
   pub plan : Plan

@@ -16,6 +16,7 @@ mod radio;
 mod rank;
 mod read;
 mod recording_radio;
+mod slots;
 mod standard;
 mod write;
 
@@ -34,5 +35,6 @@ pub use radio::Radio;
 pub use rank::Rank;
 pub use read::{INPUT_LIMIT, ReadStop, read_all};
 pub use recording_radio::RecordingRadio;
+pub use slots::greatest_slot;
 pub use standard::{ReaderSource, WriterSink};
 pub use write::{WriteFault, write_all};

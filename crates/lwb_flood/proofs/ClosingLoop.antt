@@ -15,8 +15,10 @@ module _ (first now : World) (place : ℕ) (so : now ≡ closed_all (take place 
   pub closing_below : place < length first.members → place < length now.members
   closing_below below = omega (arith, long)
 
-  pub closing_on : place < length first.members → (new : World) (d : Member) → new ≡ closed_by (get_or now.members place d).node now → new ≡ closed_all (take (place + 1) (map node_of first.members)) first
+  pub closing_on : place < length first.members → (new : World) (d : Member) → new ≡ closed_by (get_or now.members place d).node now
+      → new ≡ closed_all (take (place + 1) (map node_of first.members)) first
   closing_on below new d same =
       let v : ℕ = (get_or now.members place d).node in
-      let at : v ≡ get_or (map node_of first.members) place v = sym (get_or-map node_of now.members place d v (closing_below below)) ∙ ap (λ (l : List ℕ). get_or l place v) nodes in
+      let at : v ≡ get_or (map node_of first.members) place v = sym (get_or-map node_of now.members place d v (closing_below below))
+      ∙ ap (λ (l : List ℕ). get_or l place v) nodes in
       same ∙ ap (closed_by v) so ∙ sym (closed_more (map node_of first.members) place v first (omega (arith, length-map first.members node_of)) at)

@@ -1,8 +1,8 @@
 -- The end of a sending, as the code brings it about.
-use Rattle.std.proofs.Common.{◌≡◌, ◌≢◌, ℕ, zero, suc, ◌+◌, ◌<◌, ◌≤◌, ◌^◌, ◌↔◌, List, [], ◌∷◌, ◌++◌, map, take, length, get_or, Bool, true, false, if◌then◌else◌, Option, Some, None, inl, inr, refl, sym, ◌∙◌, ap, subst, arith}
+use Rattle.std.proofs.Common.{◌≡◌, ℕ, zero, suc, ◌<◌, ◌≤◌, ◌↔◌, List, [], ◌∷◌, map, length, get_or, Bool, true, false, if◌then◌else◌, Option, Some, None, refl}
+use Rattle.std.proofs.Common.{sym, ◌∙◌, ap, subst, arith}
 use Rattle.std.specs.Prelude.{Contains, AllPairs, All, OnOk, Result, Ok, Err}
 use Rattle.std.proofs.lemmas.Bool.{cond_both, cond-true, cond-false}
-use Rattle.std.proofs.lemmas.List.{length-map, get_or-map}
 use Rattle.link_trace.specs.Passes.{Lines}
 use Rattle.glossy_relay.specs.declared.flood.After.{After}
 use Rattle.glossy_relay.specs.declared.flood.After.TheVariants.{Off, More}
@@ -14,9 +14,10 @@ use Rattle.radio_model.specs.Stations.{MediumState, IsTime, nodes_of, after, cha
 use Rattle.radio_model.proofs.OneStation.{same_nodes}
 use Rattle.radio_model.proofs.Changes.{finished_keeps, retuned_keeps}
 use Rattle.air_log.specs.declared.entry.Entry.{Entry}
-use Rattle.air_log.proofs.Elements.{map_contains, map_from}
+use Rattle.air_log.proofs.Elements.{map_contains, map_from, pairs_of_map}
 use Rattle.lwb_flood.specs.declared.member.Member.{Member}
-use Rattle.lwb_flood.specs.FloodWorlds.{World, IsShape, IsHeardBy, Ended, node_of, with_change, with_act, after_own, is_last, own_ended, gone, ended, heard_by_all, readings_at}
+use Rattle.lwb_flood.specs.FloodWorlds.{World, IsShape, IsHeardBy, Ended, node_of, with_change, with_act, after_own, is_last, own_ended, gone, ended}
+use Rattle.lwb_flood.specs.FloodWorlds.{heard_by_all, readings_at}
 use Rattle.lwb_flood.proofs.WorldLists.{nodes_kept}
 use Rattle.lwb_flood.proofs.FloodShapes.{own_ended_shape}
 
@@ -33,17 +34,10 @@ module _ (u : ℕ) (ps : List (ℕ × ℕ)) (sender : (p : ℕ × ℕ) → Conta
 pub in_list : {X : Type 0} (P : X → Type 0) (xs : List X) → All P xs → (x : X) → Contains xs x → P x
 in_list P xs all x (k, below, at) = subst P at (all k x below)
 
-pairs_of_map : {X Y : Type 0} (g : X → Y) (R : Y → Y → Type 0) (xs : List X) → AllPairs (λ a b. R (g a) (g b)) xs → AllPairs R (map g xs)
-pairs_of_map g R [] all i j d less within = absurd (omega arith)
-pairs_of_map g R (x ∷ xs) all i j d less within =
-    let long = length-map (x ∷ xs) g in
-    let at_i = get_or-map g (x ∷ xs) i x d (omega arith) in
-    let at_j = get_or-map g (x ∷ xs) j x d (omega arith) in
-    subst (λ (y : _). R y (get_or (map g (x ∷ xs)) j d)) (sym at_i) (subst (λ (y : _). R (g (get_or (x ∷ xs) i x)) y) (sym at_j) (all i j x less (omega arith)))
-
 -- the medium's answer says who hears
 pub heard_by : (lines : Lines) (x : Sending) (w : World) (ps : List (ℕ × ℕ)) → All (λ p. p.1 ≡ x.node) ps → AllPairs (λ p q. p.0 < q.0) ps
-    → ((a : Scene) → Holds w.medium a → a.lines ≡ lines → (v : ℕ) → Contains ps (v, x.node) ↔ (Contains (nodes_of w.medium) v × Hears (as_it_stands w.medium x.end a) v x)) → IsHeardBy lines x w (map (λ p. p.0) ps)
+    → ((a : Scene) → Holds w.medium a → a.lines ≡ lines → (v : ℕ) → Contains ps (v, x.node)
+    ↔ (Contains (nodes_of w.medium) v × Hears (as_it_stands w.medium x.end a) v x)) → IsHeardBy lines x w (map (λ p. p.0) ps)
 heard_by lines x w ps sender ascend clause = record {
   ascending = pairs_of_map (λ (p : ℕ × ℕ). p.0) (λ u v. u < v) ps ascend;
   hearers = λ a h same v.
@@ -52,7 +46,8 @@ heard_by lines x w ps sender ascend clause = record {
       (λ there. both.0 (hears_as_pair x.node ps by v there), λ is. hears_as_node x.node ps by v (both.1 is));
 }
 
-pub hearers_known : (x : Sending) (m : MediumState) (ps : List (ℕ × ℕ)) → All (λ p. p.1 ≡ x.node) ps → (a : Scene) → ((v : ℕ) → Contains ps (v, x.node) ↔ (Contains (nodes_of m) v × Hears a v x)) → All (λ p. Contains (nodes_of m) p.0) ps
+pub hearers_known : (x : Sending) (m : MediumState) (ps : List (ℕ × ℕ)) → All (λ p. p.1 ≡ x.node) ps → (a : Scene)
+    → ((v : ℕ) → Contains ps (v, x.node) ↔ (Contains (nodes_of m) v × Hears a v x)) → All (λ p. Contains (nodes_of m) p.0) ps
 hearers_known x m ps sender a clause k d below =
     let p : ℕ × ℕ = get_or ps k d in
     let there : Contains ps p = (k, below, same ps k p d below) in
@@ -75,7 +70,8 @@ time_after m v t is = record {
 }
   where
     by_change : (s : Station) → Contains m.stations s → (x : Sending) → (changed_at v finished s).sending ≡ Some x → t ≤ x.end
-    by_change s there x = cond_both (Rattle.std.proofs.Common.nat_eq s.node v) (finished s) s (λ (z : Station). z.sending ≡ Some x → t ≤ x.end) (λ _ sends. none sends) (λ _ sends. is.running s x there sends)
+    by_change s there x = cond_both (Rattle.std.proofs.Common.nat_eq s.node v) (finished s) s (λ (z : Station). z.sending ≡ Some x → t ≤ x.end)
+        (λ _ sends. none sends) (λ _ sends. is.running s x there sends)
       where
         none : (let o : Option Sending = None in o ≡ Some x) → t ≤ x.end
         none same = cc
@@ -91,29 +87,35 @@ off_is false same = cc
 -- the world when its node has ended it
 module _ (x : Sending) (old : World) (after : After) (last : after ≡ (if is_last x.node old.members then Off else More)) where
   pub ended_more : after ≡ More → own_ended x old ≡ ended x old
-  ended_more is = sym (cond-false (is_last x.node old.members) (gone x.node x.end (own_ended x old)) (own_ended x old) (more_is (is_last x.node old.members) (sym last ∙ is)))
+  ended_more is = sym (cond-false (is_last x.node old.members) (gone x.node x.end (own_ended x old)) (own_ended x old)
+      (more_is (is_last x.node old.members) (sym last ∙ is)))
 
   pub ended_off : after ≡ Off → gone x.node x.end (own_ended x old) ≡ ended x old
-  ended_off is = sym (cond-true (is_last x.node old.members) (gone x.node x.end (own_ended x old)) (own_ended x old) (off_is (is_last x.node old.members) (sym last ∙ is)))
+  ended_off is = sym (cond-true (is_last x.node old.members) (gone x.node x.end (own_ended x old)) (own_ended x old)
+      (off_is (is_last x.node old.members) (sym last ∙ is)))
 
 own_nodes : (x : Sending) (old : World) → map node_of (own_ended x old).members ≡ map node_of old.members
 own_nodes x old = nodes_kept x.node after_own (λ m. refl) old.members
 
 ended_nodes : (x : Sending) (old : World) → map node_of (ended x old).members ≡ map node_of old.members
 ended_nodes x old =
-    cond_both (is_last x.node old.members) (gone x.node x.end (own_ended x old)) (own_ended x old) (λ (w : World). map node_of w.members ≡ map node_of old.members)
+    cond_both (is_last x.node old.members) (gone x.node x.end (own_ended x old)) (own_ended x old)
+    (λ (w : World). map node_of w.members ≡ map node_of old.members)
     (λ _. nodes_kept x.node (with_act Rattle.lwb_flood.specs.declared.member.Act.TheVariants.Off) (λ m. refl) (own_ended x old).members ∙ own_nodes x old)
     (λ _. own_nodes x old)
 
-pub ended_by : {C : Type 0} (R : C → ℕ → ℕ) (cs : List C) (lines : Lines) (x : Sending) (old mid new : World) (vs : List ℕ) → IsHeardBy lines x old vs → mid ≡ ended x old
+pub ended_by : {C : Type 0} (R : C → ℕ → ℕ) (cs : List C) (lines : Lines) (x : Sending) (old mid new : World) (vs : List ℕ) → IsHeardBy lines x old vs
+    → mid ≡ ended x old
     → new ≡ heard_by_all (readings_at R cs (map node_of mid.members)) x vs mid → Ended lines (readings_at R cs (map node_of old.members)) x old new
 ended_by R cs lines x old mid new vs by same is = record {
   hearers = vs;
   heard = by;
-  is = is ∙ ap (λ (w : World). heard_by_all (readings_at R cs (map node_of w.members)) x vs w) same ∙ ap (λ (us : List ℕ). heard_by_all (readings_at R cs us) x vs (ended x old)) (ended_nodes x old);
+  is = is ∙ ap (λ (w : World). heard_by_all (readings_at R cs (map node_of w.members)) x vs w) same
+      ∙ ap (λ (us : List ℕ). heard_by_all (readings_at R cs us) x vs (ended x old)) (ended_nodes x old);
 }
 
-pub own_shape : (inside : World) → IsShape inside → (x : Sending) (medium : MediumState) (members : List Member) (air : List Entry) → medium ≡ after x.end x.node finished inside.medium → members ≡ with_change x.node after_own inside.members
+pub own_shape : (inside : World) → IsShape inside → (x : Sending) (medium : MediumState) (members : List Member) (air : List Entry)
+    → medium ≡ after x.end x.node finished inside.medium → members ≡ with_change x.node after_own inside.members
     → IsShape (record { medium = medium; members = members; air = air })
 own_shape inside is x medium members air medium_is members_is =
     let shape = own_ended_shape inside is x in
@@ -130,7 +132,8 @@ on_ok (Err e) P Q to is = is
 module _ (inside old : World) (view : inside ≡ old) (x : Sending) (lines : Lines) (ps : List (ℕ × ℕ)) (medium : MediumState) (members : List Member)
     (state : medium ≡ after x.end x.node finished inside.medium) (changed : members ≡ with_change x.node after_own inside.members)
     (sender : All (λ p. p.1 ≡ x.node) ps) (ascend : AllPairs (λ p q. p.0 < q.0) ps)
-    (clause : (a : Scene) → Holds inside.medium a → a.lines ≡ lines → (v : ℕ) → Contains ps (v, x.node) ↔ (Contains (nodes_of inside.medium) v × Hears (as_it_stands inside.medium x.end a) v x)) where
+    (clause : (a : Scene) → Holds inside.medium a → a.lines ≡ lines → (v : ℕ) → Contains ps (v, x.node)
+    ↔ (Contains (nodes_of inside.medium) v × Hears (as_it_stands inside.medium x.end a) v x)) where
   abbrev pub mid : World
   mid = record { medium = medium; members = members; air = inside.air }
 
@@ -147,13 +150,15 @@ module _ (inside old : World) (view : inside ≡ old) (x : Sending) (lines : Lin
   mid_node there = subst (λ (l : List ℕ). Contains l x.node) (sym mid_nodes) there
 
   pub mid_time : IsTime old.medium x.end → IsTime medium x.end
-  mid_time is = subst (λ (m : MediumState). IsTime m x.end) (sym state) (time_after inside.medium x.node x.end (subst (λ (w : World). IsTime w.medium x.end) (sym view) is))
+  mid_time is = subst (λ (m : MediumState). IsTime m x.end) (sym state)
+      (time_after inside.medium x.node x.end (subst (λ (w : World). IsTime w.medium x.end) (sym view) is))
 
   pub mid_known : ((a : Scene) × Holds old.medium a × (a.lines ≡ lines)) → (nodes : List ℕ) → nodes ≡ nodes_of old.medium → All (λ p. Contains nodes p.0) ps
   mid_known held nodes same =
       let h : Holds inside.medium held.0 = subst (λ (w : World). Holds w.medium held.0) (sym view) held.1 in
       let to : nodes ≡ nodes_of inside.medium = same ∙ ap (λ (w : World). nodes_of w.medium) (sym view) in
-      subst (λ (l : List ℕ). All (λ p. Contains l p.0) ps) (sym to) (hearers_known x inside.medium ps sender (as_it_stands inside.medium x.end held.0) (clause held.0 h held.2))
+      subst (λ (l : List ℕ). All (λ p. Contains l p.0) ps) (sym to)
+      (hearers_known x inside.medium ps sender (as_it_stands inside.medium x.end held.0) (clause held.0 h held.2))
 
   pub mid_heard : IsHeardBy lines x old (map (λ p. p.0) ps)
   mid_heard = subst (λ (w : World). IsHeardBy lines x w (map (λ p. p.0) ps)) view (heard_by lines x inside ps sender ascend clause)

@@ -17,7 +17,8 @@ pub occasions_append : (s : FloodState) (es fs : List Event) → occasions s (es
 occasions_append s [] fs = refl
 occasions_append s (e ∷ es) fs = ap (λ (l : List Occasion). record { before = s; event = e } ∷ l) (occasions_append (after s e) es fs)
 
-pub order_head : (e : Event) (es : List Event) → InOrder (e ∷ es) → (later : Event) → Contains es later → ((sending_of e).end ≤ (sending_of later).end) × (e ≢ later)
+pub order_head : (e : Event) (es : List Event) → InOrder (e ∷ es) → (later : Event) → Contains es later
+    → ((sending_of e).end ≤ (sending_of later).end) × (e ≢ later)
 order_head e es ordered = pairs_head (λ d e. ((sending_of d).end ≤ (sending_of e).end) × (d ≢ e)) e es ordered
 
 pub order_tail : (e : Event) (es : List Event) → InOrder (e ∷ es) → InOrder es
@@ -28,11 +29,18 @@ in_order_rest [] fs ordered = ordered
 in_order_rest (e ∷ es) fs ordered = in_order_rest es fs (order_tail e (es ++ fs) ordered)
 
 -- each event has its occasion
-pub occasion_of : (s : FloodState) (es : List Event) (e : Event) → Contains es e → (t : FloodState) × Contains (occasions s es) (record { before = t; event = e })
+pub occasion_of : (s : FloodState) (es : List Event) (e : Event) → Contains es e → (t : FloodState) × Contains (occasions s es) (record {
+  before = t;
+  event = e;
+})
 occasion_of s [] e there = absurd (not_in_none e there)
 occasion_of s (d ∷ es) e there =
     elim (contains_cases d es e there) [
-      | inl is ↦ (s, subst (λ (x : Event). Contains (occasions s (d ∷ es)) (record { before = s; event = x })) is (contains_head (record { before = s; event = d }) (occasions (after s d) es)))
+      | inl is ↦ (
+        s,
+        subst (λ (x : Event). Contains (occasions s (d ∷ es)) (record { before = s; event = x })) is
+            (contains_head (record { before = s; event = d }) (occasions (after s d) es)),
+      )
       | inr later ↦ (let o = occasion_of (after s d) es e later in (o.0, contains_tail (record { before = s; event = d }) (occasions (after s d) es) _ o.1))
     ]
 
@@ -50,7 +58,8 @@ then_before : (x y z : Sending) → Before x y → Before y z → Before x z
 then_before x y z first second = omega arith
 
 -- the first of all that are of a kind, of these nodes, where each node has one at most
-module _ (P : Sending → Type 0) (once : (x y : Sending) → P x → P y → x.node ≡ y.node → x ≡ y) (decide : (u : ℕ) → ((x : Sending) × P x × (x.node ≡ u)) ⊎ ((x : Sending) → P x → x.node ≡ u → ⊥)) where
+module _ (P : Sending → Type 0) (once : (x y : Sending) → P x → P y → x.node ≡ y.node → x ≡ y)
+    (decide : (u : ℕ) → ((x : Sending) × P x × (x.node ≡ u)) ⊎ ((x : Sending) → P x → x.node ≡ u → ⊥)) where
   abbrev IsFirst : List ℕ → Sending → Type 0
   IsFirst us x = (y : Sending) → P y → has us y.node ≡ true → Before x y
 

@@ -1,5 +1,6 @@
 -- At the closing all nodes go off that are still tuned in, one after another, and then the flood is over.
-use Rattle.std.proofs.Common.{◌≡◌, ℕ, ◌+◌, ◌-◌, ◌*◌, ◌<◌, ◌≤◌, ◌⊎◌, List, [], ◌∷◌, ◌++◌, map, take, length, get_or, IfSome, Option, None, Bool, true, false, ◌==◌, if◌then◌else◌, inl, inr, refl, sym, ◌∙◌, ap, subst, arith, eqb-true, eq-eqb}
+use Rattle.std.proofs.Common.{◌≡◌, ℕ, ◌+◌, ◌-◌, ◌*◌, ◌<◌, ◌≤◌, ◌⊎◌, List, [], ◌∷◌, ◌++◌, map, take, length, get_or, IfSome, Option, None, Bool, true, false}
+use Rattle.std.proofs.Common.{◌==◌, if◌then◌else◌, inl, inr, refl, sym, ◌∙◌, ap, subst, arith, eqb-true, eq-eqb}
 use Rattle.std.specs.Prelude.{Contains, AllPairs}
 use Rattle.std.specs.List.{list_any}
 use Rattle.std.proofs.lemmas.Bool.{cond_both, and_parts, and_from, false≢true}
@@ -24,30 +25,35 @@ use Rattle.lwb_flood.specs.declared.member.Act.TheVariants.{Listens, Waits, Send
 use Rattle.lwb_flood.specs.declared.member.Member.{Member}
 use Rattle.lwb_flood.specs.FloodLog.{HasClocks}
 use Rattle.lwb_flood.specs.FloodWorlds.{World, IsShape, node_of, moment_of, with_act, gone, is_off, stays, closed_by, closed_all}
-use Rattle.lwb_flood.proofs.TunedWindows.{sent_among}
-use Rattle.lwb_flood.proofs.WorldLists.{one_of_mark, each_changed, nodes_kept}
+use Rattle.lwb_flood.proofs.ActsTold.{sends_by}
+use Rattle.lwb_flood.proofs.FloodGone.{gone_keeps}
 use Rattle.lwb_flood.proofs.FloodHearers.{ascend_distinct}
+use Rattle.lwb_flood.proofs.FloodOver.{law_of}
 use Rattle.lwb_flood.proofs.FloodShapes.{gone_shape}
 use Rattle.lwb_flood.proofs.FloodSoFar.{events_in, running, IsListening, IsMember, Stands, InStep, IsFloodSoFar}
-use Rattle.lwb_flood.proofs.FloodBegun.{sends_by, one_member, known_member, member_of, old_lasts}
-use Rattle.lwb_flood.proofs.FloodGone.{gone_keeps}
-use Rattle.lwb_flood.proofs.FloodOver.{law_of}
+use Rattle.lwb_flood.proofs.NodesAndStations.{one_member, known_member, member_of, old_lasts}
+use Rattle.lwb_flood.proofs.TunedWindows.{sent_among}
+use Rattle.lwb_flood.proofs.WorldLists.{one_of_mark, each_changed, nodes_kept}
 
 -- one node after another
 closed_push : (us : List ℕ) (v : ℕ) (w : World) → closed_all (us ++ v ∷ []) w ≡ closed_by v (closed_all us w)
 closed_push [] v w = refl
 closed_push (u ∷ us) v w = closed_push us v (closed_by u w)
 
-pub closed_more : (vs : List ℕ) (i v : ℕ) (w : World) → i < length vs → v ≡ get_or vs i v → closed_all (take (i + 1) vs) w ≡ closed_by v (closed_all (take i vs) w)
-closed_more vs i v w below at = ap (λ (l : List ℕ). closed_all l w) (take_more vs i v below ∙ ap (λ (n : ℕ). take i vs ++ n ∷ []) (sym at)) ∙ closed_push (take i vs) v w
+pub closed_more : (vs : List ℕ) (i v : ℕ) (w : World) → i < length vs → v ≡ get_or vs i v
+    → closed_all (take (i + 1) vs) w ≡ closed_by v (closed_all (take i vs) w)
+closed_more vs i v w below at = ap (λ (l : List ℕ). closed_all l w) (take_more vs i v below ∙ ap (λ (n : ℕ). take i vs ++ n ∷ []) (sym at))
+    ∙ closed_push (take i vs) v w
 
 -- what holds of a world and stays so when a node goes off at the closing holds in the end
 closed_stays : (P : World → Type 0) → ((v : ℕ) (w : World) → P w → P (gone v CLOSING w)) → (us : List ℕ) (w : World) → P w → P (closed_all us w)
 closed_stays P goes [] w is = is
-closed_stays P goes (u ∷ us) w is = closed_stays P goes us (closed_by u w) (cond_both (list_any (stays u) w.members) w (gone u CLOSING w) P (λ _. is) (λ _. goes u w is))
+closed_stays P goes (u ∷ us) w is = closed_stays P goes us (closed_by u w)
+    (cond_both (list_any (stays u) w.members) w (gone u CLOSING w) P (λ _. is) (λ _. goes u w is))
 
 pub closed_nodes : (us : List ℕ) (w : World) → map node_of (closed_all us w).members ≡ map node_of w.members
-closed_nodes us w = closed_stays (λ (z : World). map node_of z.members ≡ map node_of w.members) (λ v z is. nodes_kept v (with_act Off) (λ m. refl) z.members ∙ is) us w refl
+closed_nodes us w = closed_stays (λ (z : World). map node_of z.members ≡ map node_of w.members)
+    (λ v z is. nodes_kept v (with_act Off) (λ m. refl) z.members ∙ is) us w refl
 
 pub closed_shape : (us : List ℕ) (w : World) → IsShape w → IsShape (closed_all us w)
 closed_shape us w is = closed_stays IsShape (λ v z shape. gone_shape z shape v CLOSING) us w is
@@ -74,7 +80,8 @@ same_test false true to from = from refl
 same_test false false to from = refl
 
 stays_is : (ms : List Member) → Distinct (map node_of ms) → (m : Member) → Contains ms m → list_any (stays m.node) ms ≡ is_off m.act
-stays_is ms distinct m there = same_test (list_any (stays m.node) ms) (is_off m.act) itself (λ off. any_of (stays m.node) ms m there (and_from (m.node == m.node) (is_off m.act) (eq-eqb m.node m.node refl) off))
+stays_is ms distinct m there = same_test (list_any (stays m.node) ms) (is_off m.act) itself
+    (λ off. any_of (stays m.node) ms m there (and_from (m.node == m.node) (is_off m.act) (eq-eqb m.node m.node refl) off))
   where
     itself : list_any (stays m.node) ms ≡ true → is_off m.act ≡ true
     itself some =
@@ -82,12 +89,16 @@ stays_is ms distinct m there = same_test (list_any (stays m.node) ms) (is_off m.
         let both = and_parts (n.0.node == m.node) (is_off n.0.act) n.2 in
         subst (λ (k : Member). is_off k.act ≡ true) (one_of_mark node_of ms distinct n.0 m n.1 there (eqb-true n.0.node m.node both.0)) both.1
 
-pub closed_at : (w : World) → IsShape w → (i : ℕ) (m : Member) → i < length w.members → m ≡ get_or w.members i m → closed_by m.node w ≡ (if is_off m.act then w else gone m.node CLOSING w)
+pub closed_at : (w : World) → IsShape w → (i : ℕ) (m : Member) → i < length w.members → m ≡ get_or w.members i m
+    → closed_by m.node w ≡ (if is_off m.act then w else gone m.node CLOSING w)
 closed_at w is i m below at =
-    ap (λ (b : Bool). if b then w else gone m.node CLOSING w) (stays_is w.members (ascend_distinct (map node_of w.members) (subst (AllPairs (λ a b. a < b)) (sym is.nodes) is.medium.nodes.ascending)) m (i, below, sym at))
+    ap (λ (b : Bool). if b then w else gone m.node CLOSING w)
+    (stays_is w.members (ascend_distinct (map node_of w.members) (subst (AllPairs (λ a b. a < b)) (sym is.nodes) is.medium.nodes.ascending)) m
+    (i, below, sym at))
 
 -- a loop over the members by place: the world before the turn of the member at place i
-module _ (w : World) (is : IsShape w) (i : ℕ) (z : World) (so_far : z ≡ closed_all (take i (map node_of w.members)) w) (m : Member) (below : i < length z.members) (at : m ≡ get_or z.members i m) where
+module _ (w : World) (is : IsShape w) (i : ℕ) (z : World) (so_far : z ≡ closed_all (take i (map node_of w.members)) w) (m : Member)
+    (below : i < length z.members) (at : m ≡ get_or z.members i m) where
   nodes_still : map node_of z.members ≡ map node_of w.members
   nodes_still = ap (λ (x : World). map node_of x.members) so_far ∙ closed_nodes (take i (map node_of w.members)) w
 
@@ -163,7 +174,8 @@ module _ (f : FloodParts) (clocks : ℕ → ℕ → ℕ) (has : HasClocks f cloc
 
     -- a node that listens has sent fewer times than it may
     closes_late : (m : Member) → Contains w.members m → m.act ≡ Listens → get_or (own_ends (events_in w.air m.node)) (f.sends - 1) CLOSING ≡ CLOSING
-    closes_late m there act = ap (λ (es : List Event). get_or (own_ends es) (f.sends - 1) CLOSING) past_is ∙ get_or_past (own_ends each.past) (f.sends - 1) CLOSING few
+    closes_late m there act = ap (λ (es : List Event). get_or (own_ends es) (f.sends - 1) CLOSING) past_is
+        ∙ get_or_past (own_ends each.past) (f.sends - 1) CLOSING few
       where
         each : IsMember f clocks [] w m
         each = is.so.each m there
@@ -178,10 +190,12 @@ module _ (f : FloodParts) (clocks : ℕ → ℕ → ℕ) (has : HasClocks f cloc
         left = elim listened.left [ inl less ↦ less | inr leaves ↦ absurd (not_in_none m.node leaves) ]
 
         first_sent : (first_flood f m.node).sent ≡ 0
-        first_sent = cond_both (f.start == m.node) (initiating (first_packet f.start) f.sends) (listening Payload 1 f.sends) (λ (s : FloodState). s.sent ≡ 0) (λ _. refl) (λ _. refl)
+        first_sent = cond_both (f.start == m.node) (initiating (first_packet f.start) f.sends) (listening Payload 1 f.sends)
+            (λ (s : FloodState). s.sent ≡ 0) (λ _. refl) (λ _. refl)
 
         first_limit : (first_flood f m.node).limit ≡ f.sends
-        first_limit = cond_both (f.start == m.node) (initiating (first_packet f.start) f.sends) (listening Payload 1 f.sends) (λ (s : FloodState). s.limit ≡ f.sends) (λ _. refl) (λ _. refl)
+        first_limit = cond_both (f.start == m.node) (initiating (first_packet f.start) f.sends) (listening Payload 1 f.sends)
+            (λ (s : FloodState). s.limit ≡ f.sends) (λ _. refl) (λ _. refl)
 
         sent_is : m.flood.sent ≡ length (own_ends each.past)
         sent_is =
@@ -197,7 +211,8 @@ module _ (f : FloodParts) (clocks : ℕ → ℕ → ℕ) (has : HasClocks f cloc
     gone_closing : (m : Member) → Contains w.members m → m.act ≡ Listens → IsClosing f clocks (gone m.node CLOSING w)
     gone_closing m there act = record {
       so = gone_keeps f clocks has [] [] w is.medium is.so m (λ u in_it. absurd (not_in_none u in_it)) there act CLOSING is.early (omega arith)
-          (λ n in_it. none_then (moment_of n.act) (λ l. CLOSING ≤ l.0) (is.quiet n in_it)) (λ h in_it. absurd (not_in_none h in_it)) (closes_late m there act) (inr (omega arith));
+          (λ n in_it. none_then (moment_of n.act) (λ l. CLOSING ≤ l.0) (is.quiet n in_it)) (λ h in_it. absurd (not_in_none h in_it))
+          (closes_late m there act) (inr (omega arith));
       medium = (gone_shape w shape m.node CLOSING).medium;
       quiet = each_changed m.node (with_act Off) w.members (λ (n : Member). moment_of n.act ≡ None) (λ n in_it at. refl) (λ n in_it other. is.quiet n in_it);
       early = omega arith;
@@ -206,7 +221,10 @@ module _ (f : FloodParts) (clocks : ℕ → ℕ → ℕ) (has : HasClocks f cloc
     closing_member : (m : Member) → Contains w.members m → IsClosing f clocks (closed_by m.node w)
     closing_member m there =
         cond_both (list_any (stays m.node) w.members) w (gone m.node CLOSING w) (IsClosing f clocks) (λ _. is)
-        (λ none. gone_closing m there (listens_by m.act (is.quiet m there) (sym (stays_is w.members (ascend_distinct (map node_of w.members) (subst (AllPairs (λ a b. a < b)) (sym shape.nodes) is.medium.nodes.ascending)) m there) ∙ none)))
+        (λ none. gone_closing m there
+        (listens_by m.act (is.quiet m there)
+        (sym (stays_is w.members
+        (ascend_distinct (map node_of w.members) (subst (AllPairs (λ a b. a < b)) (sym shape.nodes) is.medium.nodes.ascending)) m there) ∙ none)))
 
     pub closing_more : (v : ℕ) → Contains (ids f.nodes) v → IsClosing f clocks (closed_by v w)
     closing_more v there =
@@ -229,17 +247,20 @@ module _ (f : FloodParts) (clocks : ℕ → ℕ → ℕ) (has : HasClocks f cloc
           let n = some_of (stays v) w.members some in
           let both = and_parts (n.0.node == v) (is_off n.0.act) n.2 in
           fewer m
-          (λ here. inr (ap (λ (k : Member). k.act) (one_member f clocks has [] [] w is.medium is.so m n.0 there n.1 (sym here ∙ sym (eqb-true n.0.node v both.0))) ∙ off_is n.0.act both.1))
+          (λ here. inr (ap (λ (k : Member). k.act)
+          (one_member f clocks has [] [] w is.medium is.so m n.0 there n.1 (sym here ∙ sym (eqb-true n.0.node v both.0))) ∙ off_is n.0.act both.1))
           (rest m there)
 
       goes_off : Rest us (gone v CLOSING w)
       goes_off = each_changed v (with_act Off) w.members (λ (m : Member). Contains us m.node ⊎ (m.act ≡ Off)) (λ m there at. inr refl)
           (λ m there other. fewer m (λ here. absurd (other (sym here))) (rest m there))
 
-  closing_all : (us : List ℕ) (w : World) → IsClosing f clocks w → ((u : ℕ) → Contains us u → Contains (ids f.nodes) u) → Rest us w → IsClosing f clocks (closed_all us w) × Rest [] (closed_all us w)
+  closing_all : (us : List ℕ) (w : World) → IsClosing f clocks w → ((u : ℕ) → Contains us u → Contains (ids f.nodes) u) → Rest us w
+      → IsClosing f clocks (closed_all us w) × Rest [] (closed_all us w)
   closing_all [] w is of_text rest = (is, rest)
   closing_all (u ∷ us) w is of_text rest =
-      closing_all us (closed_by u w) (closing_more w is u (of_text u (contains_head u us))) (λ n there. of_text n (contains_tail u us n there)) (rest_more u us w is rest)
+      closing_all us (closed_by u w) (closing_more w is u (of_text u (contains_head u us))) (λ n there. of_text n (contains_tail u us n there))
+      (rest_more u us w is rest)
 
   -- all of them
   module _ (vs : List ℕ) (all : vs ≡ ids f.nodes) (w : World) (is : IsClosing f clocks w) where
@@ -258,8 +279,12 @@ module _ (f : FloodParts) (clocks : ℕ → ℕ → ℕ) (has : HasClocks f cloc
 
 -- all starts and ends are before the closing
 pub starts_early : (f : FloodParts) (t : ℕ) (packet : List ℕ) → InStep f t packet → t + 32768 < CLOSING
-starts_early f t packet step = let near : Near t (1344064000 + step.step * 45056) step.step = step.near in let small : step.step ≤ 11 = step.small in omega (arith, near, small)
+starts_early f t packet step =
+    let near : Near t (1344064000 + step.step * 45056) step.step = step.near in let small : step.step ≤ 11 = step.small in omega (arith, near, small)
 
-module _ (f : FloodParts) (clocks : ℕ → ℕ → ℕ) (has : HasClocks f clocks) (todo : List Hearing) (leaving : List ℕ) (w : World) (medium : IsMedium w.medium) (so : IsFloodSoFar f clocks todo leaving w) where
+module _ (f : FloodParts) (clocks : ℕ → ℕ → ℕ) (has : HasClocks f clocks) (todo : List Hearing) (leaving : List ℕ) (w : World)
+    (medium : IsMedium w.medium) (so : IsFloodSoFar f clocks todo leaving w) where
   pub ends_early : (x : Sending) → Contains (sendings_of w.air) x → x.end < CLOSING
-  ends_early x there = let lasts = old_lasts f clocks has todo leaving w medium so x there in let start = starts_early f x.start x.packet (so.sent x there).step in omega (arith, lasts, start)
+  ends_early x there =
+      let lasts = old_lasts f clocks has todo leaving w medium so x there in let start = starts_early f x.start x.packet (so.sent x there).step in
+      omega (arith, lasts, start)

@@ -1,5 +1,6 @@
 -- The world of a flood at the beginning is a flood so far.
-use Rattle.std.proofs.Common.{◌≡◌, ℕ, ◌+◌, ◌≤◌, ◌⊎◌, List, [], ◌∷◌, ◌++◌, find, Option, Some, None, option_to_list, Bool, true, false, ◌==◌, if◌then◌else◌, inl, inr, refl, sym, ◌∙◌, ap, subst, arith, length, eqb-true, eq-eqb}
+use Rattle.std.proofs.Common.{◌≡◌, ℕ, ◌+◌, ◌≤◌, ◌⊎◌, List, [], ◌∷◌, ◌++◌, find, Option, Some, None, option_to_list, Bool, true, false, ◌==◌, if◌then◌else◌, inl}
+use Rattle.std.proofs.Common.{inr, refl, sym, ◌∙◌, ap, subst, arith, length, eqb-true, eq-eqb}
 use Rattle.std.specs.Prelude.{Contains}
 use Rattle.std.proofs.lemmas.Bool.{cond_both, cond-true, false≢true}
 use Rattle.std.proofs.lemmas.List.{length-map, append-nil}
@@ -15,7 +16,8 @@ use Rattle.radio_model.specs.declared.station.Tuned.{Tuned as TunedTo}
 use Rattle.radio_model.specs.declared.station.Past.{Past}
 use Rattle.radio_model.specs.OnAir.{Tuning}
 use Rattle.radio_model.specs.Hearing.{Scene}
-use Rattle.radio_model.specs.Stations.{MediumState, IsMedium, station_of, node_of as station_node, retuned, tuned_in, tuned_out, is_tuned_to, first_state, stations_from, fresh, is_of, last_at, since_with}
+use Rattle.radio_model.specs.Stations.{MediumState, IsMedium, station_of, node_of as station_node, retuned, tuned_in, tuned_out, is_tuned_to, first_state}
+use Rattle.radio_model.specs.Stations.{stations_from, fresh, is_of, last_at, since_with}
 use Rattle.radio_model.specs.Holding.{Holds, closed, tuned_of, after_tuning, nothing_yet}
 use Rattle.radio_model.proofs.AtFirst.{holds_at_first}
 use Rattle.radio_model.proofs.AfterTuning.{holds_after_tuning}
@@ -30,10 +32,9 @@ use Rattle.lwb_flood.specs.declared.member.Act.TheVariants.{Listens, Waits}
 use Rattle.lwb_flood.specs.declared.member.Member.{Member}
 use Rattle.lwb_flood.specs.FloodLog.{HasClocks}
 use Rattle.lwb_flood.specs.FloodWorlds.{World, opened, first_member, first_world}
-use Rattle.lwb_flood.proofs.LogEntries.{known_of}
-use Rattle.lwb_flood.proofs.FloodSoFar.{running, tuned_by, sending_by, Stands, IsMember, WaitsToBegin, IsFloodSoFar}
-use Rattle.lwb_flood.proofs.FloodEnded.{known_there}
 use Rattle.lwb_flood.proofs.FloodOpening.{IsOpening, at_first, opened_is, opened_medium, tuned_one, sound_nodes, first_shape}
+use Rattle.lwb_flood.proofs.FloodSoFar.{running, tuned_by, sending_by, Stands, IsMember, WaitsToBegin, IsFloodSoFar}
+use Rattle.lwb_flood.proofs.LogEntries.{known_of, known_there}
 
 abbrev from_opening : Option TunedTo
 from_opening = Some (record { rank = 0; since = OPENING })
@@ -64,7 +65,11 @@ fresh_untuned us k (v ∷ vs) st there =
 first_tuned : (p : Numbers) (vs : List ℕ) → AreTunedIn vs (first_state p vs)
 first_tuned p vs st there =
     let none = fresh_untuned vs 0 vs st there in
-    inl (record { node = subst (λ (l : List ℕ). Contains l st.node) (nodes_from 0 vs) (map_contains station_node (first_state p vs).stations st there); tuned = none.0; last = none.1 })
+    inl (record {
+      node = subst (λ (l : List ℕ). Contains l st.node) (nodes_from 0 vs) (map_contains station_node (first_state p vs).stations st there);
+      tuned = none.0;
+      last = none.1;
+    })
 
 -- a station that is tuned in
 module _ (us : List ℕ) (st : Station) where
@@ -75,7 +80,8 @@ module _ (us : List ℕ) (st : Station) where
       (λ _. ap (λ (o : Option TunedTo). since_then (last_at o st.last OPENING)) new.tuned ∙ ap since_then new.last)
 
   tuned_still : st.tuned ≡ from_opening → (retuned (Some 0) OPENING st).tuned ≡ from_opening
-  tuned_still is = cond_both (is_tuned_to st.tuned 0) st (tuned_in 0 OPENING (tuned_out OPENING st)) (λ (s : Station). s.tuned ≡ from_opening) (λ _. is) (λ not. absurd (false≢true (sym not ∙ ap (λ (o : Option TunedTo). is_tuned_to o 0) is)))
+  tuned_still is = cond_both (is_tuned_to st.tuned 0) st (tuned_in 0 OPENING (tuned_out OPENING st)) (λ (s : Station). s.tuned ≡ from_opening)
+      (λ _. is) (λ not. absurd (false≢true (sym not ∙ ap (λ (o : Option TunedTo). is_tuned_to o 0) is)))
 
   is_tuned : IsTunedIn us st → (retuned (Some 0) OPENING st).tuned ≡ from_opening
   is_tuned (inl new) = new_tuned new
@@ -89,7 +95,8 @@ module _ (us : List ℕ) (st : Station) where
 found_by : (P : Option Station → Type 0) (xs : List Station) (v : ℕ) → P None → ((st : Station) → Contains xs st → P (Some st)) → P (find (is_of v) xs)
 found_by P [] v none some = none
 found_by P (s ∷ xs) v none some =
-    cond_both (s.node == v) (Some s) (find (is_of v) xs) P (λ _. some s (contains_head s xs)) (λ _. found_by P xs v none (λ st there. some st (contains_tail s xs st there)))
+    cond_both (s.node == v) (Some s) (find (is_of v) xs) P (λ _. some s (contains_head s xs))
+    (λ _. found_by P xs v none (λ st there. some st (contains_tail s xs st there)))
 
 -- one node more is tuned in
 module _ (v : ℕ) (us : List ℕ) (m : MediumState) (medium : IsMedium m) (early : m.now ≤ OPENING) (ready : AreTunedIn (v ∷ us) m) where
@@ -97,24 +104,31 @@ module _ (v : ℕ) (us : List ℕ) (m : MediumState) (medium : IsMedium m) (earl
   tuned_more = each_after m medium (retuned (Some 0) OPENING) (retuned_keeps (Some 0) OPENING) v OPENING (IsTunedIn us)
       (λ st there node. inr (is_tuned (v ∷ us) st (ready st there)))
       (λ st there other. elim (ready st there) [
-        | inl new ↦ elim (contains_cases v us st.node new.node) [ inl is ↦ absurd (other (sym is)) | inr later ↦ inl (record { node = later; tuned = new.tuned; last = new.last }) ]
+        | inl new ↦ elim (contains_cases v us st.node new.node) [
+          | inl is ↦ absurd (other (sym is))
+          | inr later ↦ inl (record { node = later; tuned = new.tuned; last = new.last })
+        ]
         | inr is ↦ inr is
       ])
 
   no_end : closed v (Some 0) OPENING (tuned_of (station_of m v)) ≡ None
-  no_end = found_by (λ (o : Option Station). closed v (Some 0) OPENING (tuned_of o) ≡ None) m.stations v refl (λ st there. closes_none (v ∷ us) st (ready st there) v)
+  no_end = found_by (λ (o : Option Station). closed v (Some 0) OPENING (tuned_of o) ≡ None) m.stations v refl
+      (λ st there. closes_none (v ∷ us) st (ready st there) v)
 
   holds_more : (a : Scene) → Holds m a → Holds (tuned_one v m) a
   holds_more a h = subst (λ (b : Scene). Holds (tuned_one v m) b) same (holds_after_tuning m medium a h v (Some 0) OPENING early)
     where
       same : after_tuning m v (Some 0) OPENING a ≡ a
-      same = ap (λ (o : Option Tuning). record a { tunings = a.tunings ++ option_to_list o }) no_end ∙ ap (λ (l : List Tuning). record a { tunings = l }) (append-nil a.tunings)
+      same = ap (λ (o : Option Tuning). record a { tunings = a.tunings ++ option_to_list o }) no_end
+          ∙ ap (λ (l : List Tuning). record a { tunings = l }) (append-nil a.tunings)
 
 -- all nodes are tuned in
-opened_ready : (us : List ℕ) (m : MediumState) → IsMedium m → m.now ≤ OPENING → AreTunedIn us m → (a : Scene) → Holds m a → AreTunedIn [] (opened us m) × Holds (opened us m) a
+opened_ready : (us : List ℕ) (m : MediumState) → IsMedium m → m.now ≤ OPENING → AreTunedIn us m → (a : Scene) → Holds m a
+    → AreTunedIn [] (opened us m) × Holds (opened us m) a
 opened_ready [] m medium early ready a h = (ready, h)
 opened_ready (u ∷ us) m medium early ready a h =
-    opened_ready us (tuned_one u m) (opened_medium (u ∷ []) m medium) (omega arith) (tuned_more u us m medium early ready) a (holds_more u us m medium early ready a h)
+    opened_ready us (tuned_one u m) (opened_medium (u ∷ []) m medium) (omega arith) (tuned_more u us m medium early ready) a
+    (holds_more u us m medium early ready a h)
 
 opened_numbers : (us : List ℕ) (m : MediumState) → (opened us m).numbers ≡ m.numbers
 opened_numbers [] m = refl
@@ -156,7 +170,8 @@ module _ (f : FloodParts) (clocks : ℕ → ℕ → ℕ) (has : HasClocks f cloc
   now_is = let long = length-map f.nodes (λ (n : NodeLine). n.node) in let two = has.sound.two_nodes in first_now (ids f.nodes) first (omega (arith, long, two))
 
   both : AreTunedIn [] w.medium × Holds w.medium (nothing_yet one f.trace)
-  both = opened_ready (ids f.nodes) first (first_is_medium one (ids f.nodes) (inl refl) are) (omega arith) (first_tuned one (ids f.nodes)) (nothing_yet one f.trace) (holds_at_first one (ids f.nodes) (inl refl) are f.trace)
+  both = opened_ready (ids f.nodes) first (first_is_medium one (ids f.nodes) (inl refl) are) (omega arith) (first_tuned one (ids f.nodes))
+      (nothing_yet one f.trace) (holds_at_first one (ids f.nodes) (inl refl) are f.trace)
 
   all_tuned : (st : Station) → Contains w.medium.stations st → st.tuned ≡ from_opening
   all_tuned st there = elim (both.0 st there) [ inl new ↦ absurd (not_in_none st.node new.node) | inr is ↦ is ]
@@ -177,11 +192,14 @@ module _ (f : FloodParts) (clocks : ℕ → ℕ → ℕ) (has : HasClocks f cloc
     known = known_of f.nodes n.node in_ids;
     station = st.0;
     found = ap (station_of w.medium) (sym st.2) ∙ found_member w.medium.stations st.0 (subst AreNodes (sym opening.nodes) are).ascending st.1;
-    tuned = cond_both (f.start == n.node) (Waits START (first_packet f.start)) Listens (λ (a : Act). st.0.tuned ≡ tuned_by a) (λ _. all_tuned st.0 st.1) (λ _. all_tuned st.0 st.1);
-    sends = cond_both (f.start == n.node) (Waits START (first_packet f.start)) Listens (λ (a : Act). st.0.sending ≡ sending_by a) (λ _. opening.silent st.0 st.1) (λ _. opening.silent st.0 st.1);
+    tuned = cond_both (f.start == n.node) (Waits START (first_packet f.start)) Listens (λ (a : Act). st.0.tuned ≡ tuned_by a)
+        (λ _. all_tuned st.0 st.1) (λ _. all_tuned st.0 st.1);
+    sends = cond_both (f.start == n.node) (Waits START (first_packet f.start)) Listens (λ (a : Act). st.0.sending ≡ sending_by a)
+        (λ _. opening.silent st.0 st.1) (λ _. opening.silent st.0 st.1);
     past = [];
     happened = cond_both (f.start == n.node) (Waits START (first_packet f.start)) Listens (λ (a : Act). [] ≡ [] ++ running a) (λ _. refl) (λ _. refl);
-    in_order = cond_both (f.start == n.node) (Waits START (first_packet f.start)) Listens (λ (a : Act). InOrder ([] ++ running a)) (λ _. no_order) (λ _. no_order);
+    in_order = cond_both (f.start == n.node) (Waits START (first_packet f.start)) Listens (λ (a : Act). InOrder ([] ++ running a)) (λ _. no_order)
+        (λ _. no_order);
     over = λ e known. absurd (not_in_none e known);
     flood = refl;
     stands = stands n (f.start == n.node) (λ same. sym (eqb-true f.start n.node same));

@@ -1,5 +1,6 @@
 -- A log that keeps the law of one flood is a run of the flood theorem.
-use Rattle.std.proofs.Common.{◌≡◌, ℕ, ◌+◌, ◌-◌, ◌*◌, List, Bool, true, false, ◌||◌, if◌then◌else◌, inl, inr, Some, None, refl, sym, ◌∙◌, ap, subst, arith, length, ◌==◌, eq-eqb}
+use Rattle.std.proofs.Common.{◌≡◌, ℕ, ◌+◌, ◌-◌, ◌*◌, List, Bool, true, false, ◌||◌, if◌then◌else◌, inl, inr, Some, None, refl, sym, ◌∙◌, ap, subst, arith}
+use Rattle.std.proofs.Common.{length, ◌==◌, eq-eqb}
 use Rattle.std.specs.Prelude.{Contains}
 use Rattle.std.proofs.lemmas.Bool.{or_cases, or_left, eqb-true, le-leb, false≢true}
 use Rattle.std.proofs.lemmas.List.{length-set}
@@ -33,7 +34,15 @@ use Rattle.lwb_flood.proofs.LogEntries.{ids_known, sender_known, heard_was_sent,
 
 -- the two forms of a node's first flood
 begins_by : (b : Bool) (start limit : ℕ)
-    → ◌≡◌ {A = FloodState} (record { kind = Payload; slot = 1; limit = limit; sent = 0; waiting = b || false; initiated = b || false; first = if b || false then Some (first_packet start) else None }) (if b then initiating (first_packet start) limit else listening Payload 1 limit)
+    → ◌≡◌ {A = FloodState} (record {
+      kind = Payload;
+      slot = 1;
+      limit = limit;
+      sent = 0;
+      waiting = b || false;
+      initiated = b || false;
+      first = if b || false then Some (first_packet start) else None;
+    }) (if b then initiating (first_packet start) limit else listening Payload 1 limit)
 begins_by true start limit = refl
 begins_by false start limit = refl
 
@@ -76,7 +85,8 @@ module _ (f : FloodParts) (clocks : ℕ → ℕ → ℕ) (air : List Entry) (is 
   from_relay x z = record {
     heard = z.heard;
     flood = z.flood;
-    occasion = subst (λ (w : FloodState). Contains (occasions w (law.events x.node)) (record { before = z.flood; event = Heard z.heard })) (sym (begins_is x.node)) z.occasion;
+    occasion = subst (λ (w : FloodState). Contains (occasions w (law.events x.node)) (record { before = z.flood; event = Heard z.heard }))
+        (sym (begins_is x.node)) z.occasion;
     answer = z.answer;
     start = z.start;
   }
@@ -85,8 +95,12 @@ module _ (f : FloodParts) (clocks : ℕ → ℕ → ℕ) (air : List Entry) (is 
   relay_sent v start p here z =
       let there = known v here in
       let parts = relayed_parts z.flood z.heard.packet p z.answer in
-      let event : Contains (law.events v) (Heard z.heard) = occasion_event (begins r v) (law.events v) (record { before = z.flood; event = Heard z.heard }) z.occasion in
-      let size : length p ≡ 8 = ap (λ (q : List ℕ). length q) parts.2 ∙ length-set z.heard.packet 2 (counter_of z.heard.packet + 1) ∙ eight f clocks air law z.heard (event_was_sent f clocks air law v z.heard there event) in
+      let event : Contains (law.events v) (Heard z.heard) = occasion_event (begins r v) (law.events v) (record {
+        before = z.flood;
+        event = Heard z.heard;
+      }) z.occasion in
+      let size : length p ≡ 8 = ap (λ (q : List ℕ). length q) parts.2 ∙ length-set z.heard.packet 2 (counter_of z.heard.packet + 1)
+      ∙ eight f clocks air law z.heard (event_was_sent f clocks air law v z.heard there event) in
       let end : start + 32768 ≡ start + airtime one (length p) = omega (arith, size) in
       law.relayed (sending_at r v start p) there
       (ap (λ (e : ℕ). record { rank = 0; node = v; start = start; end = e; packet = p }) end)
@@ -108,7 +122,8 @@ module _ (f : FloodParts) (clocks : ℕ → ℕ → ℕ) (air : List Entry) (is 
     };
     sent = record {
       lasts = λ x sent. lasting f clocks air law x sent;
-      begun = λ o begun. subst (λ (v : ℕ). Contains r.sendings (sending_at r v START (first_packet f.start))) (starter o begun) ((law.begun (lasting_at f.start START (first_packet f.start))).1 refl).0;
+      begun = λ o begun. subst (λ (v : ℕ). Contains r.sendings (sending_at r v START (first_packet f.start))) (starter o begun)
+          ((law.begun (lasting_at f.start START (first_packet f.start))).1 refl).0;
       beginnings = λ x sent at. (let same = (law.begun x).0 (sent, at) in (
         subst (λ (v : ℕ). initiates r v) (sym (ap (λ (y : Sending). y.node) same)) start_begins,
         ap (λ (y : Sending). y.start) same,
@@ -138,11 +153,15 @@ module _ (f : FloodParts) (clocks : ℕ → ℕ → ℕ) (air : List Entry) (is 
   slot_is x sent = let t = timed r log_times x sent in ap slot_of t.packet ∙ slot_set (first_packet f.start) (counter x)
 
   -- so a link passes at the key of a sending where it does in the step of its counter
-  arrives_at : (v : ℕ) (x : Sending) → Contains (sendings_of air) x → passes f.trace (frame_of one x) (slot_of x.packet) (counter x) x.node v ≡ r.setting.passes (counter x) x.node v
-  arrives_at v x sent = ap (λ (i : ℕ). passes f.trace i (slot_of x.packet) (counter x) x.node v) (frame_is x sent) ∙ ap (λ (i : ℕ). passes f.trace 5 i (counter x) x.node v) (slot_is x sent)
+  arrives_at : (v : ℕ) (x : Sending) → Contains (sendings_of air) x
+      → passes f.trace (frame_of one x) (slot_of x.packet) (counter x) x.node v ≡ r.setting.passes (counter x) x.node v
+  arrives_at v x sent = ap (λ (i : ℕ). passes f.trace i (slot_of x.packet) (counter x) x.node v) (frame_is x sent)
+      ∙ ap (λ (i : ℕ). passes f.trace 5 i (counter x) x.node v) (slot_is x sent)
 
-  captured_at : (v : ℕ) (x : Sending) → Contains (sendings_of air) x → captured f.trace (frame_of one x) (slot_of x.packet) (counter x) v ≡ r.setting.captured (counter x) v
-  captured_at v x sent = ap (λ (i : ℕ). captured f.trace i (slot_of x.packet) (counter x) v) (frame_is x sent) ∙ ap (λ (i : ℕ). captured f.trace 5 i (counter x) v) (slot_is x sent)
+  captured_at : (v : ℕ) (x : Sending) → Contains (sendings_of air) x
+      → captured f.trace (frame_of one x) (slot_of x.packet) (counter x) v ≡ r.setting.captured (counter x) v
+  captured_at v x sent = ap (λ (i : ℕ). captured f.trace i (slot_of x.packet) (counter x) v) (frame_is x sent)
+      ∙ ap (λ (i : ℕ). captured f.trace 5 i (counter x) v) (slot_is x sent)
 
   log_part : IsPart scene r
   log_part = record {
@@ -187,5 +206,6 @@ module _ (f : FloodParts) (clocks : ℕ → ℕ → ℕ) (air : List Entry) (is 
       λ there. (let h = (law.hears v x).0 there in (rule_in_run scene r log_part v x here h.1.sent).0 h.1),
       λ h. (law.hears v x).1 (known v here, (rule_in_run scene r log_part v x here h.sent).1 h),
     );
-    tuned = λ v here. tuned_in_window r Tuned v OPENING CLOSING (λ x sent. (let last = lasting f clocks air law x sent in omega (arith, last.1))) (window v here) (λ z. ((law.happened v (known v here)).sendings z).0);
+    tuned = λ v here. tuned_in_window r Tuned v OPENING CLOSING (λ x sent. (let last = lasting f clocks air law x sent in omega (arith, last.1)))
+        (window v here) (λ z. ((law.happened v (known v here)).sendings z).0);
   }

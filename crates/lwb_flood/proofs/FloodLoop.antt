@@ -1,55 +1,50 @@
 -- The loop of a flood: what holds of its world before each step, and that steps come to an end.
-use Rattle.std.proofs.Common.{◌≡◌, ℕ, ◌+◌, ◌-◌, ◌<◌, ◌≤◌, ◌^◌, ◌↔◌, List, [], ◌∷◌, ◌++◌, map, length, get_or, Bool, true, false, nat_eq, if◌then◌else◌, Option, Some, None, inl, inr, refl, sym, ◌∙◌, ap, subst, arith, eq-eqb}
+use Rattle.std.proofs.Common.{◌≡◌, ℕ, ◌+◌, ◌-◌, ◌<◌, ◌≤◌, List, [], ◌∷◌, ◌++◌, map, length, get_or, Bool, true, false, nat_eq, if◌then◌else◌, Option}
+use Rattle.std.proofs.Common.{Some, None, inl, inr, refl, sym, ◌∙◌, ap, subst, arith}
 use Rattle.std.specs.Prelude.{Contains, All, IfSome}
-use Rattle.std.proofs.lemmas.Bool.{cond-true, cond-false, cond_both, eqb-true, or_cases, false≢true}
+use Rattle.std.proofs.lemmas.Bool.{cond-true, cond-false, cond_both, eqb-true}
 use Rattle.std.proofs.lemmas.List.Elements.{filter_map-append}
 use Rattle.std.proofs.lemmas.List.{length-append, append-nil}
 use Rattle.lwb_base.specs.Profile.{one}
 use Rattle.glossy_relay.specs.FloodState.{FloodState}
 use Rattle.glossy_relay.specs.Relaying.{fits, after_heard, counter_of, first_of}
-use Rattle.scenario_text.specs.FloodParts.{FloodParts, IsSound, knows}
-use Rattle.tick_clock.specs.Clocks.{IsClock}
-use Rattle.scenario_text.specs.declared.lines.NodeLine.{NodeLine}
+use Rattle.scenario_text.specs.FloodParts.{FloodParts}
 use Rattle.bus_model.specs.FloodOfText.{ids}
 use Rattle.radio_model.specs.declared.sending.Sending.{Sending}
-use Rattle.radio_model.specs.Stations.{MediumState, nodes_of}
+use Rattle.radio_model.specs.Stations.{nodes_of}
 use Rattle.air_log.specs.FloodLaw.{CLOSING, first_flood, sending_at}
 use Rattle.air_log.specs.NodeEvents.{Event, Heard, Ended, after, after_all, own_end, own_ends}
 use Rattle.air_log.proofs.Elements.{Distinct}
 use Rattle.lwb_flood.specs.declared.member.Act.{Act}
 use Rattle.lwb_flood.specs.declared.member.Act.TheVariants.{Listens, Waits, Sends, Off}
 use Rattle.lwb_flood.specs.declared.member.Member.{Member}
-use Rattle.air_log.specs.ClockLists.{clocks_by}
 use Rattle.lwb_flood.specs.FloodLog.{HasClocks}
-use Rattle.lwb_flood.specs.FloodWorlds.{World, IsShape, node_of, first_world, moment_of, NotAfter, IsNext, begun, own_ended, gone, ended, heard, heard_by_all, is_last, after_own, readings_at, CanStep, Stepped, Ended as EndedTo, IsHeardBy}
-use Rattle.lwb_flood.proofs.FloodSoFar.{IsFloodSoFar, IsMember, IsListening, IsWaiting, IsSending, Runs, running, scene, events_in}
-use Rattle.lwb_flood.proofs.WorldLists.{changed_there, each_changed}
-use Rattle.lwb_flood.proofs.TunedWindows.{sent_among}
-use Rattle.lwb_flood.proofs.FloodShapes.{begun_shape, own_ended_shape, gone_shape, heard_shape}
-use Rattle.lwb_flood.proofs.FloodOpening.{at_first, opened_is, sound_nodes, first_shape}
-use Rattle.lwb_flood.proofs.FloodBegun.{one_member, begun_time, begun_keeps}
-use Rattle.lwb_flood.proofs.FloodEnded.{heard_at, own_node, own_waits, own_runs, ended_time, own_ends as own_end_there, own_ended_keeps}
-use Rattle.lwb_flood.proofs.FloodGone.{gone_keeps, ended_over}
+use Rattle.lwb_flood.specs.FloodWorlds.{World, IsShape, node_of, first_world, moment_of, NotAfter, IsNext, begun, own_ended, gone, ended, heard, heard_by_all}
+use Rattle.lwb_flood.specs.FloodWorlds.{is_last, after_own, CanStep, Stepped, Ended as EndedTo, IsHeardBy}
+use Rattle.lwb_flood.proofs.FloodBegun.{begun_keeps}
+use Rattle.lwb_flood.proofs.FloodClosing.{IsClosing, starts_early, ends_early}
+use Rattle.lwb_flood.proofs.FloodEnded.{own_ended_keeps}
+use Rattle.lwb_flood.proofs.FloodFirst.{first_keeps}
+use Rattle.lwb_flood.proofs.FloodGone.{gone_keeps}
 use Rattle.lwb_flood.proofs.FloodHeard.{heard_by_all_keeps}
 use Rattle.lwb_flood.proofs.FloodHearers.{ascend_distinct, last_is}
-use Rattle.lwb_flood.proofs.FloodFirst.{first_keeps}
-use Rattle.lwb_flood.proofs.FloodClosing.{IsClosing, starts_early, ends_early}
 use Rattle.lwb_flood.proofs.FloodMeasure.{started, remaining, begun_less, ended_less, all_heard_at_most}
+use Rattle.lwb_flood.proofs.FloodOpening.{at_first, opened_is, sound_nodes, first_shape}
+use Rattle.lwb_flood.proofs.FloodShapes.{begun_shape, own_ended_shape, gone_shape, heard_shape}
+use Rattle.lwb_flood.proofs.FloodSoFar.{IsFloodSoFar, IsMember, IsWaiting, IsSending, running, scene, events_in}
 use Rattle.lwb_flood.proofs.FloodSteps.{same_at}
-
--- clocks by the nodes of the text and by the places of the nodes are the same
-pub same_clocks : {C : Type 0} (R : C → ℕ → ℕ) (ns : List NodeLine) (cs : List C) (v : ℕ) → clocks_by R ns cs v ≡ readings_at R cs (ids ns) v
-same_clocks R [] cs v = refl
-same_clocks R (n ∷ ns) [] v = refl
-same_clocks {C} R (n ∷ ns) (c ∷ cs) v = ap (λ (rest : ℕ → ℕ). if nat_eq n.node v then R c else rest) (same_clocks R ns cs v)
-
-heard_by_same : (clocks others : ℕ → ℕ → ℕ) → ((v : ℕ) → clocks v ≡ others v) → (x : Sending) (vs : List ℕ) (w : World) → heard_by_all clocks x vs w ≡ heard_by_all others x vs w
-heard_by_same clocks others same x [] w = refl
-heard_by_same clocks others same x (v ∷ vs) w = heard_by_same clocks others same x vs (heard (clocks v) x v w) ∙ ap (λ (k : ℕ → ℕ). heard_by_all others x vs (heard k x v w)) (same v)
+use Rattle.lwb_flood.proofs.NodeGone.{ended_over}
+use Rattle.lwb_flood.proofs.NodesAndStations.{one_member, old_lasts}
+use Rattle.lwb_flood.proofs.SendingBegun.{begun_time}
+use Rattle.lwb_flood.proofs.SendingOver.{heard_at, own_node, own_waits, own_runs, ended_time, own_ends as own_end_there}
+use Rattle.lwb_flood.proofs.TunedWindows.{sent_among}
+use Rattle.lwb_flood.proofs.WorldLists.{changed_there, each_changed}
+use Rattle.lwb_flood.proofs.FloodClocks.{heard_by_same}
 
 -- a flood keeps its limit, and counts what it has sent
 heard_limit : (s : FloodState) (p : List ℕ) → (after_heard s p).limit ≡ s.limit
-heard_limit s p = cond_both (fits s p) (record s { waiting = Rattle.std.proofs.Common.nat_lt (counter_of p) 11; first = first_of s.first p }) s (λ (f : FloodState). f.limit ≡ s.limit) (λ _. refl) (λ _. refl)
+heard_limit s p = cond_both (fits s p) (record s { waiting = Rattle.std.proofs.Common.nat_lt (counter_of p) 11; first = first_of s.first p }) s
+    (λ (f : FloodState). f.limit ≡ s.limit) (λ _. refl) (λ _. refl)
 
 limit_among : (s : FloodState) (es : List Event) → (after_all s es).limit ≡ s.limit
 limit_among s [] = refl
@@ -76,7 +71,8 @@ module _ (f : FloodParts) (clocks : ℕ → ℕ → ℕ) (has : HasClocks f cloc
   running_first = record {
     so = first_keeps f clocks has;
     shape = first_shape f (sound_nodes f has.sound);
-    early = (let by = (opened_is (ids f.nodes) (ids f.nodes) (Rattle.radio_model.specs.Stations.first_state one (ids f.nodes)) (at_first one (ids f.nodes))).early in omega arith);
+    early = (let by = (opened_is (ids f.nodes) (ids f.nodes) (Rattle.radio_model.specs.Stations.first_state one (ids f.nodes))
+        (at_first one (ids f.nodes))).early in omega arith);
   }
 
   module _ (w : World) (is : IsRunning f clocks w) (m : Member) (there : Contains w.members m) (next : IsNext w.members m) where
@@ -106,7 +102,8 @@ module _ (f : FloodParts) (clocks : ℕ → ℕ → ℕ) (has : HasClocks f cloc
 
       room : m.flood.sent + started w.air m.node < m.flood.limit + m.flood.limit
       room =
-          let count : started w.air m.node ≡ length (own_ends member.past) = begun_so_far ∙ ap (λ (a : Act). length (own_ends (member.past ++ running a))) act ∙ ap (λ (es : List Event). length (own_ends es)) (append-nil member.past) in
+          let count : started w.air m.node ≡ length (own_ends member.past) = begun_so_far
+          ∙ ap (λ (a : Act). length (own_ends (member.past ++ running a))) act ∙ ap (λ (es : List Event). length (own_ends es)) (append-nil member.past) in
           let left = waits.left in
           omega (arith, count, counted.0)
 
@@ -150,14 +147,16 @@ module _ (f : FloodParts) (clocks : ℕ → ℕ → ℕ) (has : HasClocks f cloc
       }
 
       count : started w.air m.node ≡ length (own_ends member.past) + 1
-      count = begun_so_far ∙ ap (λ (a : Act). length (own_ends (member.past ++ running a))) act ∙ ap length (ends_more member.past x) ∙ length-append (own_ends member.past) (x.end ∷ [])
+      count = begun_so_far ∙ ap (λ (a : Act). length (own_ends (member.past ++ running a))) act ∙ ap length (ends_more member.past x)
+          ∙ length-append (own_ends member.past) (x.end ∷ [])
 
       end_room : m.flood.sent + started w.air m.node < m.flood.limit + m.flood.limit
       end_room = (let left = sends.left in omega (arith, count, counted.0))
 
       module _ (vs : List ℕ) (by : IsHeardBy f.trace x w vs) where
         own : IsFloodSoFar f clocks (map (heard_at x) vs) (if is_last x.node w.members then x.node ∷ [] else []) (own_ended x w)
-        own = own_ended_keeps f clocks has w medium is.so m there x act next vs (ascend_distinct vs by.ascending) (λ v. by.hearers (scene f w) is.so.holds refl v)
+        own = own_ended_keeps f clocks has w medium is.so m there x act next vs (ascend_distinct vs by.ascending)
+            (λ v. by.hearers (scene f w) is.so.holds refl v)
 
         -- the node as it is then
         abbrev left_node : Member
@@ -167,7 +166,8 @@ module _ (f : FloodParts) (clocks : ℕ → ℕ → ℕ) (has : HasClocks f cloc
         left_there = changed_there x.node after_own w.members m there (sym node)
 
         late : (n : Member) → Contains (own_ended x w).members n → IfSome (moment_of n.act) (λ l. x.end ≤ l.0)
-        late = each_changed x.node after_own w.members (λ (n : Member). IfSome (moment_of n.act) (λ l. x.end ≤ l.0)) (λ n in_it same. tt) (λ n in_it other. by_next n in_it)
+        late = each_changed x.node after_own w.members (λ (n : Member). IfSome (moment_of n.act) (λ l. x.end ≤ l.0)) (λ n in_it same. tt)
+            (λ n in_it other. by_next n in_it)
           where
             moment_is : next.moment ≡ (x.end, false)
             moment_is = some_moment (sym next.own ∙ ap moment_of act)
@@ -181,42 +181,59 @@ module _ (f : FloodParts) (clocks : ℕ → ℕ → ℕ) (has : HasClocks f cloc
             by_moment (Some l) (inr same) = omega (arith, ap (λ (k : ℕ × Bool). k.0) moment_is, same.0)
 
             by_next : (n : Member) → Contains w.members n → IfSome (moment_of n.act) (λ l. x.end ≤ l.0)
-            by_next n (k, below, at) = by_moment (moment_of n.act) (subst (λ (z : Member). IfSome (moment_of z.act) (λ l. NotAfter next.moment l)) at (next.first k n below))
+            by_next n (k, below, at) = by_moment (moment_of n.act)
+                (subst (λ (z : Member). IfSome (moment_of z.act) (λ l. NotAfter next.moment l)) at (next.first k n below))
 
         off : is_last x.node w.members ≡ true → IsFloodSoFar f clocks (map (heard_at x) vs) [] (gone x.node x.end (own_ended x w))
         off last =
-            let last_one : m.flood.sent + 1 ≡ m.flood.limit = eqb-true (m.flood.sent + 1) m.flood.limit (sym (last_is x.node w.members m (ascend_distinct_nodes) there (sym node)) ∙ last) in
+            let last_one : m.flood.sent + 1 ≡ m.flood.limit =
+            eqb-true (m.flood.sent + 1) m.flood.limit (sym (last_is x.node w.members m (ascend_distinct_nodes) there (sym node)) ∙ last) in
             let events : events_in w.air m.node ≡ member.past ++ Ended x ∷ [] = member.happened ∙ ap (λ (a : Act). member.past ++ running a) act in
             let at_end : get_or (own_ends (events_in w.air m.node)) (f.sends - 1) CLOSING ≡ x.end =
-            ap (λ (es : List Event). get_or (own_ends es) (f.sends - 1) CLOSING) events ∙ ap (λ (ends : List ℕ). get_or ends (f.sends - 1) CLOSING) (ends_more member.past x)
+            ap (λ (es : List Event). get_or (own_ends es) (f.sends - 1) CLOSING) events
+            ∙ ap (λ (ends : List ℕ). get_or ends (f.sends - 1) CLOSING) (ends_more member.past x)
             ∙ get_last (own_ends member.past) x.end (f.sends - 1) CLOSING (omega (arith, last_one, counted.0, counted.1)) in
             subst (λ (v : ℕ). IsFloodSoFar f clocks (map (heard_at x) vs) [] (gone v x.end (own_ended x w))) (sym node)
-            (gone_keeps f clocks has (map (heard_at x) vs) (if is_last x.node w.members then x.node ∷ [] else []) (own_ended x w) (own_ended_shape w is.shape x).medium own left_node only left_there refl x.end
-            (omega arith) (let start = (is.so.sent x sends.sent).step.near in let step = (is.so.sent x sends.sent).step in let lasts = Rattle.lwb_flood.proofs.FloodBegun.old_lasts f clocks has [] [] w medium is.so x sends.sent in omega (arith, start, lasts)) late (λ h in_it. refl) at_end (inl last_one))
+            (gone_keeps f clocks has (map (heard_at x) vs) (if is_last x.node w.members then x.node ∷ [] else []) (own_ended x w)
+            (own_ended_shape w is.shape x).medium own left_node only left_there refl x.end
+            (omega arith) (let start = (is.so.sent x sends.sent).step.near in let step = (is.so.sent x sends.sent).step in
+            let lasts = old_lasts f clocks has [] [] w medium is.so x sends.sent in omega (arith, start, lasts)) late (λ h in_it. refl) at_end
+            (inl last_one))
           where
             ascend_distinct_nodes : Distinct (map node_of w.members)
             ascend_distinct_nodes = subst Distinct (sym is.shape.nodes) (ascend_distinct (nodes_of w.medium) medium.nodes.ascending)
 
             only : (u : ℕ) → Contains (if is_last x.node w.members then x.node ∷ [] else []) u → u ≡ m.node
             only u = cond_both (is_last x.node w.members) (x.node ∷ []) [] (λ (l : List ℕ). Contains l u → u ≡ m.node)
-                (λ _ in_it. elim (Rattle.air_log.proofs.Elements.contains_cases x.node [] u in_it) [ inl same ↦ sym same ∙ node | inr none ↦ absurd (Rattle.air_log.proofs.Elements.not_in_none u none) ])
+                (λ _ in_it. elim (Rattle.air_log.proofs.Elements.contains_cases x.node [] u in_it) [
+                  | inl same ↦ sym same ∙ node
+                  | inr none ↦ absurd (Rattle.air_log.proofs.Elements.not_in_none u none)
+                ])
                 (λ _ in_it. absurd (Rattle.air_log.proofs.Elements.not_in_none u in_it))
 
         left_off : IsFloodSoFar f clocks (map (heard_at x) vs) [] (ended x w) × IsShape (ended x w) × ((ended x w).medium.now < CLOSING)
         left_off = by_last (is_last x.node w.members) refl
           where
-            by_last : (b : Bool) → is_last x.node w.members ≡ b → IsFloodSoFar f clocks (map (heard_at x) vs) [] (ended x w) × IsShape (ended x w) × ((ended x w).medium.now < CLOSING)
+            by_last : (b : Bool) → is_last x.node w.members ≡ b
+                → IsFloodSoFar f clocks (map (heard_at x) vs) [] (ended x w) × IsShape (ended x w) × ((ended x w).medium.now < CLOSING)
             by_last true last =
-                subst (λ (n : World). IsFloodSoFar f clocks (map (heard_at x) vs) [] n × IsShape n × (n.medium.now < CLOSING)) (sym (cond-true (is_last x.node w.members) (gone x.node x.end (own_ended x w)) (own_ended x w) last))
+                subst (λ (n : World). IsFloodSoFar f clocks (map (heard_at x) vs) [] n × IsShape n × (n.medium.now < CLOSING))
+                (sym (cond-true (is_last x.node w.members) (gone x.node x.end (own_ended x w)) (own_ended x w) last))
                 (off last, gone_shape (own_ended x w) (own_ended_shape w is.shape x) x.node x.end, early_end)
             by_last false last =
-                subst (λ (n : World). IsFloodSoFar f clocks (map (heard_at x) vs) [] n × IsShape n × (n.medium.now < CLOSING)) (sym (cond-false (is_last x.node w.members) (gone x.node x.end (own_ended x w)) (own_ended x w) last))
-                (subst (λ (l : List ℕ). IsFloodSoFar f clocks (map (heard_at x) vs) l (own_ended x w)) (cond-false (is_last x.node w.members) (x.node ∷ []) [] last) own, own_ended_shape w is.shape x, early_end)
+                subst (λ (n : World). IsFloodSoFar f clocks (map (heard_at x) vs) [] n × IsShape n × (n.medium.now < CLOSING))
+                (sym (cond-false (is_last x.node w.members) (gone x.node x.end (own_ended x w)) (own_ended x w) last)) (
+                  subst (λ (l : List ℕ). IsFloodSoFar f clocks (map (heard_at x) vs) l (own_ended x w))
+                      (cond-false (is_last x.node w.members) (x.node ∷ []) [] last) own,
+                  own_ended_shape w is.shape x,
+                  early_end,
+                )
 
         ended_so : IsFloodSoFar f clocks [] [] (heard_by_all clocks x vs (ended x w))
         ended_so = heard_by_all_keeps f clocks has x [] vs (ended x w) left_off.0 left_off.2 (ended_over f clocks [] [] w is.so x)
 
-        heard_now : (us : List ℕ) (z : World) → IsShape z → z.medium.now < CLOSING → IsShape (heard_by_all clocks x us z) × ((heard_by_all clocks x us z).medium.now < CLOSING)
+        heard_now : (us : List ℕ) (z : World) → IsShape z → z.medium.now < CLOSING
+            → IsShape (heard_by_all clocks x us z) × ((heard_by_all clocks x us z).medium.now < CLOSING)
         heard_now [] z shape early = (shape, early)
         heard_now (v ∷ us) z shape early = heard_now us (heard (clocks v) x v z) (heard_shape z shape (clocks v) x v) early
 
@@ -226,10 +243,13 @@ module _ (f : FloodParts) (clocks : ℕ → ℕ → ℕ) (has : HasClocks f cloc
         ended_smaller : remaining (heard_by_all clocks x vs (ended x w)) < remaining w
         ended_smaller = (let less = ended_less x w m there (sym node) end_room in let at_most = all_heard_at_most clocks x vs (ended x w) in omega arith)
 
-      ended_on : (others : ℕ → ℕ → ℕ) → ((v : ℕ) → clocks v ≡ others v) → (new : World) → EndedTo f.trace others x w new → IsRunning f clocks new × (remaining new < remaining w)
+      ended_on : (others : ℕ → ℕ → ℕ) → ((v : ℕ) → clocks v ≡ others v) → (new : World) → EndedTo f.trace others x w new
+          → IsRunning f clocks new × (remaining new < remaining w)
       ended_on others same new e =
-          let is_new : heard_by_all clocks x e.hearers (ended x w) ≡ new = heard_by_same clocks others same x e.hearers (ended x w) ∙ sym e.is in
-          (subst (IsRunning f clocks) is_new (ended_running e.hearers e.heard), subst (λ (n : World). remaining n < remaining w) is_new (ended_smaller e.hearers e.heard))
+          let is_new : heard_by_all clocks x e.hearers (ended x w) ≡ new = heard_by_same clocks others same x e.hearers (ended x w) ∙ sym e.is in (
+            subst (IsRunning f clocks) is_new (ended_running e.hearers e.heard),
+            subst (λ (n : World). remaining n < remaining w) is_new (ended_smaller e.hearers e.heard),
+          )
 
     pub can_step : CanStep f.trace w m m.act
     can_step = by_act m.act refl
@@ -240,7 +260,8 @@ module _ (f : FloodParts) (clocks : ℕ → ℕ → ℕ) (has : HasClocks f cloc
         by_act (Sends x) is_act = can_end x is_act
         by_act Off is_act = tt
 
-    pub step_on : (others : ℕ → ℕ → ℕ) → ((v : ℕ) → clocks v ≡ others v) → (new : World) → Stepped f.trace others w new m m.act → IsRunning f clocks new × (remaining new < remaining w)
+    pub step_on : (others : ℕ → ℕ → ℕ) → ((v : ℕ) → clocks v ≡ others v) → (new : World) → Stepped f.trace others w new m m.act
+        → IsRunning f clocks new × (remaining new < remaining w)
     step_on others same new = by_act m.act refl
       where
         by_act : (a : Act) → m.act ≡ a → Stepped f.trace others w new m a → IsRunning f clocks new × (remaining new < remaining w)
@@ -257,17 +278,3 @@ module _ (f : FloodParts) (clocks : ℕ → ℕ → ℕ) (has : HasClocks f cloc
     quiet = λ m there. subst (λ (n : Member). moment_of n.act ≡ None) there.2 (none there.0 m there.1);
     early = (let early = is.early in omega arith);
   }
-
--- clocks by the nodes of a text keep the drift law
-module _ {C : Type 0} (R : C → ℕ → ℕ) (law : (c : C) → IsClock (R c)) where
-  pub clocks_drift : (ns : List NodeLine) (cs : List C) → length cs ≡ length ns → (v : ℕ) → knows ns v ≡ true → IsClock (clocks_by R ns cs v)
-  clocks_drift [] cs long v known = absurd (false≢true known)
-  clocks_drift (n ∷ ns) [] long v known = absurd (omega arith)
-  clocks_drift (n ∷ ns) (c ∷ cs) long v known =
-      elim (or_cases (nat_eq n.node v) _ known) [
-        | inl here ↦ subst IsClock (sym (cond-true (nat_eq n.node v) (R c) (clocks_by R ns cs v) here)) (law c)
-        | inr later ↦ cond_both (nat_eq n.node v) (R c) (clocks_by R ns cs v) IsClock (λ _. law c) (λ _. clocks_drift ns cs (omega arith) v later)
-      ]
-
-  pub has_clocks : (f : FloodParts) (cs : List C) → IsSound f → (1 ≤ f.start) × (f.start ≤ 200) → length cs ≡ length f.nodes → HasClocks f (clocks_by R f.nodes cs)
-  has_clocks f cs sound start long = record { sound = sound; start = start; drift = clocks_drift f.nodes cs long }

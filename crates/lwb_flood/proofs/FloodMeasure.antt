@@ -1,5 +1,6 @@
 -- A flood ends: with each step there is less that its nodes may still do.
-use Rattle.std.proofs.Common.{◌≡◌, ◌≢◌, ℕ, ◌+◌, ◌-◌, ◌<◌, ◌≤◌, List, [], ◌∷◌, ◌++◌, map, length, Bool, true, false, if◌then◌else◌, inl, inr, refl, sym, ◌∙◌, ap, subst, arith, nat_eq, eq-eqb}
+use Rattle.std.proofs.Common.{◌≡◌, ◌≢◌, ℕ, ◌+◌, ◌-◌, ◌<◌, ◌≤◌, List, [], ◌∷◌, ◌++◌, length, true, false, inl, inr, refl, sym, ◌∙◌, ap}
+use Rattle.std.proofs.Common.{subst, arith, nat_eq, eq-eqb}
 use Rattle.std.specs.Prelude.{Contains}
 use Rattle.std.proofs.lemmas.Bool.{cond_both, cases_eq, cond-true, cond-false, ne_eqb}
 use Rattle.std.proofs.lemmas.List.Elements.{filter_map-append}
@@ -12,7 +13,8 @@ use Rattle.air_log.specs.NodeEvents.{Event, Heard, Ended, own_end, own_ends}
 use Rattle.air_log.proofs.Elements.{not_in_none, contains_head, contains_tail, contains_cases}
 use Rattle.lwb_flood.specs.declared.member.Act.TheVariants.{Sends, Off}
 use Rattle.lwb_flood.specs.declared.member.Member.{Member}
-use Rattle.lwb_flood.specs.FloodWorlds.{World, changed_at, with_change, with_act, after_own, hearing_by, tuned_entry, begun, own_ended, gone, ended, heard, heard_by_all, is_last}
+use Rattle.lwb_flood.specs.FloodWorlds.{World, changed_at, with_change, with_act, after_own, hearing_by, tuned_entry, begun, own_ended, gone, ended, heard}
+use Rattle.lwb_flood.specs.FloodWorlds.{heard_by_all, is_last}
 use Rattle.air_log.specs.Entries.{sent_entry, heard_entry}
 use Rattle.lwb_flood.proofs.FloodSoFar.{events_in}
 use Rattle.lwb_flood.proofs.WorldLists.{events_sent_own, events_sent_other, events_heard_own, events_heard_other, events_tuned}
@@ -30,27 +32,32 @@ total air [] = 0
 total air (m ∷ ms) = left air m + total air ms
 
 module _ (air more : List Entry) (v : ℕ) (change : Member → Member) where
-  one : (m : Member) → (m.node ≢ v → left more m ≤ left air m) → (m.node ≡ v → left more (change m) ≤ left air m) → left more (changed_at v change m) ≤ left air m
+  one : (m : Member) → (m.node ≢ v → left more m ≤ left air m) → (m.node ≡ v → left more (change m) ≤ left air m)
+      → left more (changed_at v change m) ≤ left air m
   one m other own = elim (cases_eq m.node v) [
     | inl is ↦ subst (λ (n : Member). left more n ≤ left air m) (sym (cond-true (nat_eq m.node v) (change m) m (eq-eqb m.node v is))) (own is)
     | inr not ↦ subst (λ (n : Member). left more n ≤ left air m) (sym (cond-false (nat_eq m.node v) (change m) m (ne_eqb m.node v not))) (other not)
   ]
 
-  pub total_at_most : (ms : List Member) → ((m : Member) → Contains ms m → m.node ≢ v → left more m ≤ left air m) → ((m : Member) → Contains ms m → m.node ≡ v → left more (change m) ≤ left air m) → total more (with_change v change ms) ≤ total air ms
+  pub total_at_most : (ms : List Member) → ((m : Member) → Contains ms m → m.node ≢ v → left more m ≤ left air m)
+      → ((m : Member) → Contains ms m → m.node ≡ v → left more (change m) ≤ left air m) → total more (with_change v change ms) ≤ total air ms
   total_at_most [] other own = omega arith
   total_at_most (m ∷ ms) other own =
       let here = one m (other m (contains_head m ms)) (own m (contains_head m ms)) in
       let rest = total_at_most ms (λ n there. other n (contains_tail m ms n there)) (λ n there. own n (contains_tail m ms n there)) in
       omega arith
 
-  pub total_less : (ms : List Member) → ((m : Member) → Contains ms m → m.node ≢ v → left more m ≤ left air m) → ((m : Member) → Contains ms m → m.node ≡ v → left more (change m) ≤ left air m)
+  pub total_less : (ms : List Member) → ((m : Member) → Contains ms m → m.node ≢ v → left more m ≤ left air m)
+      → ((m : Member) → Contains ms m → m.node ≡ v → left more (change m) ≤ left air m)
       → (m : Member) → Contains ms m → m.node ≡ v → left more (change m) < left air m → total more (with_change v change ms) < total air ms
   total_less [] other own m there is less = absurd (not_in_none m there)
   total_less (n ∷ ms) other own m there is less =
       elim (contains_cases n ms m there) [
         | inl here ↦
             let rest = total_at_most ms (λ k in_it. other k (contains_tail n ms k in_it)) (λ k in_it. own k (contains_tail n ms k in_it)) in
-            let down : left more (changed_at v change n) < left air n = subst (λ (k : Member). left more (changed_at v change k) < left air k) (sym here) (subst (λ (k : Member). left more k < left air m) (sym (cond-true (nat_eq m.node v) (change m) m (eq-eqb m.node v is))) less) in
+            let down : left more (changed_at v change n) < left air n =
+            subst (λ (k : Member). left more (changed_at v change k) < left air k) (sym here)
+            (subst (λ (k : Member). left more k < left air m) (sym (cond-true (nat_eq m.node v) (change m) m (eq-eqb m.node v is))) less) in
             omega arith
         | inr later ↦
             let first = one n (other n (contains_head n ms)) (own n (contains_head n ms)) in
@@ -82,20 +89,23 @@ pub started_tuned : (air : List Entry) (u t v : ℕ) → started (air ++ tuned_e
 started_tuned air u t v = ap (λ (es : List Event). length (own_ends es)) (events_tuned air u t v)
 
 heard_limits : (s : FloodState) (p : List ℕ) → ((after_heard s p).limit ≡ s.limit) × ((after_heard s p).sent ≡ s.sent)
-heard_limits s p = cond_both (fits s p) (record s { waiting = Rattle.std.proofs.Common.nat_lt (counter_of p) 11; first = first_of s.first p }) s (λ (f : FloodState). (f.limit ≡ s.limit) × (f.sent ≡ s.sent)) (λ _. (refl, refl)) (λ _. (refl, refl))
+heard_limits s p = cond_both (fits s p) (record s { waiting = Rattle.std.proofs.Common.nat_lt (counter_of p) 11; first = first_of s.first p }) s
+    (λ (f : FloodState). (f.limit ≡ s.limit) × (f.sent ≡ s.sent)) (λ _. (refl, refl)) (λ _. (refl, refl))
 
 abbrev pub remaining : World → ℕ
 remaining w = total w.air w.members
 
 -- a sending that begins, at a node that may begin one
-pub begun_less : (x : Sending) (w : World) (m : Member) → Contains w.members m → m.node ≡ x.node → m.flood.sent + started w.air m.node < m.flood.limit + m.flood.limit → remaining (begun x w) < remaining w
+pub begun_less : (x : Sending) (w : World) (m : Member) → Contains w.members m → m.node ≡ x.node
+    → m.flood.sent + started w.air m.node < m.flood.limit + m.flood.limit → remaining (begun x w) < remaining w
 begun_less x w m there is room =
     total_less w.air (w.air ++ sent_entry x ∷ []) x.node (with_act (Sends x)) w.members
     (λ n in_it not. omega (arith, started_sent_other w.air x n.node (λ same. not (sym same))))
     (λ n in_it same. let up = started_sent_own w.air x in omega (arith, ap (started (w.air ++ sent_entry x ∷ [])) same, ap (started w.air) same))
     m there is (let up = started_sent_own w.air x in omega (arith, ap (started (w.air ++ sent_entry x ∷ [])) is, ap (started w.air) is))
 
-pub own_ended_less : (x : Sending) (w : World) (m : Member) → Contains w.members m → m.node ≡ x.node → m.flood.sent + started w.air m.node < m.flood.limit + m.flood.limit → remaining (own_ended x w) < remaining w
+pub own_ended_less : (x : Sending) (w : World) (m : Member) → Contains w.members m → m.node ≡ x.node
+    → m.flood.sent + started w.air m.node < m.flood.limit + m.flood.limit → remaining (own_ended x w) < remaining w
 own_ended_less x w m there is room =
     total_less w.air w.air x.node after_own w.members (λ n in_it not. omega arith) (λ n in_it same. omega arith) m there is (omega arith)
 
@@ -113,9 +123,11 @@ heard_at_most clock x v w =
 
 pub all_heard_at_most : (clocks : ℕ → ℕ → ℕ) (x : Sending) (vs : List ℕ) (w : World) → remaining (heard_by_all clocks x vs w) ≤ remaining w
 all_heard_at_most clocks x [] w = omega arith
-all_heard_at_most clocks x (v ∷ vs) w = let one = heard_at_most (clocks v) x v w in let rest = all_heard_at_most clocks x vs (heard (clocks v) x v w) in omega arith
+all_heard_at_most clocks x (v ∷ vs) w =
+    let one = heard_at_most (clocks v) x v w in let rest = all_heard_at_most clocks x vs (heard (clocks v) x v w) in omega arith
 
-pub ended_less : (x : Sending) (w : World) (m : Member) → Contains w.members m → m.node ≡ x.node → m.flood.sent + started w.air m.node < m.flood.limit + m.flood.limit → remaining (ended x w) < remaining w
+pub ended_less : (x : Sending) (w : World) (m : Member) → Contains w.members m → m.node ≡ x.node
+    → m.flood.sent + started w.air m.node < m.flood.limit + m.flood.limit → remaining (ended x w) < remaining w
 ended_less x w m there is room =
     let less = own_ended_less x w m there is room in
     cond_both (is_last x.node w.members) (gone x.node x.end (own_ended x w)) (own_ended x w) (λ (n : World). remaining n < remaining w)

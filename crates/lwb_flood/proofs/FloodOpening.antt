@@ -1,8 +1,9 @@
 -- All nodes of a flood are tuned in, one after another.
-use Rattle.std.proofs.Common.{◌≡◌, ◌==◌, ℕ, ◌+◌, ◌<◌, ◌≤◌, List, [], ◌∷◌, ◌++◌, map, take, length, get_or, Option, Some, None, inl, inr, refl, sym, ◌∙◌, ap, subst, arith}
-use Rattle.std.specs.Prelude.{Contains, AllPairs}
+use Rattle.std.proofs.Common.{◌≡◌, ◌==◌, ℕ, ◌+◌, ◌<◌, ◌≤◌, List, [], ◌∷◌, ◌++◌, map, take, length, get_or, Option, Some, None, inl, inr, refl, sym, ◌∙◌, ap}
+use Rattle.std.proofs.Common.{subst, arith}
+use Rattle.std.specs.Prelude.{Contains}
 use Rattle.std.proofs.lemmas.Bool.{cond_both}
-use Rattle.std.proofs.lemmas.List.{take_more, length-map, get_or-map}
+use Rattle.std.proofs.lemmas.List.{take_more, length-map}
 use Rattle.lwb_base.specs.Profile.{one, Numbers}
 use Rattle.link_trace.specs.Masks.{AreNodes}
 use Rattle.scenario_text.specs.FloodParts.{FloodParts, IsSound}
@@ -10,21 +11,14 @@ use Rattle.scenario_text.specs.declared.lines.NodeLine.{NodeLine}
 use Rattle.bus_model.specs.FloodOfText.{ids}
 use Rattle.radio_model.specs.declared.sending.Sending.{Sending}
 use Rattle.radio_model.specs.declared.station.Station.{Station}
-use Rattle.radio_model.specs.Stations.{MediumState, IsMedium, IsTime, nodes_of, after, changed_at, retuned, tuned_in, tuned_out, is_tuned_to, first_state, stations_from, fresh}
+use Rattle.radio_model.specs.Stations.{MediumState, IsMedium, IsTime, nodes_of, after, changed_at, retuned, tuned_in, tuned_out, is_tuned_to, first_state}
+use Rattle.radio_model.specs.Stations.{stations_from, fresh}
 use Rattle.radio_model.proofs.Places.{nodes_from, still_medium, first_is_medium}
 use Rattle.radio_model.proofs.Changes.{retuned_keeps}
 use Rattle.radio_model.proofs.OneStation.{same_nodes}
 use Rattle.air_log.specs.FloodLaw.{OPENING}
-use Rattle.air_log.proofs.Elements.{not_in_none, contains_cases, map_from}
+use Rattle.air_log.proofs.Elements.{not_in_none, contains_cases, map_from, pairs_of_map}
 use Rattle.lwb_flood.specs.FloodWorlds.{opened, first_member, first_world, IsShape, node_of as member_node}
-
-pairs_of_map : {X Y : Type 0} (g : X → Y) (R : Y → Y → Type 0) (xs : List X) → AllPairs (λ a b. R (g a) (g b)) xs → AllPairs R (map g xs)
-pairs_of_map g R [] all i j d less within = absurd (omega arith)
-pairs_of_map g R (x ∷ xs) all i j d less within =
-    let long = length-map (x ∷ xs) g in
-    let at_i = get_or-map g (x ∷ xs) i x d (omega arith) in
-    let at_j = get_or-map g (x ∷ xs) j x d (omega arith) in
-    subst (λ (y : _). R y (get_or (map g (x ∷ xs)) j d)) (sym at_i) (subst (λ (y : _). R (g (get_or (x ∷ xs) i x)) y) (sym at_j) (all i j x less (omega arith)))
 
 -- nobody sends yet
 pub record IsOpening (vs : List ℕ) (m : MediumState) : Type 0 where
@@ -35,14 +29,18 @@ pub record IsOpening (vs : List ℕ) (m : MediumState) : Type 0 where
 fresh_silent : (k : ℕ) (vs : List ℕ) (st : Station) → Contains (stations_from k vs) st → st.sending ≡ None
 fresh_silent k [] st there = absurd (not_in_none st there)
 fresh_silent k (v ∷ vs) st there =
-    elim (contains_cases (fresh v k) (stations_from (k + 1) vs) st there) [ inl is ↦ ap (λ (s : Station). s.sending) (sym is) | inr later ↦ fresh_silent (k + 1) vs st later ]
+    elim (contains_cases (fresh v k) (stations_from (k + 1) vs) st there) [
+      | inl is ↦ ap (λ (s : Station). s.sending) (sym is)
+      | inr later ↦ fresh_silent (k + 1) vs st later
+    ]
 
 pub at_first : (p : Numbers) (vs : List ℕ) → IsOpening vs (first_state p vs)
 at_first p vs = record { nodes = nodes_from 0 vs; early = omega arith; silent = fresh_silent 0 vs }
 
 same_sending : (rank : Option ℕ) (t : ℕ) (st : Station) → (retuned rank t st).sending ≡ st.sending
 same_sending None t st = refl
-same_sending (Some r) t st = cond_both (is_tuned_to st.tuned r) st (tuned_in r t (tuned_out t st)) (λ (s : Station). s.sending ≡ st.sending) (λ _. refl) (λ _. refl)
+same_sending (Some r) t st = cond_both (is_tuned_to st.tuned r) st (tuned_in r t (tuned_out t st)) (λ (s : Station). s.sending ≡ st.sending)
+    (λ _. refl) (λ _. refl)
 
 abbrev pub tuned_one : ℕ → MediumState → MediumState
 tuned_one v m = after OPENING v (retuned (Some 0) OPENING) m
@@ -54,7 +52,8 @@ one_more vs m v is = record {
   silent = λ st there.
       let was = map_from (changed_at v (retuned (Some 0) OPENING)) m.stations st there in
       subst (λ (s : Station). s.sending ≡ None) was.2
-      (cond_both (was.0.node == v) (retuned (Some 0) OPENING was.0) was.0 (λ (s : Station). s.sending ≡ None) (λ _. same_sending (Some 0) OPENING was.0 ∙ is.silent was.0 was.1) (λ _. is.silent was.0 was.1));
+      (cond_both (was.0.node == v) (retuned (Some 0) OPENING was.0) was.0 (λ (s : Station). s.sending ≡ None)
+      (λ _. same_sending (Some 0) OPENING was.0 ∙ is.silent was.0 was.1) (λ _. is.silent was.0 was.1));
 }
 
 pub opened_is : (us vs : List ℕ) (m : MediumState) → IsOpening vs m → IsOpening vs (opened us m)
@@ -65,8 +64,10 @@ opened_push : (us : List ℕ) (v : ℕ) (m : MediumState) → opened (us ++ v �
 opened_push [] v m = refl
 opened_push (u ∷ us) v m = opened_push us v (tuned_one u m)
 
-pub opened_more : (vs : List ℕ) (i v : ℕ) (m : MediumState) → i < length vs → v ≡ get_or vs i v → opened (take (i + 1) vs) m ≡ tuned_one v (opened (take i vs) m)
-opened_more vs i v m below at = ap (λ (l : List ℕ). opened l m) (take_more vs i v below ∙ ap (λ (n : ℕ). take i vs ++ n ∷ []) (sym at)) ∙ opened_push (take i vs) v m
+pub opened_more : (vs : List ℕ) (i v : ℕ) (m : MediumState) → i < length vs → v ≡ get_or vs i v
+    → opened (take (i + 1) vs) m ≡ tuned_one v (opened (take i vs) m)
+opened_more vs i v m below at = ap (λ (l : List ℕ). opened l m) (take_more vs i v below ∙ ap (λ (n : ℕ). take i vs ++ n ∷ []) (sym at))
+    ∙ opened_push (take i vs) v m
 
 pub in_time : (vs : List ℕ) (m : MediumState) → IsOpening vs m → IsTime m OPENING
 in_time vs m is = record {

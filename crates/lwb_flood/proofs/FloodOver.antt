@@ -1,5 +1,6 @@
 -- A flood so far whose nodes are all off is a whole one: its log keeps the law.
-use Rattle.std.proofs.Common.{◌≡◌, ◌≢◌, ℕ, ◌+◌, ◌<◌, ◌↔◌, List, [], ◌∷◌, ◌++◌, filter_map, Option, Some, None, Bool, true, false, ◌==◌, if◌then◌else◌, inl, inr, refl, sym, ◌∙◌, ap, subst, arith, eqb-true, eq-eqb}
+use Rattle.std.proofs.Common.{◌≡◌, ◌≢◌, ℕ, ◌+◌, ◌<◌, ◌↔◌, List, [], ◌∷◌, ◌++◌, filter_map, Option, Some, None, Bool, true, false, ◌==◌, if◌then◌else◌, inl, inr}
+use Rattle.std.proofs.Common.{refl, sym, ◌∙◌, ap, subst, arith, eqb-true, eq-eqb}
 use Rattle.std.specs.Prelude.{Contains, AllPairs}
 use Rattle.std.specs.List.{cons_option}
 use Rattle.std.proofs.lemmas.Bool.{cond-true}
@@ -30,21 +31,21 @@ use Rattle.lwb_flood.specs.declared.member.Act.TheVariants.{Off}
 use Rattle.lwb_flood.specs.declared.member.Member.{Member}
 use Rattle.lwb_flood.specs.FloodLog.{HasClocks}
 use Rattle.lwb_flood.specs.FloodWorlds.{World, node_of}
-use Rattle.lwb_flood.proofs.FloodSoFar.{scene, standing, event_in, events_in, running, tuned_by, IsGone, Stands, Runs, IsSettled, IsFloodSoFar}
-use Rattle.lwb_flood.proofs.FloodBegun.{waits_off}
-use Rattle.lwb_flood.proofs.FloodEnded.{known_there, sends_off}
-use Rattle.lwb_flood.proofs.FloodGone.{ended_event}
-use Rattle.lwb_flood.proofs.FloodHeard.{heard_event}
+use Rattle.lwb_flood.proofs.ActsTold.{waits_off, sends_off}
+use Rattle.lwb_flood.proofs.EventsInLog.{ended_event, heard_event}
 use Rattle.lwb_flood.proofs.FloodOpening.{sound_nodes}
+use Rattle.lwb_flood.proofs.FloodSoFar.{scene, standing, event_in, events_in, running, tuned_by, IsGone, Stands, Runs, IsSettled, IsFloodSoFar}
+use Rattle.lwb_flood.proofs.LogEntries.{known_there, some_same}
 
 -- the events of a node and the entries of the log
-some_same : {X : Type 0} (x y : X) → Some x ≡ Some y → x ≡ y
-some_same x y is = cc
-
 heard_of : (e : Entry) (v : ℕ) (x : Sending) → hearing_in e ≡ Some (record { node = v; sending = x }) → event_in v e ≡ Some (Heard x)
 heard_of (Sent s) v x is = absurd (cc)
 heard_of (HeardOf h) v x is =
-    let same : (let a : Hearing = record { node = h.node; sending = record { rank = h.rank; node = h.from; start = h.start; end = h.end; packet = h.packet } } in a ≡ record { node = v; sending = x }) = some_same _ _ is in
+    let same : (let a : Hearing = record {
+      node = h.node;
+      sending = record { rank = h.rank; node = h.from; start = h.start; end = h.end; packet = h.packet };
+    } in a ≡ record { node = v; sending = x }) =
+    some_same _ _ is in
     cond-true (h.node == v) _ _ (eq-eqb h.node v (ap (λ (a : Hearing). a.node) same)) ∙ ap (λ (a : Hearing). Some (Heard a.sending)) same
 heard_of (Tuned t) v x is = absurd (cc)
 
@@ -64,7 +65,8 @@ not_ended true z x is = cc
 not_ended false z x is = cc
 
 ended_node : (e : Entry) (v : ℕ) (x : Sending) → event_in v e ≡ Some (Ended x) → x.node ≡ v
-ended_node (Sent s) v x is = node_if s.node v (s.node == v) (record { rank = s.rank; node = s.node; start = s.start; end = s.end; packet = s.packet }) x (λ same. eqb-true s.node v same) refl is
+ended_node (Sent s) v x is = node_if s.node v (s.node == v)
+    (record { rank = s.rank; node = s.node; start = s.start; end = s.end; packet = s.packet }) x (λ same. eqb-true s.node v same) refl is
 ended_node (HeardOf h) v x is = absurd (not_ended (h.node == v) (record { rank = h.rank; node = h.from; start = h.start; end = h.end; packet = h.packet }) x is)
 ended_node (Tuned t) v x is = absurd (cc)
 
@@ -75,7 +77,8 @@ no_lasting t (st ∷ xs) none =
     ap (λ (o : Option TunedTo). cons_option (lasting st.node o t) (filter_map (lasting_at t) xs)) (none st (contains_head st xs))
     ∙ no_lasting t xs (λ s there. none s (contains_tail st xs s there))
 
-module _ (f : FloodParts) (clocks : ℕ → ℕ → ℕ) (has : HasClocks f clocks) (w : World) (so : IsFloodSoFar f clocks [] [] w) (off : (m : Member) → Contains w.members m → m.act ≡ Off) where
+module _ (f : FloodParts) (clocks : ℕ → ℕ → ℕ) (has : HasClocks f clocks) (w : World) (so : IsFloodSoFar f clocks [] [] w)
+    (off : (m : Member) → Contains w.members m → m.act ≡ Off) where
   -- each known node is a member
   member_at : (v : ℕ) → knows f.nodes v ≡ true → (m : Member) × Contains w.members m × (m.node ≡ v)
   member_at v known = map_from node_of w.members v (subst (λ (l : List ℕ). Contains l v) (sym so.nodes) (known_there f.nodes v known))
@@ -92,9 +95,11 @@ module _ (f : FloodParts) (clocks : ℕ → ℕ → ℕ) (has : HasClocks f cloc
   -- what stands is the log
   untuned : (st : Station) → Contains w.medium.stations st → st.tuned ≡ None
   untuned st there =
-      let m = map_from node_of w.members st.node (subst (λ (l : List ℕ). Contains l st.node) (so.stations ∙ sym so.nodes) (map_contains station_node w.medium.stations st there)) in
+      let m = map_from node_of w.members st.node
+      (subst (λ (l : List ℕ). Contains l st.node) (so.stations ∙ sym so.nodes) (map_contains station_node w.medium.stations st there)) in
       let each = so.each m.0 m.1 in
-      let same : each.station ≡ st = some_same each.station st (sym each.found ∙ ap (station_of w.medium) m.2 ∙ found_member w.medium.stations st ascending there) in
+      let same : each.station ≡ st = some_same each.station st
+      (sym each.found ∙ ap (station_of w.medium) m.2 ∙ found_member w.medium.stations st ascending there) in
       ap (λ (s : Station). s.tuned) (sym same) ∙ each.tuned ∙ ap tuned_by (off m.0 m.1)
     where
       ascending : AllPairs (λ a b. a < b) (nodes_of w.medium)
@@ -114,13 +119,17 @@ module _ (f : FloodParts) (clocks : ℕ → ℕ → ℕ) (has : HasClocks f cloc
 
   hears_on : (v : ℕ) (x : Sending) → knows f.nodes v ≡ true → HearsAir one f.trace w.air v x → IsHeard w.air v x
   hears_on v x known hears =
-      elim (((settled x hears.sent).heard v).1 (known, subst (λ (a : Scene). Hears a v x) (sym stands_is) hears)) [ inl heard ↦ heard | inr none ↦ absurd (not_in_none _ none) ]
+      elim (((settled x hears.sent).heard v).1 (known, subst (λ (a : Scene). Hears a v x) (sym stands_is) hears)) [
+        | inl heard ↦ heard
+        | inr none ↦ absurd (not_in_none _ none)
+      ]
 
   happened : (v : ℕ) → knows f.nodes v ≡ true → AreEventsOf w.air v (events_in w.air v)
   happened v known = record {
     hearings = λ x. (
       heard_event w.air v x,
-      λ heard. let e = filter_from hearing_in w.air (record { node = v; sending = x }) heard in in_filter (event_in v) w.air e.0 (Heard x) e.1 (heard_of e.0 v x e.2),
+      λ heard. let e = filter_from hearing_in w.air (record { node = v; sending = x }) heard in
+          in_filter (event_in v) w.air e.0 (Heard x) e.1 (heard_of e.0 v x e.2),
     );
     sendings = λ x. (
       λ there. (ended_event w.air v x there, (let e = filter_from (event_in v) w.air (Ended x) there in ended_node e.0 v x e.2)),
@@ -166,7 +175,8 @@ module _ (f : FloodParts) (clocks : ℕ → ℕ → ℕ) (has : HasClocks f cloc
   begins_alone x sent zero_counter =
       let s = so.sent x sent in
       elim s.cause [
-        | inl b ↦ s.lasts ∙ ap (λ (v : ℕ). sending_at v x.start x.packet) b.node ∙ ap (λ (t : ℕ). sending_at f.start t x.packet) b.start ∙ ap (sending_at f.start START) b.is
+        | inl b ↦ s.lasts ∙ ap (λ (v : ℕ). sending_at v x.start x.packet) b.node ∙ ap (λ (t : ℕ). sending_at f.start t x.packet) b.start
+            ∙ ap (sending_at f.start START) b.is
         | inr a ↦ absurd (let later = a.later in omega (arith, later, zero_counter))
       ]
 
@@ -184,7 +194,8 @@ module _ (f : FloodParts) (clocks : ℕ → ℕ → ℕ) (has : HasClocks f cloc
       by_member (m, there, is) =
           let answered = (so.each m there).answered r.heard r.flood x.packet (
           subst (λ (es : List Event). Contains (occasions (first_flood f m.node) es) (record { before = r.flood; event = Heard r.heard })) (past_is m there)
-          (subst (λ (v : ℕ). Contains (occasions (first_flood f v) (events_in w.air v)) (record { before = r.flood; event = Heard r.heard })) (sym is) r.occasion)) r.answer in
+          (subst (λ (v : ℕ). Contains (occasions (first_flood f v) (events_in w.air v)) (record { before = r.flood; event = Heard r.heard }))
+          (sym is) r.occasion)) r.answer in
           let at : sending_at m.node (due (clocks m.node) (clocks m.node r.heard.end + 12288)) x.packet ≡ x =
           ap (λ (v : ℕ). sending_at v (due (clocks v) (clocks v r.heard.end + 12288)) x.packet) is
           ∙ ap (λ (t : ℕ). sending_at x.node t x.packet) (sym r.start) ∙ sym lasts in
@@ -200,7 +211,11 @@ module _ (f : FloodParts) (clocks : ℕ → ℕ → ℕ) (has : HasClocks f cloc
     happened = happened;
     known = known_entry;
     tuned = tuned;
-    begun = λ x. (λ is. begins_alone x is.0 is.1, λ is. subst (λ (y : Sending). Contains (sendings_of w.air) y × (counter_of y.packet ≡ 0)) (sym is) (begins, refl));
+    begun = λ x. (
+      λ is. begins_alone x is.0 is.1,
+      λ is. subst (λ (y : Sending). Contains (sendings_of w.air) y × (counter_of y.packet ≡ 0)) (sym is)
+          (begins, refl),
+    );
     lasts = λ x sent. (so.sent x sent).lasts;
     hears = λ v x. (hears_back v x, λ both. hears_on v x both.0 both.1);
     relayed = relayed;

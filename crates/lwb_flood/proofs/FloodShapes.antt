@@ -15,13 +15,19 @@ use Rattle.radio_model.specs.declared.station.Station.{Station}
 module _ (w : World) (is : IsShape w) where
   changed : (v t : ℕ) (f : Station → Station) → Keeps f → (change : Member → Member) → ((m : Member) → (change m).node ≡ m.node)
       → (map node_of (with_change v change w.members) ≡ nodes_of (after t v f w.medium)) × IsMedium (after t v f w.medium)
-  changed v t f keeps change same = (nodes_kept v change same w.members ∙ is.nodes ∙ sym (same_nodes w.medium t v f keeps.node), still_medium f keeps v t w.medium is.medium)
+  changed v t f keeps change same =
+      (nodes_kept v change same w.members ∙ is.nodes ∙ sym (same_nodes w.medium t v f keeps.node), still_medium f keeps v t w.medium is.medium)
 
   pub begun_shape : (x : Sending) → IsShape (begun x w)
-  begun_shape x = let both = changed x.node x.start (started w.medium.numbers x.start x.packet) (started_keeps w.medium.numbers x.start x.packet) (with_act (Sends x)) (λ m. refl) in record { nodes = both.0; medium = both.1 }
+  begun_shape x =
+      let both = changed x.node x.start (started w.medium.numbers x.start x.packet) (started_keeps w.medium.numbers x.start x.packet)
+      (with_act (Sends x)) (λ m. refl) in record { nodes = both.0; medium = both.1 }
 
   pub gone_shape : (v t : ℕ) → IsShape (gone v t w)
-  gone_shape v t = let none : Option ℕ = None in let both = changed v t (retuned none t) (retuned_keeps none t) (with_act Off) (λ m. refl) in record { nodes = both.0; medium = both.1 }
+  gone_shape v t = let none : Option ℕ = None in let both = changed v t (retuned none t) (retuned_keeps none t) (with_act Off) (λ m. refl) in record {
+    nodes = both.0;
+    medium = both.1;
+  }
 
   pub own_ended_shape : (x : Sending) → IsShape (own_ended x w)
   own_ended_shape x = let both = changed x.node x.end finished finished_keeps after_own (λ m. refl) in record { nodes = both.0; medium = both.1 }
@@ -43,6 +49,7 @@ module _ (inside old new : World) (is : IsShape inside) (view : inside ≡ old) 
   pub heard_stays : (clock : ℕ → ℕ) (x : Sending) (v : ℕ) → new ≡ heard clock x v old → IsShape new
   heard_stays clock x v same = subst IsShape (sym same) (heard_shape old (subst IsShape view is) clock x v)
 
-pub hearing_shape : (inside : World) → IsShape inside → (clock : ℕ → ℕ) (x : Sending) (v : ℕ) (members : List Member) (air : List Entry) → members ≡ with_change v (hearing_by clock x) inside.members
+pub hearing_shape : (inside : World) → IsShape inside → (clock : ℕ → ℕ) (x : Sending) (v : ℕ) (members : List Member) (air : List Entry)
+    → members ≡ with_change v (hearing_by clock x) inside.members
     → IsShape (record { medium = inside.medium; members = members; air = air })
 hearing_shape inside is clock x v members air same = record { nodes = ap (map node_of) same ∙ (heard_shape inside is clock x v).nodes; medium = is.medium }

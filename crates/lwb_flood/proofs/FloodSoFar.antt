@@ -123,7 +123,10 @@ Stands f clocks w leaving past m Off = IsGone f w past m
 
 -- what a node's flood answered, the node has sent or waits to send
 abbrev pub IsAnswered : FloodParts → (ℕ → ℕ) → World → List Event → Member → Type 0
-IsAnswered f clock w past m = (h : Sending) (s : FloodState) (packet : List ℕ) → Contains (occasions (first_flood f m.node) past) (record { before = s; event = Heard h })
+IsAnswered f clock w past m = (h : Sending) (s : FloodState) (packet : List ℕ) → Contains (occasions (first_flood f m.node) past) (record {
+  before = s;
+  event = Heard h;
+})
     → reply_to s h.packet ≡ Relay packet
     → Contains (sendings_of w.air) (sending_at m.node (due clock (clock h.end + 12288)) packet) ⊎ (m.act ≡ Waits (due clock (clock h.end + 12288)) packet)
 

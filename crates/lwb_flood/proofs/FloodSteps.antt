@@ -12,7 +12,8 @@ use Rattle.lwb_flood.specs.FloodWorlds.{World, IsShape, node_of, CanStep, CanEnd
 pub can_sends : (lines : Lines) (w : World) (m : Member) (x : Sending) → m.act ≡ Sends x → CanStep lines w m m.act → CanEnd lines w m x
 can_sends lines w m x is can = subst (CanStep lines w m) is can
 
-module _ (inside old : World) (shape : IsShape inside) (view : inside ≡ old) (place : ℕ) (m : Member) (below : place < length old.members) (at : m ≡ get_or inside.members place m) where
+module _ (inside old : World) (shape : IsShape inside) (view : inside ≡ old) (place : ℕ) (m : Member) (below : place < length old.members)
+    (at : m ≡ get_or inside.members place m) where
   below_inside : place < length inside.members
   below_inside = omega (arith, ap (λ (w : World). length w.members) view)
 

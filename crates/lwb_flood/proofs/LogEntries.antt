@@ -1,7 +1,8 @@
 -- The entries of a log, and of a log that keeps the law of one flood.
-use Rattle.std.proofs.Common.{◌≡◌, ℕ, zero, suc, ◌+◌, ◌*◌, ◌<◌, List, [], ◌∷◌, Bool, true, ◌||◌, inl, inr, Some, refl, sym, ◌∙◌, ap, subst, arith, length, ◌==◌, eq-eqb}
+use Rattle.std.proofs.Common.{◌≡◌, ℕ, zero, suc, ◌+◌, ◌*◌, ◌<◌, List, [], ◌∷◌, Bool, true, ◌||◌, inl, inr, Some, refl, sym, ◌∙◌, ap, subst, arith, length, ◌==◌}
+use Rattle.std.proofs.Common.{eq-eqb, eqb-true}
 use Rattle.std.specs.Prelude.{Contains, ◌≢◌, AllPairs}
-use Rattle.std.proofs.lemmas.Bool.{or_left, or_right}
+use Rattle.std.proofs.lemmas.Bool.{or_left, or_right, eqb-true}
 use Rattle.std.proofs.lemmas.List.{length-set}
 use Rattle.glossy_relay.specs.Relaying.{counter_of}
 use Rattle.scenario_text.specs.FloodParts.{FloodParts, knows}
@@ -14,11 +15,12 @@ use Rattle.radio_model.specs.declared.sending.Sending.{Sending}
 use Rattle.air_log.specs.Entries.{sendings_of, hearings_of, sending_in, node_of}
 use Rattle.air_log.specs.NodeEvents.{Heard}
 use Rattle.air_log.specs.FloodLaw.{FloodLaw, first_flood}
-use Rattle.air_log.proofs.Elements.{not_in_none, contains_cases, filter_from, filter_distinct, map_from, pairs_head, pairs_tail, Distinct}
+use Rattle.air_log.proofs.Elements.{not_in_none, contains_cases, filter_from, filter_distinct, map_from, pairs_head, pairs_tail, Distinct, map_contains}
 use Rattle.glossy_relay.proofs.CountedPackets.{counter_set, fitting_long, relayed_parts}
+use Rattle.radio_model.proofs.Members.{some_of}
 use Rattle.lwb_flood.proofs.SendingTimes.{occasion_event}
 
-some_same : {X : Type 0} (x y : X) → Some x ≡ Some y → x ≡ y
+pub some_same : {X : Type 0} (x y : X) → Some x ≡ Some y → x ≡ y
 some_same x y is = cc
 
 -- a sending tells its entry
@@ -36,7 +38,13 @@ sendings_distinct air once = filter_distinct sending_in (λ d e x at_d at_e. ent
 
 -- the node of a sending is that of its entry
 sender_of : (e : Entry) (x : Sending) → sending_in e ≡ Some x → node_of e ≡ x.node
-sender_of (Sent s) x is = ap (λ (y : Sending). y.node) (some_same (record { rank = s.rank; node = s.node; start = s.start; end = s.end; packet = s.packet }) x is)
+sender_of (Sent s) x is = ap (λ (y : Sending). y.node) (some_same (record {
+  rank = s.rank;
+  node = s.node;
+  start = s.start;
+  end = s.end;
+  packet = s.packet;
+}) x is)
 sender_of (HeardOf h) x is = absurd (cc)
 sender_of (Tuned t) x is = absurd (cc)
 
@@ -82,9 +90,14 @@ module _ (f : FloodParts) (clocks : ℕ → ℕ → ℕ) (air : List Entry) (law
       let a = law.relays x sent (omega arith) in
       let y = a.heard in
       let parts = relayed_parts a.flood y.packet x.packet a.answer in
-      let there : Contains (law.events x.node) (Heard y) = occasion_event (first_flood f x.node) (law.events x.node) (record { before = a.flood; event = Heard y }) a.occasion in
-      let raised : counter_of x.packet ≡ counter_of y.packet + 1 = ap counter_of parts.2 ∙ counter_set y.packet (counter_of y.packet + 1) (fitting_long a.flood y.packet parts.0) in
-      ap (λ (p : List ℕ). length p) parts.2 ∙ length-set y.packet 2 (counter_of y.packet + 1) ∙ eight_at k y (event_was_sent x.node y here there) (omega (arith, raised))
+      let there : Contains (law.events x.node) (Heard y) = occasion_event (first_flood f x.node) (law.events x.node) (record {
+        before = a.flood;
+        event = Heard y;
+      }) a.occasion in
+      let raised : counter_of x.packet ≡ counter_of y.packet + 1 = ap counter_of parts.2
+      ∙ counter_set y.packet (counter_of y.packet + 1) (fitting_long a.flood y.packet parts.0) in
+      ap (λ (p : List ℕ). length p) parts.2 ∙ length-set y.packet 2 (counter_of y.packet + 1)
+      ∙ eight_at k y (event_was_sent x.node y here there) (omega (arith, raised))
 
   pub eight : (x : Sending) → Contains (sendings_of air) x → length x.packet ≡ 8
   eight x sent = eight_at (counter_of x.packet) x sent refl
@@ -94,3 +107,9 @@ module _ (f : FloodParts) (clocks : ℕ → ℕ → ℕ) (air : List Entry) (law
       let last = law.lasts x sent in
       let end : x.end ≡ x.start + (length x.packet + 8) * 2048 = ap (λ (y : Sending). y.end) last in
       (ap (λ (y : Sending). y.rank) last, omega (arith, end, eight x sent))
+
+-- a known node is one of the nodes
+pub known_there : (nodes : List NodeLine) (v : ℕ) → knows nodes v ≡ true → Contains (ids nodes) v
+known_there nodes v known =
+    let n = some_of (λ (n : NodeLine). n.node == v) nodes known in
+    subst (λ (u : ℕ). Contains (ids nodes) u) (eqb-true n.0.node v n.2) (map_contains (λ (n : NodeLine). n.node) nodes n.0 n.1)

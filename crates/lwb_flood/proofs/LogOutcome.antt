@@ -1,5 +1,6 @@
 -- What is read off the log of one flood is the outcome of the flood by steps.
-use Rattle.std.proofs.Common.{◌≡◌, ℕ, zero, suc, ◌+◌, ◌<◌, ◌≤◌, ◌↔◌, List, Bool, true, false, ◌&&◌, inl, inr, Option, Some, None, option_map, filter_map, is_some, refl, sym, ◌∙◌, ap, subst, arith, length, ◌==◌, nat_lt}
+use Rattle.std.proofs.Common.{◌≡◌, ℕ, zero, suc, ◌+◌, ◌<◌, ◌≤◌, ◌↔◌, List, Bool, true, false, ◌&&◌, inl, inr, Option, Some, None, option_map, filter_map}
+use Rattle.std.proofs.Common.{is_some, refl, sym, ◌∙◌, ap, subst, arith, length, ◌==◌, nat_lt}
 use Rattle.std.specs.Prelude.{Contains, ◌⊎◌, ◌≢◌}
 use Rattle.std.proofs.lemmas.Bool.{cases_order, or_from, ne_eqb, and_from, lt-ltb, ltb-true}
 use Rattle.scenario_text.specs.FloodParts.{FloodParts, knows}
@@ -20,12 +21,13 @@ use Rattle.lwb_flood.specs.FloodRun.{Run, HearsIn, takes_part, counter, begins, 
 use Rattle.lwb_flood.specs.FloodBySteps.{IsFloodBySteps}
 use Rattle.lwb_flood.specs.FloodLog.{HasClocks, run_of, HasSent, HasHeard, HeardFirst, IsAcceptance, accepting}
 use Rattle.air_log.proofs.Elements.{filter_same}
-use Rattle.lwb_flood.proofs.SendingTimes.{timed, over, occasion_event, counter_is}
-use Rattle.lwb_flood.proofs.StepHearings.{IsAt, silent_in, few_sent}
-use Rattle.lwb_flood.proofs.WholeFlood.{at_step, flood_by_steps}
-use Rattle.lwb_flood.proofs.SendingCounts.{count}
-use Rattle.lwb_flood.proofs.LogEntries.{known_of, ids_distinct, sendings_distinct, heard_was_sent, lasting}
 use Rattle.lwb_flood.proofs.FloodLogRun.{Tuned, here_of, start_begins, log_times, log_run}
+use Rattle.lwb_flood.proofs.LogEntries.{known_of, ids_distinct, sendings_distinct, heard_was_sent, lasting}
+use Rattle.lwb_flood.proofs.SendingCounts.{count}
+use Rattle.lwb_flood.proofs.SendingTimes.{timed, over, occasion_event, counter_is}
+use Rattle.lwb_flood.proofs.StepHearings.{silent_in, few_sent}
+use Rattle.lwb_flood.proofs.StepsOnAir.{IsAt}
+use Rattle.lwb_flood.proofs.WholeFlood.{at_step, flood_by_steps}
 
 of_some : (start o : ℕ) (b : Bool) → some_of start b ≡ Some o → start ≡ o
 of_some start o true is = cc
@@ -68,10 +70,16 @@ module _ (f : FloodParts) (clocks : ℕ → ℕ → ℕ) (air : List Entry) (is 
       from : Sends s v k f.start → HasSent air v k
       from sends =
           let z = (by_steps.sends v k f.start (start_begins f clocks air is law) (sent_early s k v f.start sends)).1 sends in
-          record { sending = z.sending; there = z.sent; node = z.node; counter = counter_is r (log_times f clocks air is law) f.start k z.sending (start_begins f clocks air is law) z.packet }
+          record {
+            sending = z.sending;
+            there = z.sent;
+            node = z.node;
+            counter = counter_is r (log_times f clocks air is law) f.start k z.sending (start_begins f clocks air is law) z.packet;
+          }
 
   -- hearings: with one initiator all of them fit
-  heard_in : (v : ℕ) (x : Sending) (k : ℕ) → takes_part r v → Contains (hearings_of air) (record { node = v; sending = x }) → counter x ≡ k → Hears s v k f.start
+  heard_in : (v : ℕ) (x : Sending) (k : ℕ) → takes_part r v → Contains (hearings_of air) (record { node = v; sending = x }) → counter x ≡ k
+      → Hears s v k f.start
   heard_in v x k here there step =
       let p = packet_is x (heard_was_sent f clocks air law v x there) in
       let few : k ≤ 11 = omega (arith, p.0, step) in
@@ -80,11 +88,13 @@ module _ (f : FloodParts) (clocks : ℕ → ℕ → ℕ) (air : List Entry) (is 
       let h : HearsIn r (Tuned f clocks air is law) v x = ((log_run f clocks air is law).hears v x here).0 there in
       let quiet = silent_in r (Tuned f clocks air is law) (log_run f clocks air is law) k few m at v x h step in
       let less = few_sent r (Tuned f clocks air is law) (log_run f clocks air is law) k few m at v x here h step in
-      let sends : m.sends x.node ≡ Some f.start = at.sends x f.start h.sent (start_begins f clocks air is law) (p.1 ∙ ap (λ (i : ℕ). packet r f.start i) step) in
+      let sends : m.sends x.node ≡ Some f.start = at.sends x f.start h.sent (start_begins f clocks air is law)
+      (p.1 ∙ ap (λ (i : ℕ). packet r f.start i) step) in
       let passes : s.passes k x.node v ≡ true = subst (λ (i : ℕ). s.passes i x.node v ≡ true) step h.passes in
       let may : may_hear s m v ≡ true = and_from _ _ (and_from _ _ here (rw quiet refl)) (lt-ltb (m.times v) s.limit less) in
       let some : is_some (m.sends x.node) ≡ true = rw sends refl in
-      let reached : reaches s m k v ≡ true = any_of (λ u. s.passes k u v && is_some (m.sends u)) s.everyone x.node (timed r (log_times f clocks air is law) x h.sent).here (and_from _ _ passes some) in
+      let reached : reaches s m k v ≡ true = any_of (λ u. s.passes k u v && is_some (m.sends u)) s.everyone x.node
+      (timed r (log_times f clocks air is law) x h.sent).here (and_from _ _ passes some) in
       hears-one s f.start m k v refl (has_one s f.start k refl) ∙ rw (may, reached) refl
 
   pub heard_by_steps : (v k : ℕ) → knows f.nodes v ≡ true → HasHeard air v k ↔ Hears s v k f.start
@@ -97,7 +107,10 @@ module _ (f : FloodParts) (clocks : ℕ → ℕ → ℕ) (air : List Entry) (is 
       from hears =
           let less = heard_in_time s k v f.start hears in
           let h = (by_steps.hears v k f.start here (start_begins f clocks air is law) (omega arith)).1 hears in
-          let event : Contains (law.events v) (Heard h.sending) = occasion_event (begins r v) (law.events v) (record { before = h.flood; event = Heard h.sending }) h.occasion in
+          let event : Contains (law.events v) (Heard h.sending) = occasion_event (begins r v) (law.events v) (record {
+            before = h.flood;
+            event = Heard h.sending;
+          }) h.occasion in
           record {
             sending = h.sending;
             there = ((law.happened v known).hearings h.sending).0 event;
@@ -112,7 +125,8 @@ module _ (f : FloodParts) (clocks : ℕ → ℕ → ℕ) (air : List Entry) (is 
   first_accepts v k known other = (to, from)
     where
       earlier : (x y : Sending) → Contains (sendings_of air) x → Contains (sendings_of air) y → counter x < counter y → x.end < y.end
-      earlier x y sent_x sent_y less = let last = lasting f clocks air law y sent_y in omega (arith, over r (log_times f clocks air is law) x y sent_x sent_y less, last.1)
+      earlier x y sent_x sent_y less =
+          let last = lasting f clocks air law y sent_y in omega (arith, over r (log_times f clocks air is law) x y sent_x sent_y less, last.1)
 
       to : HeardFirst air v k → Accepts s v f.start k
       to h = record {
@@ -122,7 +136,8 @@ module _ (f : FloodParts) (clocks : ℕ → ℕ → ℕ) (air : List Entry) (is 
         first = λ i less heard. (let y = (heard_by_steps v i known).1 heard in
             let step = y.counter in
             let mine = h.counter in
-            let before = earlier y.sending h.sending (heard_was_sent f clocks air law v y.sending y.there) (heard_was_sent f clocks air law v h.sending h.there) (omega (arith, less, step, mine)) in
+            let before = earlier y.sending h.sending (heard_was_sent f clocks air law v y.sending y.there)
+            (heard_was_sent f clocks air law v h.sending h.there) (omega (arith, less, step, mine)) in
             let first = h.first y.sending y.there in
             omega (arith, before, first));
       }
@@ -137,13 +152,17 @@ module _ (f : FloodParts) (clocks : ℕ → ℕ → ℕ) (air : List Entry) (is 
               let mine = x.counter in
               elim (cases_order (counter x.sending) (counter y)) [
                 | inl same ↦
-                    (let event : (z : Sending) → Contains (hearings_of air) (record { node = v; sending = z }) → Contains (law.events v) (Heard z) = λ z at. ((law.happened v known).hearings z).1 at in
-                    let equal : x.sending ≡ y = by_steps.hears_once v x.sending y (here_of f clocks air is law v known) (event x.sending x.there) (event y there) same in
+                    (let event : (z : Sending) → Contains (hearings_of air) (record { node = v; sending = z })
+                    → Contains (law.events v) (Heard z) = λ z at. ((law.happened v known).hearings z).1 at in
+                    let equal : x.sending ≡ y = by_steps.hears_once v x.sending y (here_of f clocks air is law v known) (event x.sending x.there)
+                    (event y there) same in
                     let ends : x.sending.end ≡ y.end = ap (λ (z : Sending). z.end) equal in
                     omega (arith, ends))
                 | inr differ ↦ elim differ [
-                  | inl less ↦ (let before = earlier x.sending y (heard_was_sent f clocks air law v x.sending x.there) (heard_was_sent f clocks air law v y there) less in omega (arith, before))
-                  | inr more ↦ absurd (a.first (counter y) (omega (arith, more, mine)) (heard_in v y (counter y) (here_of f clocks air is law v known) there refl))
+                  | inl less ↦ (let before = earlier x.sending y (heard_was_sent f clocks air law v x.sending x.there)
+                      (heard_was_sent f clocks air law v y there) less in omega (arith, before))
+                  | inr more ↦ absurd (a.first (counter y) (omega (arith, more, mine))
+                      (heard_in v y (counter y) (here_of f clocks air is law v known) there refl))
                 ]
               ]
 
@@ -172,7 +191,8 @@ module _ (f : FloodParts) (clocks : ℕ → ℕ → ℕ) (air : List Entry) (is 
         | inr some ↦ absurd (by_cases some.0 some.1 none)
       ]
     where
-      by_cases : (h : ℕ × ℕ) → ◌≡◌ {A = Option (ℕ × ℕ)} (accepted s v) (Some h) → (v ≡ f.start) ⊎ ((x : Sending) → Contains (hearings_of air) (record { node = v; sending = x }) → ⊥) → ⊥
+      by_cases : (h : ℕ × ℕ) → ◌≡◌ {A = Option (ℕ × ℕ)} (accepted s v) (Some h)
+          → (v ≡ f.start) ⊎ ((x : Sending) → Contains (hearings_of air) (record { node = v; sending = x }) → ⊥) → ⊥
       by_cases h at why =
           let a = accepted_origin v h.0 h.1 at in
           elim why [
@@ -185,12 +205,16 @@ module _ (f : FloodParts) (clocks : ℕ → ℕ → ℕ) (air : List Entry) (is 
           no_both b is_true is_false = cc
 
   -- what is read off is what was accepted
-  pub acceptance_is : (v : ℕ) (step : Option ℕ) → knows f.nodes v ≡ true → IsAcceptance f air v step → ◌≡◌ {A = Option (ℕ × ℕ)} (option_map {U = ℕ × ℕ} (λ k. (v, k)) step) (acceptance s v)
+  pub acceptance_is : (v : ℕ) (step : Option ℕ) → knows f.nodes v ≡ true → IsAcceptance f air v step
+      → ◌≡◌ {A = Option (ℕ × ℕ)} (option_map {U = ℕ × ℕ} (λ k. (v, k)) step) (acceptance s v)
   acceptance_is v None known none = ap (λ (o : Option (ℕ × ℕ)). option_map {U = ℕ × ℕ} (λ a. (v, a.1)) o) (sym (none_accepted v known none))
-  acceptance_is v (Some k) known (other, first) = ap (λ (o : Option (ℕ × ℕ)). option_map {U = ℕ × ℕ} (λ a. (v, a.1)) o) (sym ((accepted_as v k known other).0 first))
+  acceptance_is v (Some k) known (other, first) = ap (λ (o : Option (ℕ × ℕ)). option_map {U = ℕ × ℕ} (λ a. (v, a.1)) o)
+      (sym ((accepted_as v k known other).0 first))
 
-  pub accepts_read_off : (step : ℕ → Option ℕ) → ((v : ℕ) → knows f.nodes v ≡ true → IsAcceptance f air v (step v)) → accepting step (ids f.nodes) ≡ filter_map (acceptance s) s.everyone
-  accepts_read_off step read = filter_same (λ v. option_map {U = ℕ × ℕ} (λ k. (v, k)) (step v)) (acceptance s) (ids f.nodes) (λ v there. let known = known_of f.nodes v there in acceptance_is v (step v) known (read v known))
+  pub accepts_read_off : (step : ℕ → Option ℕ) → ((v : ℕ) → knows f.nodes v ≡ true → IsAcceptance f air v (step v))
+      → accepting step (ids f.nodes) ≡ filter_map (acceptance s) s.everyone
+  accepts_read_off step read = filter_same (λ v. option_map {U = ℕ × ℕ} (λ k. (v, k)) (step v)) (acceptance s) (ids f.nodes)
+      (λ v there. let known = known_of f.nodes v there in acceptance_is v (step v) known (read v known))
 
   pub count_read_off : length (sendings_of air) ≡ sendings s
   count_read_off =

@@ -1,5 +1,6 @@
 -- A log that is read entry by entry.
-use Rattle.std.proofs.Common.{◌≡◌, ℕ, zero, suc, ◌+◌, ◌<◌, ◌≤◌, List, [], ◌∷◌, ◌++◌, Bool, true, false, if◌then◌else◌, nat_le, ◌==◌, inl, inr, Option, Some, None, option_map, is_some, filter_map, refl, sym, ◌∙◌, ap, subst, arith, length, take, get_or, set, replicate, count_by, All}
+use Rattle.std.proofs.Common.{◌≡◌, ℕ, zero, suc, ◌+◌, ◌<◌, ◌≤◌, List, [], ◌∷◌, ◌++◌, Bool, true, false, if◌then◌else◌, nat_le, ◌==◌, inl, inr, Option, Some}
+use Rattle.std.proofs.Common.{None, option_map, is_some, filter_map, refl, sym, ◌∙◌, ap, subst, arith, length, take, get_or, set, replicate, count_by, All}
 use Rattle.std.specs.Prelude.{Contains, ◌≢◌, slice_get, option_and_then}
 use Rattle.std.proofs.lemmas.Bool.{leb-true, leb-false, eqb-true, eqb-false}
 use Rattle.std.proofs.lemmas.List.{take_more, append-nil, get_or-set_same, get_or-set_other, length-append, length-set, map_more, length-replicate}
@@ -40,13 +41,17 @@ counted_by (Sent s) = refl
 counted_by (Heard h) = refl
 counted_by (Tuned t) = refl
 
-pub counted_more : (air : List Entry) (i n : ℕ) (b : Bool) → i < length air → n ≡ length (sendings_of (take i air)) → b ≡ is_some (option_and_then sending_in (slice_get air i))
+pub counted_more : (air : List Entry) (i n : ℕ) (b : Bool) → i < length air → n ≡ length (sendings_of (take i air))
+    → b ≡ is_some (option_and_then sending_in (slice_get air i))
     → n + one_if b ≡ length (sendings_of (take (i + 1) air))
 counted_more air i n b within count at =
     let e = entry_at air i within in
-    let all : sendings_of (take (i + 1) air) ≡ sendings_of (take i air) ++ sendings_of (e.0 ∷ []) = ap sendings_of e.2 ∙ filter_map-append sending_in (take i air) (e.0 ∷ []) in
-    let long : length (sendings_of (take (i + 1) air)) ≡ length (sendings_of (take i air)) + length (sendings_of (e.0 ∷ [])) = ap length all ∙ length-append (sendings_of (take i air)) (sendings_of (e.0 ∷ [])) in
-    let here : one_if b ≡ length (sendings_of (e.0 ∷ [])) = ap one_if (at ∙ ap (λ (o : Option Entry). is_some (option_and_then sending_in o)) e.1) ∙ sym (counted_by e.0) in
+    let all : sendings_of (take (i + 1) air) ≡ sendings_of (take i air) ++ sendings_of (e.0 ∷ []) = ap sendings_of e.2
+    ∙ filter_map-append sending_in (take i air) (e.0 ∷ []) in
+    let long : length (sendings_of (take (i + 1) air)) ≡ length (sendings_of (take i air)) + length (sendings_of (e.0 ∷ [])) = ap length all
+    ∙ length-append (sendings_of (take i air)) (sendings_of (e.0 ∷ [])) in
+    let here : one_if b ≡ length (sendings_of (e.0 ∷ [])) = ap one_if (at ∙ ap (λ (o : Option Entry). is_some (option_and_then sending_in o)) e.1)
+    ∙ sym (counted_by e.0) in
     omega (arith, long, here, count)
 
 -- hearings of v
@@ -55,7 +60,10 @@ module _ (hs : List Hearing) (h : Hearing) (v : ℕ) where
   other_added other = by_cases
     where
       still : (x : Sending) → Contains (hs ++ h ∷ []) (record { node = v; sending = x }) → Contains hs (record { node = v; sending = x })
-      still x there = elim (Contains-push_cases hs h (record { node = v; sending = x }) there) [ inl old ↦ old | inr is ↦ absurd (other (ap (λ (g : Hearing). g.node) is)) ]
+      still x there = elim (Contains-push_cases hs h (record { node = v; sending = x }) there) [
+        | inl old ↦ old
+        | inr is ↦ absurd (other (ap (λ (g : Hearing). g.node) is))
+      ]
 
       by_cases : (o : Option FirstHearing) → IsFirst hs v o → IsFirst (hs ++ h ∷ []) v o
       by_cases None none = λ x there. none x (still x there)
@@ -85,7 +93,8 @@ module _ (hs : List Hearing) (h : Hearing) (v : ℕ) where
         ];
       }
 
-      by_test : (g : FirstHearing) → EndsFirst hs v g → (b : Bool) → nat_le g.end h.sending.end ≡ b → EndsFirst (hs ++ h ∷ []) v (if b then g else (kept_of h).1)
+      by_test : (g : FirstHearing) → EndsFirst hs v g → (b : Bool) → nat_le g.end h.sending.end ≡ b
+          → EndsFirst (hs ++ h ∷ []) v (if b then g else (kept_of h).1)
       by_test g is true at =
           let early : g.end ≤ h.sending.end = leb-true g.end h.sending.end at in
           let own_end = is.end in
@@ -119,17 +128,21 @@ added hs firsts h long small are v = by_test (h.node == v) refl
     by_test : (b : Bool) → (h.node == v) ≡ b → IsFirst (hs ++ h ∷ []) v (get_or (with_earlier firsts (Some (kept_of h))) v None)
     by_test true at =
         let own : h.node ≡ v = eqb-true h.node v at in
-        let here : get_or (set firsts h.node kept) v None ≡ kept = ap (λ (w : ℕ). get_or (set firsts h.node kept) w None) (sym own) ∙ get_or-set_same firsts h.node kept None (omega (arith, long, small)) in
+        let here : get_or (set firsts h.node kept) v None ≡ kept = ap (λ (w : ℕ). get_or (set firsts h.node kept) w None) (sym own)
+        ∙ get_or-set_same firsts h.node kept None (omega (arith, long, small)) in
         let is = own_added hs h v own (get_or firsts v None) (are v) in
-        subst (λ (o : Option FirstHearing). IsFirst (hs ++ h ∷ []) v o) (ap (λ (w : ℕ). Some (earlier (get_or firsts w None) (kept_of h).1)) (sym own) ∙ sym here) is
+        subst (λ (o : Option FirstHearing). IsFirst (hs ++ h ∷ []) v o)
+        (ap (λ (w : ℕ). Some (earlier (get_or firsts w None) (kept_of h).1)) (sym own) ∙ sym here) is
     by_test false at =
         let other : h.node ≢ v = eqb-false h.node v at in
         let here : get_or (set firsts h.node kept) v None ≡ get_or firsts v None = get_or-set_other firsts h.node v kept None (λ same. other (sym same)) in
         subst (λ (o : Option FirstHearing). IsFirst (hs ++ h ∷ []) v o) (sym here) (other_added hs h v other (get_or firsts v None) (are v))
 
 -- an entry more
-entry_added : (hs : List Hearing) (firsts : List (Option FirstHearing)) (o : Option Hearing) → length firsts ≡ 201 → ((h : ℕ × FirstHearing) → option_map kept_of o ≡ Some h → h.0 ≤ 200)
-    → ((v : ℕ) → IsFirst hs v (get_or firsts v None)) → (v : ℕ) → IsFirst (hs ++ cons_option o []) v (get_or (with_earlier firsts (option_map kept_of o)) v None)
+entry_added : (hs : List Hearing) (firsts : List (Option FirstHearing)) (o : Option Hearing) → length firsts ≡ 201
+    → ((h : ℕ × FirstHearing) → option_map kept_of o ≡ Some h → h.0 ≤ 200)
+    → ((v : ℕ) → IsFirst hs v (get_or firsts v None)) → (v : ℕ)
+    → IsFirst (hs ++ cons_option o []) v (get_or (with_earlier firsts (option_map kept_of o)) v None)
 entry_added hs firsts None long small are v = subst (λ (l : List Hearing). IsFirst l v (get_or firsts v None)) (sym (append-nil hs)) (are v)
 entry_added hs firsts (Some h) long small are v = added hs firsts h long (small (kept_of h) refl) are v
 
@@ -137,7 +150,8 @@ long_still : (firsts : List (Option FirstHearing)) (o : Option (ℕ × FirstHear
 long_still firsts None = refl
 long_still firsts (Some h) = length-set firsts h.0 (Some (earlier (get_or firsts h.0 None) h.1))
 
-pub firsts_more : (air : List Entry) (i : ℕ) (firsts : List (Option FirstHearing)) (o : Option (ℕ × FirstHearing)) → i < length air → AreFirst (take i air) firsts
+pub firsts_more : (air : List Entry) (i : ℕ) (firsts : List (Option FirstHearing)) (o : Option (ℕ × FirstHearing)) → i < length air
+    → AreFirst (take i air) firsts
     → o ≡ option_and_then hearing_of (slice_get air i) → ((h : ℕ × FirstHearing) → o ≡ Some h → h.0 ≤ 200)
     → AreFirst (take (i + 1) air) (with_earlier firsts o)
 firsts_more air i firsts o within are at small =
@@ -168,19 +182,25 @@ none_first = record {
     none = None
 
 -- the nodes that accept, with one node more
-pub accepting_more : (step : ℕ → Option ℕ) (nodes : List NodeLine) (i : ℕ) (line : NodeLine) (items : List (ℕ × ℕ)) → i < length nodes → line ≡ get_or nodes i line
-    → items ≡ accepting step (ids (take i nodes)) → items ++ cons_option (option_map {U = ℕ × ℕ} (λ k. (line.node, k)) (step line.node)) [] ≡ accepting step (ids (take (i + 1) nodes))
+pub accepting_more : (step : ℕ → Option ℕ) (nodes : List NodeLine) (i : ℕ) (line : NodeLine) (items : List (ℕ × ℕ)) → i < length nodes
+    → line ≡ get_or nodes i line
+    → items ≡ accepting step (ids (take i nodes)) → items ++ cons_option
+    (option_map {U = ℕ × ℕ} (λ k. (line.node, k)) (step line.node)) [] ≡ accepting step (ids (take (i + 1) nodes))
 accepting_more step nodes i line items below at is =
     let node : NodeLine → ℕ = λ n. n.node in
     let h : ℕ → Option (ℕ × ℕ) = λ v. option_map {U = ℕ × ℕ} (λ k. (v, k)) (step v) in
-    let more : ids (take (i + 1) nodes) ≡ ids (take i nodes) ++ line.node ∷ [] = map_more node nodes i line below ∙ ap (λ (n : NodeLine). ids (take i nodes) ++ n.node ∷ []) (sym at) in
-    ap (λ (l : List (ℕ × ℕ)). l ++ cons_option (h line.node) []) is ∙ sym (ap (λ (l : List ℕ). filter_map h l) more ∙ filter_map-append h (ids (take i nodes)) (line.node ∷ []))
+    let more : ids (take (i + 1) nodes) ≡ ids (take i nodes) ++ line.node ∷ [] = map_more node nodes i line below
+    ∙ ap (λ (n : NodeLine). ids (take i nodes) ++ n.node ∷ []) (sym at) in
+    ap (λ (l : List (ℕ × ℕ)). l ++ cons_option (h line.node) []) is
+    ∙ sym (ap (λ (l : List ℕ). filter_map h l) more ∙ filter_map-append h (ids (take i nodes)) (line.node ∷ []))
 
 -- what is kept of the whole log is what is asked
-pub step_is : (f : FloodParts) (air : List Entry) (firsts : List (Option FirstHearing)) → AreFirst air firsts → (v : ℕ) → IsAcceptance f air v (step_of f.start firsts v)
+pub step_is : (f : FloodParts) (air : List Entry) (firsts : List (Option FirstHearing)) → AreFirst air firsts → (v : ℕ)
+    → IsAcceptance f air v (step_of f.start firsts v)
 step_is f air firsts are v = by_test (v == f.start) refl (get_or firsts v None) (are.each v)
   where
-    by_test : (b : Bool) → (v == f.start) ≡ b → (o : Option FirstHearing) → IsFirst (hearings_of air) v o → IsAcceptance f air v (if b then None else option_map (λ g. g.counter) o)
+    by_test : (b : Bool) → (v == f.start) ≡ b → (o : Option FirstHearing) → IsFirst (hearings_of air) v o
+        → IsAcceptance f air v (if b then None else option_map (λ g. g.counter) o)
     by_test true at o is = inl (eqb-true v f.start at)
     by_test false at None is = inr is
     by_test false at (Some g) is = (eqb-false v f.start at, record { sending = is.sending; there = is.there; counter = is.counter; first = is.first })
@@ -188,6 +208,7 @@ step_is f air firsts are v = by_test (v == f.start) refl (get_or firsts v None) 
 -- a flood has few sendings
 pub few_sendings : (s : Setting) → length s.everyone ≤ 64 → sendings s ≤ 768
 few_sendings s few =
-    let each : All (λ v. count_by (λ k. is_some ((moment s k).sends v)) steps ≤ 12) s.everyone = λ k d less. count_by-le-length (λ i. is_some ((moment s i).sends (get_or s.everyone k d))) steps in
+    let each : All (λ v. count_by (λ k. is_some ((moment s k).sends v)) steps ≤ 12) s.everyone = λ k d less. count_by-le-length
+    (λ i. is_some ((moment s i).sends (get_or s.everyone k d))) steps in
     let all = sum_by-le (λ v. count_by (λ k. is_some ((moment s k).sends v)) steps) 12 s.everyone each in
     omega (arith, all)

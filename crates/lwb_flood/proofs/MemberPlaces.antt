@@ -23,9 +23,11 @@ apart ms ascend i j d left right same =
     ]
 
 -- a change of the node at a place
-pub set_is_change : (f : Member → Member) (ms : List Member) → Ascend ms → (v i : ℕ) (old new : Member) → i < length ms → old ≡ get_or ms i old → ((d : Member) → (get_or ms i d).node ≡ v) → new ≡ f old → set ms i new ≡ with_change v f ms
+pub set_is_change : (f : Member → Member) (ms : List Member) → Ascend ms → (v i : ℕ) (old new : Member) → i < length ms → old ≡ get_or ms i old
+    → ((d : Member) → (get_or ms i d).node ≡ v) → new ≡ f old → set ms i new ≡ with_change v f ms
 set_is_change f ms ascend v i old new below at is change =
-    same_lists (set ms i new) (with_change v f ms) (length-set ms i new ∙ sym (length-map ms (changed_at v f))) (λ k d within. each k d (omega (arith, length-set ms i new)))
+    same_lists (set ms i new) (with_change v f ms) (length-set ms i new ∙ sym (length-map ms (changed_at v f)))
+    (λ k d within. each k d (omega (arith, length-set ms i new)))
   where
     of_old : old.node ≡ v
     of_old = ap node_of at ∙ is old
@@ -40,7 +42,8 @@ set_is_change f ms ascend v i old new below at is change =
               ∙ sym (get_or-map (changed_at v f) ms i old d below) ∙ ap (λ (n : ℕ). get_or (with_change v f ms) n d) (sym here)
           | inr there ↦
               get_or-set_other ms i k new d there
-              ∙ sym (cond-false ((get_or ms k d).node == v) (f (get_or ms k d)) (get_or ms k d) (ne_eqb (get_or ms k d).node v (λ e. there (apart ms ascend k i d within below (e ∙ sym (is d))))))
+              ∙ sym (cond-false ((get_or ms k d).node == v) (f (get_or ms k d)) (get_or ms k d)
+              (ne_eqb (get_or ms k d).node v (λ e. there (apart ms ascend k i d within below (e ∙ sym (is d))))))
               ∙ sym (get_or-map (changed_at v f) ms k d d within)
         ]
 

@@ -1,5 +1,6 @@
 -- The node that is the next to do something.
-use Rattle.std.proofs.Common.{◌≡◌, ◌<◌, ◌+◌, ℕ, zero, suc, List, [], ◌∷◌, length, get_or, Bool, true, false, not, ◌&&◌, ◌||◌, ◌==◌, nat_lt, Option, Some, None, inl, inr, refl, sym, ◌∙◌, ap, subst, arith}
+use Rattle.std.proofs.Common.{◌≡◌, ◌<◌, ◌+◌, ℕ, zero, suc, List, [], ◌∷◌, length, get_or, Bool, true, false, not, ◌&&◌, ◌||◌, ◌==◌, nat_lt, Option, Some, None}
+use Rattle.std.proofs.Common.{inl, inr, refl, sym, ◌∙◌, ap, subst, arith}
 use Rattle.std.specs.Prelude.{IfSome}
 use Rattle.std.proofs.lemmas.Bool.{cases_lt, cond_both, or_cases, and_parts, ltb-true, eqb-true, ltb-false, eq-eqb}
 use Rattle.lwb_flood.specs.declared.member.Member.{Member}
@@ -64,22 +65,30 @@ at_last ms i P m at last all k d less =
       | inr not ↦ let same : i ≡ k = omega arith in subst P (sym (at d) ∙ ap (λ (n : ℕ). moment_of (get_or ms n d).act) same) last
     ]
 
-pub first_more : (ms : List Member) (i : ℕ) (next : Option (ℕ × ℕ × Bool)) (m : Option (ℕ × Bool)) → ((d : Member) → moment_of (get_or ms i d).act ≡ m) → IsFirst ms i next → IsFirst ms (i + 1) (sooner next i m)
+pub first_more : (ms : List Member) (i : ℕ) (next : Option (ℕ × ℕ × Bool)) (m : Option (ℕ × Bool)) → ((d : Member) → moment_of (get_or ms i d).act ≡ m)
+    → IsFirst ms i next → IsFirst ms (i + 1) (sooner next i m)
 first_more ms i None None at is = at_last ms i (λ (o : Option (ℕ × Bool)). o ≡ None) None at refl is
 first_more ms i (Some n) None at is = (omega (arith, is.0), is.1, at_last ms i (λ (o : Option (ℕ × Bool)). IfSome o (NotAfter (n.1, n.2))) None at tt is.2)
 first_more ms i None (Some m) at is = (
   omega arith,
   at,
-  at_last ms i (λ (o : Option (ℕ × Bool)). IfSome o (NotAfter m)) (Some m) at (not_after_self m) (λ k d less. subst (λ (o : Option (ℕ × Bool)). IfSome o (NotAfter m)) (sym (is k d less)) tt),
+  at_last ms i (λ (o : Option (ℕ × Bool)). IfSome o (NotAfter m)) (Some m) at (not_after_self m)
+      (λ k d less. subst (λ (o : Option (ℕ × Bool)). IfSome o (NotAfter m)) (sym (is k d less)) tt),
 )
 first_more ms i (Some n) (Some m) at is =
     cond_both (comes_before m (n.1, n.2)) (Some (i, m.0, m.1)) (Some n) (IsFirst ms (i + 1))
     (λ before. (
       omega arith,
       at,
-      at_last ms i (λ (o : Option (ℕ × Bool)). IfSome o (NotAfter m)) (Some m) at (not_after_self m) (λ k d less. later (moment_of (get_or ms k d).act) (before_not_after m (n.1, n.2) before) (is.2 k d less)),
+      at_last ms i (λ (o : Option (ℕ × Bool)). IfSome o (NotAfter m)) (Some m) at (not_after_self m)
+          (λ k d less. later (moment_of (get_or ms k d).act) (before_not_after m (n.1, n.2) before) (is.2 k d less)),
     ))
-    (λ not. (omega (arith, is.0), is.1, at_last ms i (λ (o : Option (ℕ × Bool)). IfSome o (NotAfter (n.1, n.2))) (Some m) at (not_before_after m (n.1, n.2) not) is.2))
+    (λ not. (
+      omega (arith, is.0),
+      is.1,
+      at_last ms i (λ (o : Option (ℕ × Bool)). IfSome o (NotAfter (n.1, n.2))) (Some m) at
+          (not_before_after m (n.1, n.2) not) is.2,
+    ))
   where
     later : (o : Option (ℕ × Bool)) → NotAfter m (n.1, n.2) → IfSome o (NotAfter (n.1, n.2)) → IfSome o (NotAfter m)
     later None before all = tt
@@ -93,11 +102,15 @@ same_at [] k d e below = absurd (omega arith)
 same_at (m ∷ ms) zero d e below = refl
 same_at (m ∷ ms) (suc k) d e below = same_at ms k d e (omega arith)
 
-pub first_with : (ms : List Member) (i : ℕ) (m : Member) (next result : Option (ℕ × ℕ × Bool)) → i < length ms → m ≡ get_or ms i m → IsFirst ms i next → result ≡ sooner next i (moment_of m.act) → IsFirst ms (i + 1) result
+pub first_with : (ms : List Member) (i : ℕ) (m : Member) (next result : Option (ℕ × ℕ × Bool)) → i < length ms → m ≡ get_or ms i m → IsFirst ms i next
+    → result ≡ sooner next i (moment_of m.act) → IsFirst ms (i + 1) result
 first_with ms i m next result below at is same =
-    subst (IsFirst ms (i + 1)) (sym same) (first_more ms i next (moment_of m.act) (λ d. ap (λ (n : Member). moment_of n.act) (same_at ms i d m below ∙ sym at)) is)
+    subst (IsFirst ms (i + 1)) (sym same)
+    (first_more ms i next (moment_of m.act) (λ d. ap (λ (n : Member). moment_of n.act) (same_at ms i d m below ∙ sym at)) is)
 
-pub next_is : (ms ys : List Member) (i : ℕ) (next : Option (ℕ × ℕ × Bool)) (n : ℕ × ℕ × Bool) → ys ≡ ms → i ≡ length ys → IsFirst ys i next → next ≡ Some n → (n.0 < length ms) × ((d : Member) → IsNext ms (get_or ms n.0 d))
+pub next_is : (ms ys : List Member) (i : ℕ) (next : Option (ℕ × ℕ × Bool)) (n : ℕ × ℕ × Bool) → ys ≡ ms → i ≡ length ys → IsFirst ys i next
+    → next ≡ Some n → (n.0 < length ms) × ((d : Member) → IsNext ms (get_or ms n.0 d))
 next_is ms ys i next n same end first at =
-    let is : IsFirst ms (length ms) (Some n) = subst (λ (o : Option (ℕ × ℕ × Bool)). IsFirst ms (length ms) o) at (subst (λ (l : List Member). IsFirst l (length l) next) same (subst (λ (k : ℕ). IsFirst ys k next) end first)) in
+    let is : IsFirst ms (length ms) (Some n) = subst (λ (o : Option (ℕ × ℕ × Bool)). IsFirst ms (length ms) o) at
+    (subst (λ (l : List Member). IsFirst l (length l) next) same (subst (λ (k : ℕ). IsFirst ys k next) end first)) in
     (is.0, is_next ms n is)

@@ -1,59 +1,26 @@
 -- The next step of each node.
-use Rattle.std.proofs.Common.{◌≡◌, ℕ, suc, ◌+◌, ◌<◌, ◌≤◌, List, [], ◌∷◌, ◌++◌, Bool, true, false, not, ◌&&◌, ◌||◌, if◌then◌else◌, inl, inr, Option, Some, None, is_some, refl, sym, ◌∙◌, ap, subst, arith, nat_lt, ◌==◌, append_assoc}
+use Rattle.std.proofs.Common.{◌≡◌, ℕ, suc, ◌+◌, ◌<◌, ◌≤◌, List, [], ◌∷◌, ◌++◌, Bool, true, false, if◌then◌else◌, inl, inr, Option, Some, None, is_some, refl}
+use Rattle.std.proofs.Common.{sym, ◌∙◌, ap, subst, arith, nat_lt, append_assoc}
 use Rattle.std.specs.Prelude.{Contains, slice_index, slice_set}
-use Rattle.std.proofs.lemmas.Bool.{cases_lt, and_parts, or_cases, not-true, lt-ltb, ltb-true, eqb-true, cond-true, both_ways}
+use Rattle.std.proofs.lemmas.Bool.{cases_lt, lt-ltb, ltb-true, cond-true}
 use Rattle.std.proofs.lemmas.List.{set-set}
-use Rattle.std.proofs.lemmas.List.Elements.{Contains-append_cases, Contains-append_right}
+use Rattle.std.proofs.lemmas.List.Elements.{Contains-append_cases}
 use Rattle.glossy_relay.specs.FloodState.{FloodState}
-use Rattle.glossy_relay.specs.Relaying.{fits, reply_to, counter_of, after_heard, after_sent}
-use Rattle.glossy_relay.specs.declared.flood.Reply.TheVariants.{Relay}
-use Rattle.bus_model.specs.Flooding.{Setting, Moment, has, pick, agrees, may_hear, hears, first_heard, next, STEPS}
+use Rattle.glossy_relay.specs.Relaying.{fits, after_heard, after_sent}
+use Rattle.bus_model.specs.Flooding.{Setting, Moment, has, hears, first_heard, next, STEPS}
 use Rattle.radio_model.specs.declared.sending.Sending.{Sending}
-use Rattle.air_log.specs.NodeEvents.{Event, Heard, Ended, sending_of, after, after_all, Occasion, occasions, InOrder}
+use Rattle.air_log.specs.NodeEvents.{Event, Heard, Ended, sending_of, after, InOrder}
 use Rattle.lwb_flood.specs.FloodRun.{counter, Run, FloodRun, sending_at, initiates, takes_part, packet, begins, HearsIn}
 use Rattle.air_log.proofs.Elements.{not_in_none, contains_head, contains_tail, contains_cases}
-use Rattle.bus_model.proofs.Options.{inspect, some_injective, heard_parts, sends_parts, none_is, not_both}
+use Rattle.bus_model.proofs.Options.{inspect, sends_parts, not_both}
 use Rattle.glossy_relay.proofs.CountedPackets.{counter_set, relayed_parts, fitting_long}
-use Rattle.lwb_flood.proofs.SendingTimes.{counter_is, same_origin, over, meets, event_sent, occasion_event, same_sending}
-use Rattle.lwb_flood.proofs.EventOrder.{after_all_append, occasions_append, in_order_rest, order_head, occasion_of}
+use Rattle.lwb_flood.proofs.EventOrder.{after_all_append, order_head}
+use Rattle.lwb_flood.proofs.SendingTimes.{counter_is, same_origin, occasion_event, same_sending}
 use Rattle.lwb_flood.proofs.Stations.{of_parts, spell, station, quiet_state, ended_state, heard_state}
-use Rattle.lwb_flood.proofs.StepHearings.{heard_by_rule, SentIn, Turn, IsAt, origin_at, counter_sent, rival, silent_in, picked, few_sent, begun_of, hearing_from, fits_is, wanted}
-
--- what hearing in this step says
-pub record HearsParts (r : Run) (k v o : ℕ) (m : Moment) : Type 0 where
-  pub here : takes_part r v
-  pub quiet : m.sends v ≡ None
-  pub few : m.times v < r.setting.limit
-  pub picked : pick r.setting m k v ≡ Some o
-  pub own : initiates r v → v ≡ o
-
-pub parts_of : (r : Run) (k v o : ℕ) (m : Moment) → hears r.setting m k v ≡ Some o → HearsParts r k v o m
-parts_of r k v o m is =
-    let s = r.setting in
-    let p = heard_parts (may_hear s m v) (λ i. (not (has s.initiators v) || (v == i)) && agrees (m.heard v) i) (pick s m k v) o is in
-    let may = and_parts _ _ p.0 in
-    let free = and_parts _ _ may.0 in
-    let want = and_parts (not (has s.initiators v) || (v == o)) (agrees (m.heard v) o) p.2 in
-    record {
-      here = free.0;
-      quiet = none_is (m.sends v) free.1;
-      few = ltb-true (m.times v) s.limit may.1;
-      picked = p.1;
-      own = λ begun. elim (or_cases _ _ want.0) [ inl no_one ↦ absurd (both_ways (has s.initiators v) (not-true _ no_one) begun) | inr same ↦ eqb-true v o same ];
-    }
-
-hears_from : (s : Setting) (m : Moment) (k v o : ℕ) (b : Bool) → has s.everyone v ≡ true → m.sends v ≡ None → m.times v < s.limit → pick s m k v ≡ Some o → ((not (has s.initiators v) || (v == o)) && agrees (m.heard v) o) ≡ b
-    → hears s m k v ≡ (if b then Some o else None)
-hears_from s m k v o b here quiet less is want = rw (here, quiet, lt-ltb (m.times v) s.limit less, is, want) refl
-
-relay_of : (w : FloodState) (p : List ℕ) → fits w p ≡ true → counter_of p < 11 → reply_to w p ≡ Relay (slice_set p 2 (counter_of p + 1))
-relay_of w p fitting less = rw (fitting, lt-ltb (counter_of p) 11 less) refl
-
-relay_same : (p q : List ℕ) → Relay p ≡ Relay q → p ≡ q
-relay_same p q is = cc
-
-heard_same : (x y : Sending) → Heard x ≡ Heard y → x ≡ y
-heard_same x y is = ap sending_of is
+use Rattle.lwb_flood.proofs.StepHearings.{heard_by_rule, origin_at, counter_sent, silent_in, begun_of, hearing_from}
+use Rattle.lwb_flood.proofs.StepOccasions.{parts_of, relay_of, heard_once, event_once, no_later_step, current, occasion_now}
+use Rattle.lwb_flood.proofs.StepsOnAir.{SentIn, Turn, IsAt}
+use Rattle.lwb_flood.proofs.StepOccasions as StepOccasions
 
 module _ (r : Run) (Tuned : ℕ → Sending → Type 0) (f : FloodRun r Tuned) (k : ℕ) (few : k ≤ 11) (m : Moment) (at : IsAt r k m) where
   abbrev s : Setting
@@ -62,100 +29,21 @@ module _ (r : Run) (Tuned : ℕ → Sending → Type 0) (f : FloodRun r Tuned) (
   abbrev m' : Moment
   m' = next s k m
 
-  -- v hears by steps what it heard on the air, exactly where it fits
-  pub hears_is : (v o : ℕ) (x : Sending) → takes_part r v → HearsIn r Tuned v x → counter x ≡ k → initiates r o → x.packet ≡ packet r o k
+  abbrev hears_is : (v o : ℕ) (x : Sending) → takes_part r v → HearsIn r Tuned v x → counter x ≡ k → initiates r o → x.packet ≡ packet r o k
       → hears s m k v ≡ (if fits (station r m v) x.packet then Some o else None)
-  hears_is v o x here h step begun is =
-      let quiet = silent_in r Tuned f k few m at v x h step in
-      let less = few_sent r Tuned f k few m at v x here h step in
-      let got = picked r Tuned f k few m at v x o h step begun is in
-      let want : fits (station r m v) x.packet ≡ wanted r Tuned f k few m at v o = ap (λ (p : List ℕ). fits (station r m v) p) is ∙ fits_is r Tuned f k few m at v o begun quiet less in
-      hears_from s m k v o (fits (station r m v) x.packet) here quiet less got (sym want)
+  hears_is = StepOccasions.hears_is r Tuned f k few m at
 
-  -- a node has one event of a step at most
-  pub heard_once : (v : ℕ) (x y : Sending) → HearsIn r Tuned v x → HearsIn r Tuned v y → counter x ≡ k → counter y ≡ k → x ≡ y
-  heard_once v x y h g at_x at_y =
-      let p = origin_at r Tuned f k few m at x h.sent at_x in
-      let q = origin_at r Tuned f k few m at y g.sent at_y in
-      let same : p.0 ≡ q.0 = some_injective p.0 q.0 (sym (picked r Tuned f k few m at v x p.0 h at_x p.1 p.2) ∙ picked r Tuned f k few m at v y q.0 g at_y q.1 q.2) in
-      let packets : x.packet ≡ y.packet = p.2 ∙ ap (λ (i : ℕ). packet r i k) same ∙ sym q.2 in
-      let passes_x : s.passes k x.node v ≡ true = subst (λ (i : ℕ). s.passes i x.node v ≡ true) at_x h.passes in
-      let passes_y : s.passes k y.node v ≡ true = subst (λ (i : ℕ). s.passes i y.node v ≡ true) at_y g.passes in
-      let first = h.first y (rival r Tuned f k few m at v x y h.sent g.sent at_x at_y passes_y) (sym packets) in
-      let second = g.first x (rival r Tuned f k few m at v y x g.sent h.sent at_y at_x passes_x) packets in
-      let start : x.start ≡ y.start = omega arith in
-      let node : x.node ≡ y.node = omega arith in
-      same_sending r f.times x y h.sent g.sent node start packets
+  abbrev in_rest : (v : ℕ) (t : Turn r k v m) (e : Event) → Contains (r.events v) e → k ≤ counter (sending_of e) → Contains t.rest e
+  in_rest = StepOccasions.in_rest r Tuned f k few m at
 
-  never_both : (v : ℕ) (x y : Sending) → HearsIn r Tuned v x → Contains r.sendings y → y.node ≡ v → counter x ≡ k → counter y ≡ k → ⊥
-  never_both v x y h sent node at_x at_y = h.silent y sent node (meets r f.times x y h.sent sent (at_x ∙ sym at_y))
+  abbrev of_rest : (v : ℕ) (t : Turn r k v m) (e : Event) → Contains t.rest e → Contains (r.events v) e
+  of_rest = StepOccasions.of_rest r Tuned f k few m at
 
-  pub event_once : (v : ℕ) → takes_part r v → (d e : Event) → Contains (r.events v) d → Contains (r.events v) e → counter (sending_of d) ≡ k → counter (sending_of e) ≡ k → d ≡ e
-  event_once v here (Heard x) (Heard y) in_d in_e at_d at_e = ap (λ (z : Sending). Heard z) (heard_once v x y (heard_by_rule r Tuned f v x here in_d) (heard_by_rule r Tuned f v y here in_e) at_d at_e)
-  event_once v here (Heard x) (Ended y) in_d in_e at_d at_e = let z = (f.times.ended_events v y here).0 in_e in absurd (never_both v x y (heard_by_rule r Tuned f v x here in_d) z.0 z.1 at_d at_e)
-  event_once v here (Ended x) (Heard y) in_d in_e at_d at_e = let z = (f.times.ended_events v x here).0 in_d in absurd (never_both v y x (heard_by_rule r Tuned f v y here in_e) z.0 z.1 at_e at_d)
-  event_once v here (Ended x) (Ended y) in_d in_e at_d at_e =
-      let z = (f.times.ended_events v x here).0 in_d in
-      let w = (f.times.ended_events v y here).0 in_e in
-      ap (λ (i : Sending). Ended i) (at.once x y z.0 w.0 at_d at_e (z.1 ∙ sym w.1))
+  abbrev rest_in_order : (v : ℕ) → takes_part r v → (t : Turn r k v m) → InOrder t.rest
+  rest_in_order = StepOccasions.rest_in_order r Tuned f k few m at
 
-  in_rest : (v : ℕ) (t : Turn r k v m) (e : Event) → Contains (r.events v) e → k ≤ counter (sending_of e) → Contains t.rest e
-  in_rest v t e there more =
-      elim (Contains-append_cases t.before t.rest e (subst (λ (l : List Event). Contains l e) t.whole there)) [
-        | inl old ↦ (let less = t.earlier e old in absurd (omega arith))
-        | inr is ↦ is
-      ]
-
-  of_rest : (v : ℕ) (t : Turn r k v m) (e : Event) → Contains t.rest e → Contains (r.events v) e
-  of_rest v t e there = subst (λ (l : List Event). Contains l e) (sym t.whole) (Contains-append_right t.before t.rest e there)
-
-  rest_in_order : (v : ℕ) → takes_part r v → (t : Turn r k v m) → InOrder t.rest
-  rest_in_order v here t = in_order_rest t.before t.rest (subst (λ (l : List Event). InOrder l) t.whole (f.times.in_order v here))
-
-  -- an event that ends no later is of no later step
-  no_later_step : (v : ℕ) → takes_part r v → (d e : Event) → Contains (r.events v) d → Contains (r.events v) e → (sending_of d).end ≤ (sending_of e).end → counter (sending_of d) ≤ counter (sending_of e)
-  no_later_step v here d e in_d in_e order =
-      elim (cases_lt (counter (sending_of e)) (counter (sending_of d))) [
-        | inl less ↦
-            (let ends = f.times.lasts (sending_of d) (event_sent r f.times v d here in_d) in
-            absurd (omega (arith, over r f.times (sending_of e) (sending_of d) (event_sent r f.times v e here in_e) (event_sent r f.times v d here in_d) less, ends.1)))
-        | inr is ↦ is
-      ]
-
-  -- the occasion of this step comes first
-  current_in : (v : ℕ) → takes_part r v → (w : FloodState) (rest : List Event) → ((e : Event) → Contains rest e → Contains (r.events v) e) → ((e : Event) → Contains rest e → k ≤ counter (sending_of e)) → InOrder rest
-      → (c : Occasion) → Contains (occasions w rest) c → counter (sending_of c.event) ≡ k → c.before ≡ w
-  current_in v here w [] real later ordered c there step = absurd (not_in_none c there)
-  current_in v here w (e ∷ es) real later ordered c there step =
-      elim (contains_cases (record { before = w; event = e }) (occasions (after w e) es) c there) [
-        | inl is ↦ ap (λ (o : Occasion). o.before) (sym is)
-        | inr after_it ↦
-            (let in_es : Contains es c.event = occasion_event (after w e) es c after_it in
-            let order = order_head e es ordered c.event in_es in
-            let in_c = real c.event (contains_tail e es c.event in_es) in
-            let in_e = real e (contains_head e es) in
-            let below = no_later_step v here e c.event in_e in_c order.0 in
-            let above = later e (contains_head e es) in
-            absurd (order.1 (event_once v here e c.event in_e in_c (omega arith) step)))
-      ]
-
-  pub current : (v : ℕ) → takes_part r v → (c : Occasion) → Contains (occasions (begins r v) (r.events v)) c → counter (sending_of c.event) ≡ k → c.before ≡ station r m v
-  current v here c there step =
-      let t = at.turns v here in
-      elim (Contains-append_cases (occasions (begins r v) t.before) (occasions (after_all (begins r v) t.before) t.rest) c
-      (subst (λ (l : List Occasion). Contains l c) (ap (λ (l : List Event). occasions (begins r v) l) t.whole ∙ occasions_append (begins r v) t.before t.rest) there)) [
-        | inl old ↦ (let less = t.earlier c.event (occasion_event (begins r v) t.before c old) in absurd (omega arith))
-        | inr now ↦ current_in v here (after_all (begins r v) t.before) t.rest (of_rest v t) t.later (rest_in_order v here t) c now step ∙ t.state
-      ]
-
-  -- each hearing of this step has its occasion now
-  pub occasion_now : (v : ℕ) (x : Sending) → takes_part r v → Contains (r.events v) (Heard x) → counter x ≡ k → Contains (occasions (begins r v) (r.events v)) (record { before = station r m v; event = Heard x })
-  occasion_now v x here there step =
-      let o = occasion_of (begins r v) (r.events v) (Heard x) there in
-      subst (λ (w : FloodState). Contains (occasions (begins r v) (r.events v)) (record { before = w; event = Heard x })) (current v here (record { before = o.0; event = Heard x }) o.1 step) o.1
-
-  pub heard_event : (v : ℕ) (x : Sending) → takes_part r v → HearsIn r Tuned v x → Contains (r.events v) (Heard x)
-  heard_event v x here h = (f.times.heard_events v x here).1 ((f.hears v x here).1 h)
+  abbrev heard_event : (v : ℕ) (x : Sending) → takes_part r v → HearsIn r Tuned v x → Contains (r.events v) (Heard x)
+  heard_event = StepOccasions.heard_event r Tuned f k few m at
 
   -- nothing happens at v in this step
   quiet_sends : (v : ℕ) → takes_part r v → (t : Turn r k v m) → ((e : Event) → Contains t.rest e → k < counter (sending_of e)) → m.sends v ≡ None
@@ -188,7 +76,8 @@ module _ (r : Run) (Tuned : ℕ → Sending → Type 0) (f : FloodRun r Tuned) (
       ]
 
   abbrev then_at : ℕ → Option ℕ → Option ℕ → FloodState
-  then_at v sends heard = of_parts r.kind s.limit r.slot (has s.initiators v) (r.message v) (spell r) (m.times v + (if is_some sends then 1 else 0)) (if nat_lt (k + 1) STEPS then heard else None) (first_heard (m.heard v) k heard)
+  then_at v sends heard = of_parts r.kind s.limit r.slot (has s.initiators v) (r.message v) (spell r) (m.times v + (if is_some sends then 1 else 0))
+      (if nat_lt (k + 1) STEPS then heard else None) (first_heard (m.heard v) k heard)
 
   abbrev now_at : ℕ → Option ℕ → FloodState
   now_at v sends = of_parts r.kind s.limit r.slot (has s.initiators v) (r.message v) (spell r) (m.times v) sends (m.heard v)
@@ -216,7 +105,8 @@ module _ (r : Run) (Tuned : ℕ → Sending → Type 0) (f : FloodRun r Tuned) (
       ∙ ap (λ (w : Option ℕ). then_at v w (if fits (station r m v) x.packet then Some o.0 else None)) (sym quiet) ∙ ap (then_at v (m.sends v)) (sym got)
 
   -- the events from the next step on
-  next_after : (v : ℕ) → takes_part r v → (t : Turn r k v m) (e : Event) (es : List Event) → t.rest ≡ e ∷ es → counter (sending_of e) ≡ k → after (station r m v) e ≡ station r m' v → Turn r (suc k) v m'
+  next_after : (v : ℕ) → takes_part r v → (t : Turn r k v m) (e : Event) (es : List Event) → t.rest ≡ e ∷ es → counter (sending_of e) ≡ k
+      → after (station r m v) e ≡ station r m' v → Turn r (suc k) v m'
   next_after v here t e es is step becomes =
       let whole : r.events v ≡ (t.before ++ e ∷ []) ++ es = t.whole ∙ ap (λ (l : List Event). t.before ++ l) is ∙ sym (append_assoc t.before (e ∷ []) es) in
       let ordered = subst (λ (l : List Event). InOrder l) is (rest_in_order v here t) in
@@ -226,7 +116,10 @@ module _ (r : Run) (Tuned : ℕ → Sending → Type 0) (f : FloodRun r Tuned) (
         whole = whole;
         earlier = λ d there. elim (Contains-append_cases t.before (e ∷ []) d there) [
           | inl old ↦ (let less = t.earlier d old in omega arith)
-          | inr now ↦ elim (contains_cases e [] d now) [ inl same ↦ (let at_d : counter (sending_of d) ≡ k = ap (λ (i : Event). counter (sending_of i)) (sym same) ∙ step in omega arith) | inr none ↦ absurd (not_in_none d none) ]
+          | inr now ↦ elim (contains_cases e [] d now) [
+            | inl same ↦ (let at_d : counter (sending_of d) ≡ k = ap (λ (i : Event). counter (sending_of i)) (sym same) ∙ step in omega arith)
+            | inr none ↦ absurd (not_in_none d none)
+          ]
         ];
         later = λ d there. later_on ordered d there;
         state = after_all_append (begins r v) t.before (e ∷ []) ∙ ap (λ (w : FloodState). after w e) t.state ∙ becomes;
@@ -241,7 +134,8 @@ module _ (r : Run) (Tuned : ℕ → Sending → Type 0) (f : FloodRun r Tuned) (
           elim (cases_lt k (counter (sending_of d))) [
             | inl more ↦ more
             | inr less ↦ (let above = t.later d in_d in
-                absurd ((order_head e es ordered d there).1 (event_once v here e d (of_rest v t e (in_t e (contains_head e es))) (of_rest v t d in_d) step (omega arith))))
+                absurd ((order_head e es ordered d there).1
+                (event_once r Tuned f k few m at v here e d (of_rest v t e (in_t e (contains_head e es))) (of_rest v t d in_d) step (omega arith))))
           ]
 
   next_quiet : (v : ℕ) → takes_part r v → (t : Turn r k v m) → ((e : Event) → Contains t.rest e → k < counter (sending_of e)) → Turn r (suc k) v m'
@@ -282,11 +176,13 @@ module _ (r : Run) (Tuned : ℕ → Sending → Type 0) (f : FloodRun r Tuned) (
       all_more more d there =
           elim (contains_cases e es d there) [
             | inl same ↦ subst (λ (i : Event). k < counter (sending_of i)) same more
-            | inr later ↦ (let below = no_later_step v here e d (of_rest v t e (in_t e (contains_head e es))) (of_rest v t d (in_t d there)) (order_head e es ordered d later).0 in omega arith)
+            | inr later ↦ (let below = no_later_step r Tuned f k few m at v here e d (of_rest v t e (in_t e (contains_head e es)))
+                (of_rest v t d (in_t d there)) (order_head e es ordered d later).0 in omega arith)
           ]
 
   -- a sending of the next step, by its hearing
-  next_sending : (x : Sending) → Contains r.sendings x → counter x ≡ suc k → takes_part r x.node × ((y : Sending) × HearsIn r Tuned x.node y × (counter y ≡ k) × (fits (station r m x.node) y.packet ≡ true) × (k < 11)
+  next_sending : (x : Sending) → Contains r.sendings x → counter x ≡ suc k
+      → takes_part r x.node × ((y : Sending) × HearsIn r Tuned x.node y × (counter y ≡ k) × (fits (station r m x.node) y.packet ≡ true) × (k < 11)
       × (x.packet ≡ slice_set y.packet 2 (k + 1)) × (x.start ≡ r.relay_start x.node y.end))
   next_sending x sent step =
       let both = f.times.relays x sent (omega arith) in
@@ -295,11 +191,23 @@ module _ (r : Run) (Tuned : ℕ → Sending → Type 0) (f : FloodRun r Tuned) (
       let y = c.heard in
       let parts = relayed_parts c.flood y.packet x.packet c.answer in
       let there : Contains (r.events v) (Heard y) = occasion_event (begins r v) (r.events v) (record { before = c.flood; event = Heard y }) c.occasion in
-      let raised : counter x ≡ counter y + 1 = ap (λ (p : List ℕ). slice_index p 2) parts.2 ∙ counter_set y.packet (counter y + 1) (fitting_long c.flood y.packet parts.0) in
+      let raised : counter x ≡ counter y + 1 = ap (λ (p : List ℕ). slice_index p 2) parts.2
+      ∙ counter_set y.packet (counter y + 1) (fitting_long c.flood y.packet parts.0) in
       let at_y : counter y ≡ k = omega (arith, raised) in
-      let now : c.flood ≡ station r m v = current v both.0 (record { before = c.flood; event = Heard y }) c.occasion at_y in
-      let less = parts.1 in
-      (both.0, (y, heard_by_rule r Tuned f v y both.0 there, at_y, subst (λ (w : FloodState). fits w y.packet ≡ true) now parts.0, omega arith, parts.2 ∙ ap (λ (i : ℕ). slice_set y.packet 2 (i + 1)) at_y, c.start))
+      let now : c.flood ≡ station r m v = current r Tuned f k few m at v both.0 (record { before = c.flood; event = Heard y }) c.occasion at_y in
+      let less = parts.1 in (
+        both.0,
+        (
+          y,
+          heard_by_rule r Tuned f v y both.0 there,
+          at_y,
+          subst (λ (w : FloodState). fits w y.packet ≡ true) now parts.0,
+          omega arith,
+          parts.2
+              ∙ ap (λ (i : ℕ). slice_set y.packet 2 (i + 1)) at_y,
+          c.start,
+        ),
+      )
 
   next_sends : (x : Sending) (o : ℕ) → Contains r.sendings x → initiates r o → x.packet ≡ packet r o (suc k) → m'.sends x.node ≡ Some o
   next_sends x o sent begun is =
@@ -309,7 +217,8 @@ module _ (r : Run) (Tuned : ℕ → Sending → Type 0) (f : FloodRun r Tuned) (
       let next_packet : x.packet ≡ packet r p.0 (k + 1) = n.1.5 ∙ ap (λ (q : List ℕ). slice_set q 2 (k + 1)) p.2 ∙ set-set (r.message p.0) 2 k (k + 1) in
       let same : p.0 ≡ o = same_origin r f.times p.0 o (k + 1) (suc k) p.1 begun (sym next_packet ∙ is) in
       let got = hears_is x.node p.0 y n.0 n.1.1 n.1.2 p.1 p.2 in
-      cond-true (nat_lt (k + 1) STEPS) (hears s m k x.node) None (let less = n.1.4 in lt-ltb (k + 1) 12 (omega arith)) ∙ got ∙ cond-true (fits (station r m x.node) y.packet) (Some p.0) None n.1.3 ∙ ap (λ (i : ℕ). Some i) same
+      cond-true (nat_lt (k + 1) STEPS) (hears s m k x.node) None (let less = n.1.4 in lt-ltb (k + 1) 12 (omega arith)) ∙ got
+      ∙ cond-true (fits (station r m x.node) y.packet) (Some p.0) None n.1.3 ∙ ap (λ (i : ℕ). Some i) same
 
   next_sent : (v o : ℕ) → m'.sends v ≡ Some o → SentIn r (suc k) v o
   next_sent v o is =
@@ -323,13 +232,20 @@ module _ (r : Run) (Tuned : ℕ → Sending → Type 0) (f : FloodRun r Tuned) (
       let fitting : fits (station r m v) y.packet ≡ true = fit_of (fits (station r m v) y.packet) (sym got ∙ parts.1) in
       let answer = relay_of (station r m v) y.packet fitting (subst (λ (i : ℕ). i < 11) (sym z.step) less) in
       let x : Sending = sending_at r v (r.relay_start v y.end) (slice_set y.packet 2 (counter y + 1)) in
-      let there = occasion_now v y p.here (heard_event v y p.here z.hears) z.step in
-      let sent : Contains r.sendings x = f.times.relayed v (r.relay_start v y.end) (slice_set y.packet 2 (counter y + 1)) p.here (record { heard = y; flood = station r m v; occasion = there; answer = answer; start = refl }) in
+      let there = occasion_now r Tuned f k few m at v y p.here (heard_event v y p.here z.hears) z.step in
+      let sent : Contains r.sendings x = f.times.relayed v (r.relay_start v y.end) (slice_set y.packet 2 (counter y + 1)) p.here (record {
+        heard = y;
+        flood = station r m v;
+        occasion = there;
+        answer = answer;
+        start = refl;
+      }) in
       record {
         sending = x;
         sent = sent;
         node = refl;
-        packet = ap (λ (q : List ℕ). slice_set q 2 (counter y + 1)) z.packet ∙ set-set (r.message o) 2 k (counter y + 1) ∙ ap (λ (i : ℕ). packet r o i) (omega (arith, z.step));
+        packet = ap (λ (q : List ℕ). slice_set q 2 (counter y + 1)) z.packet ∙ set-set (r.message o) 2 k (counter y + 1)
+            ∙ ap (λ (i : ℕ). packet r o i) (omega (arith, z.step));
         initiator = z.initiator;
       }
     where
@@ -342,8 +258,9 @@ module _ (r : Run) (Tuned : ℕ → Sending → Type 0) (f : FloodRun r Tuned) (
       let n = next_sending x sent_x at_x in
       let q = next_sending y sent_y at_y in
       let heard : HearsIn r Tuned x.node q.1.0 = subst (λ (v : ℕ). HearsIn r Tuned v q.1.0) (sym node) q.1.1 in
-      let same : n.1.0 ≡ q.1.0 = heard_once x.node n.1.0 q.1.0 n.1.1 heard n.1.2 q.1.2 in
-      let start : x.start ≡ y.start = n.1.6 ∙ ap (λ (z : Sending). r.relay_start x.node z.end) same ∙ ap (λ (v : ℕ). r.relay_start v (q.1.0.end)) node ∙ sym q.1.6 in
+      let same : n.1.0 ≡ q.1.0 = heard_once r Tuned f k few m at x.node n.1.0 q.1.0 n.1.1 heard n.1.2 q.1.2 in
+      let start : x.start ≡ y.start = n.1.6 ∙ ap (λ (z : Sending). r.relay_start x.node z.end) same ∙ ap (λ (v : ℕ). r.relay_start v (q.1.0.end)) node
+      ∙ sym q.1.6 in
       let packets : x.packet ≡ y.packet = n.1.5 ∙ ap (λ (z : Sending). slice_set z.packet 2 (k + 1)) same ∙ sym q.1.5 in
       same_sending r f.times x y sent_x sent_y node start packets
 
@@ -353,7 +270,8 @@ module _ (r : Run) (Tuned : ℕ → Sending → Type 0) (f : FloodRun r Tuned) (
       new : (o : ℕ) → hears s m k v ≡ Some o → initiates r o × (initiates r v → o ≡ v)
       new o is = let p = parts_of r k v o m is in (begun_of r Tuned f k few m at v o p.picked, λ begun. sym (p.own begun))
 
-      by_cases : (old : Option (ℕ × ℕ)) (now : Option ℕ) → ((i : ℕ × ℕ) → old ≡ Some i → initiates r i.0 × (initiates r v → i.0 ≡ v)) → ((o : ℕ) → now ≡ Some o → initiates r o × (initiates r v → o ≡ v))
+      by_cases : (old : Option (ℕ × ℕ)) (now : Option ℕ) → ((i : ℕ × ℕ) → old ≡ Some i → initiates r i.0 × (initiates r v → i.0 ≡ v))
+          → ((o : ℕ) → now ≡ Some o → initiates r o × (initiates r v → o ≡ v))
           → first_heard old k now ≡ Some h → initiates r h.0 × (initiates r v → h.0 ≡ v)
       by_cases (Some i) now known fresh is = known h is
       by_cases None None known fresh is = absurd (cc)

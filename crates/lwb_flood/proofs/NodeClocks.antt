@@ -14,7 +14,8 @@ no_node : false ≡ true → ⊥
 no_node is = cc
 
 -- clocks that stand in a list
-pub listed_drift : {C : Type 0} (R : C → ℕ → ℕ) → ((c : C) → IsClock (R c)) → (ns : List NodeLine) (cs : List C) → length cs ≡ length ns → (v : ℕ) → knows ns v ≡ true
+pub listed_drift : {C : Type 0} (R : C → ℕ → ℕ) → ((c : C) → IsClock (R c)) → (ns : List NodeLine) (cs : List C) → length cs ≡ length ns → (v : ℕ)
+    → knows ns v ≡ true
     → IsClock (clocks_by R ns cs v)
 listed_drift R law [] cs long v known = absurd (no_node known)
 listed_drift R law (n ∷ ns) [] long v known = absurd (omega (arith, long))
@@ -24,7 +25,8 @@ listed_drift {C} R law (n ∷ ns) (c ∷ cs) long v known = by_test (n.node == v
     by_test true known others = law c
     by_test false known others = others known
 
-pub listed_clocks : {C : Type 0} (R : C → ℕ → ℕ) → ((c : C) → IsClock (R c)) → (f : FloodParts) (cs : List C) → length cs ≡ length f.nodes → IsSound f → (1 ≤ f.start) × (f.start ≤ 200)
+pub listed_clocks : {C : Type 0} (R : C → ℕ → ℕ) → ((c : C) → IsClock (R c)) → (f : FloodParts) (cs : List C) → length cs ≡ length f.nodes → IsSound f
+    → (1 ≤ f.start) × (f.start ≤ 200)
     → HasClocks f (clocks_by R f.nodes cs)
 listed_clocks R law f cs long sound start = record { sound = sound; start = start; drift = listed_drift R law f.nodes cs long }
 
@@ -37,7 +39,8 @@ stated_clocks f sound start = record {
 }
 
 -- a log over clocks that read the same
-pub same_clocks : (f : FloodParts) (clocks others : ℕ → ℕ → ℕ) (air : List Entry) → ((v : ℕ) → clocks v ≡ others v) → FloodLaw f clocks air → FloodLaw f others air
+pub same_clocks : (f : FloodParts) (clocks others : ℕ → ℕ → ℕ) (air : List Entry) → ((v : ℕ) → clocks v ≡ others v) → FloodLaw f clocks air
+    → FloodLaw f others air
 same_clocks f clocks others air same law = record {
   once = law.once;
   events = law.events;

@@ -31,7 +31,12 @@ module _ (a : Scene) (r : Run) (part : IsPart a r) where
         close = λ y rival same. subst (λ (d : ℕ). y.start ≤ x.start + d) part.delta (h.close y (from_rival v x y sent rival) same);
         chosen = elim h.chosen [
           | inl alone ↦ inl (λ y rival. alone y (from_rival v x y sent rival))
-          | inr c ↦ inr (record { winner = c.winner; rival = to_rival v x c.winner sent c.rival; same = c.same; named = sym (part.captured_by v x sent) ∙ c.named })
+          | inr c ↦ inr (record {
+            winner = c.winner;
+            rival = to_rival v x c.winner sent c.rival;
+            same = c.same;
+            named = sym (part.captured_by v x sent) ∙ c.named;
+          })
         ];
       }
 

@@ -1,7 +1,9 @@
 -- How many sendings there are.
-use Rattle.std.proofs.Common.{◌≡◌, ℕ, zero, suc, ◌+◌, ◌≤◌, List, [], ◌∷◌, Bool, true, false, ◌&&◌, if◌then◌else◌, inl, inr, Option, Some, None, is_some, refl, sym, ◌∙◌, ap, subst, arith, length, ◌==◌, nat_lt, sum_by, eq-eqb}
+use Rattle.std.proofs.Common.{◌≡◌, ℕ, zero, suc, ◌+◌, ◌≤◌, List, [], ◌∷◌, Bool, true, false, ◌&&◌, if◌then◌else◌, inl, inr, Option, Some, None, is_some, refl}
+use Rattle.std.proofs.Common.{sym, ◌∙◌, ap, subst, arith, length, ◌==◌, nat_lt, sum_by, eq-eqb}
 use Rattle.std.specs.Prelude.{Contains}
-use Rattle.std.proofs.lemmas.Bool.{cases_order, cases_Bool, cases_eq, or_cases, or_parts, and_parts, and_from, eqb-true, ne_eqb, lt-ltb, ltb-true, le-ltb, false≢true, both_ways, false_from_ne_true}
+use Rattle.std.proofs.lemmas.Bool.{cases_order, cases_Bool, cases_eq, or_cases, or_parts, and_parts, and_from, eqb-true, ne_eqb, lt-ltb, ltb-true, le-ltb}
+use Rattle.std.proofs.lemmas.Bool.{false≢true, both_ways, false_from_ne_true}
 use Rattle.std.proofs.lemmas.List.Sums.{sum_by-cons}
 use Rattle.bus_model.specs.Flooding.{Setting, moment, has}
 use Rattle.radio_model.specs.declared.sending.Sending.{Sending}
@@ -9,7 +11,7 @@ use Rattle.lwb_flood.specs.FloodRun.{counter, Run, FloodRun, packet}
 use Rattle.air_log.proofs.Elements.{not_in_none, contains_head, contains_tail, contains_cases, Distinct}
 use Rattle.bus_model.proofs.Options.{inspect, not_both}
 use Rattle.lwb_flood.proofs.SendingTimes.{timed, counter_is}
-use Rattle.lwb_flood.proofs.StepHearings.{IsAt}
+use Rattle.lwb_flood.proofs.StepsOnAir.{IsAt}
 use Rattle.lwb_flood.proofs.WholeFlood.{at_step}
 
 abbrev pub one_if : Bool → ℕ
@@ -38,12 +40,14 @@ number_none p (x ∷ xs) none =
     let zero_here : one_if (p x) ≡ 0 = ap one_if here in
     omega (arith, zero_here, number_none p xs (λ y there. none y (contains_tail x xs y there)))
 
-number_one : {X : Type 0} (p : X → Bool) (xs : List X) → Distinct xs → ((x y : X) → Contains xs x → Contains xs y → p x ≡ true → p y ≡ true → x ≡ y) → (x : X) → Contains xs x → p x ≡ true → number p xs ≡ 1
+number_one : {X : Type 0} (p : X → Bool) (xs : List X) → Distinct xs → ((x y : X) → Contains xs x → Contains xs y → p x ≡ true → p y ≡ true → x ≡ y)
+    → (x : X) → Contains xs x → p x ≡ true → number p xs ≡ 1
 number_one p [] distinct once x there is = absurd (not_in_none x there)
 number_one p (y ∷ ys) distinct once x there is =
     elim (cases_Bool (p y)) [
       | inl passes ↦
-          (let rest = number_none p ys (λ z later is_z. distinct.0 (subst (λ (w : _). Contains ys w) (once z y (contains_tail y ys z later) (contains_head y ys) is_z passes) later)) in
+          (let rest = number_none p ys
+          (λ z later is_z. distinct.0 (subst (λ (w : _). Contains ys w) (once z y (contains_tail y ys z later) (contains_head y ys) is_z passes) later)) in
           let here : one_if (p y) ≡ 1 = ap one_if passes in
           omega (arith, rest, here))
       | inr fails ↦
@@ -73,7 +77,10 @@ not_there n (v ∷ vs) none =
 has_contains : (vs : List ℕ) (n : ℕ) → has vs n ≡ true → Contains vs n
 has_contains [] n there = absurd (false≢true there)
 has_contains (v ∷ vs) n there =
-    elim (or_cases (v == n) _ there) [ inl same ↦ subst (λ (i : ℕ). Contains (v ∷ vs) i) (eqb-true v n same) (contains_head v vs) | inr later ↦ contains_tail v vs n (has_contains vs n later) ]
+    elim (or_cases (v == n) _ there) [
+      | inl same ↦ subst (λ (i : ℕ). Contains (v ∷ vs) i) (eqb-true v n same) (contains_head v vs)
+      | inr later ↦ contains_tail v vs n (has_contains vs n later)
+    ]
 
 there_once : (n : ℕ) (vs : List ℕ) → Distinct vs → has vs n ≡ true → total (λ v. one_if (n == v)) vs ≡ 1
 there_once n [] distinct there = absurd (false≢true there)
@@ -81,7 +88,8 @@ there_once n (v ∷ vs) distinct there =
     elim (cases_eq v n) [
       | inl same ↦
           (let here : one_if (n == v) ≡ 1 = ap one_if (eq-eqb n v (sym same)) in
-          let none : has vs n ≡ false = false_from_ne_true (has vs n) (λ later. distinct.0 (subst (λ (i : ℕ). Contains vs i) (sym same) (has_contains vs n later))) in
+          let none : has vs n ≡ false = false_from_ne_true (has vs n)
+          (λ later. distinct.0 (subst (λ (i : ℕ). Contains vs i) (sym same) (has_contains vs n later))) in
           omega (arith, here, not_there n vs none))
       | inr other ↦
           (let here : one_if (n == v) ≡ 0 = ap one_if (ne_eqb n v (λ same. other (sym same))) in
@@ -98,7 +106,8 @@ total_plus g h [] = refl
 total_plus g h (x ∷ xs) = omega (arith, total_plus g h xs)
 
 -- all are counted by their nodes
-by_nodes : (vs : List ℕ) → Distinct vs → (xs : List Sending) → ((x : Sending) → Contains xs x → has vs x.node ≡ true) → total (λ v. number (λ (x : Sending). x.node == v) xs) vs ≡ length xs
+by_nodes : (vs : List ℕ) → Distinct vs → (xs : List Sending) → ((x : Sending) → Contains xs x → has vs x.node ≡ true)
+    → total (λ v. number (λ (x : Sending). x.node == v) xs) vs ≡ length xs
 by_nodes vs distinct [] all = total_zero vs
 by_nodes vs distinct (x ∷ xs) all =
     let one = there_once x.node vs distinct (all x (contains_head x xs)) in
@@ -140,7 +149,12 @@ module _ (r : Run) (Tuned : ℕ → Sending → Type 0) (f : FloodRun r Tuned) (
             (let one : one_if (is_some ((moment s k).sends v)) ≡ 1 = ap (λ (o : Option ℕ). one_if (is_some o)) some.1 in
             let z = at.sent v some.0 some.1 in
             let step = counter_is r f.times some.0 k z.sending z.initiator z.packet in
-            omega (arith, one, number_one (sent_in v k) r.sendings distinct only z.sending z.sent (and_from _ _ (eq-eqb z.sending.node v z.node) (eq-eqb (counter z.sending) k step))))
+            omega (
+              arith,
+              one,
+              number_one (sent_in v k) r.sendings distinct only z.sending z.sent
+                  (and_from _ _ (eq-eqb z.sending.node v z.node) (eq-eqb (counter z.sending) k step)),
+            ))
       ]
     where
       absent : (moment s k).sends v ≡ None → (x : Sending) → Contains r.sendings x → ((x.node == v) ≡ true) × ((counter x == k) ≡ true) → ⊥

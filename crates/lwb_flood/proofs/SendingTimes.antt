@@ -69,7 +69,8 @@ module _ (r : Run) (f : HasTimes r) where
   raised_packet : (y : Sending) (t : Timed r y) (p : List ℕ) → p ≡ slice_set y.packet 2 (counter y + 1) → p ≡ packet r t.origin (counter y + 1)
   raised_packet y t p is = is ∙ ap (λ (q : List ℕ). slice_set q 2 (counter y + 1)) t.packet ∙ set-set (r.message t.origin) 2 (counter y) (counter y + 1)
 
-  timed_next : (k : ℕ) → ((y : Sending) → Contains r.sendings y → counter y ≡ k → Timed r y) → (x : Sending) → Contains r.sendings x → counter x ≡ suc k → Timed r x
+  timed_next : (k : ℕ) → ((y : Sending) → Contains r.sendings y → counter y ≡ k → Timed r y) → (x : Sending) → Contains r.sendings x
+      → counter x ≡ suc k → Timed r x
   timed_next k before x sent at =
       let both = f.relays x sent (omega arith) in
       let c = both.1 in
@@ -78,14 +79,18 @@ module _ (r : Run) (f : HasTimes r) where
       let event : Contains (r.events x.node) (Heard y) = occasion_event (begins r x.node) (r.events x.node) _ c.occasion in
       let was_sent = heard_sent x.node y both.0 event in
       let hearing = (f.heard_events x.node y both.0).0 event in
-      let raised : counter x ≡ counter y + 1 = ap (λ (p : List ℕ). slice_index p 2) parts.2 ∙ counter_set y.packet (counter y + 1) (fitting_long c.flood y.packet parts.0) in
+      let raised : counter x ≡ counter y + 1 = ap (λ (p : List ℕ). slice_index p 2) parts.2
+      ∙ counter_set y.packet (counter y + 1) (fitting_long c.flood y.packet parts.0) in
       let at_y : counter y ≡ k = omega (arith, raised) in
       let t = before y was_sent at_y in
       let turned = f.turned x.node y both.0 hearing (in_time y was_sent t) in
       let ends = f.lasts y was_sent in
       let is : x.packet ≡ packet r t.origin (counter y + 1) = raised_packet y t x.packet parts.2 in
       let step : counter x ≡ counter y + 1 = counter_is t.origin (counter y + 1) x t.initiator is in
-      let near : Near x.start (r.starts t.origin + (counter y + 1) * (r.air + r.turn)) (counter y + 1) = chained r.air r.turn (counter y) y.start x.start (r.starts t.origin) t.near (subst (λ (s : ℕ). Near s (y.start + r.air + r.turn) 1) (sym c.start) (subst (λ (e : ℕ). Near (r.relay_start x.node y.end) (e + r.turn) 1) ends.1 turned)) in
+      let near : Near x.start (r.starts t.origin + (counter y + 1) * (r.air + r.turn)) (counter y + 1) =
+      chained r.air r.turn (counter y) y.start x.start (r.starts t.origin) t.near
+      (subst (λ (s : ℕ). Near s (y.start + r.air + r.turn) 1) (sym c.start)
+      (subst (λ (e : ℕ). Near (r.relay_start x.node y.end) (e + r.turn) 1) ends.1 turned)) in
       record {
         origin = t.origin;
         initiator = t.initiator;
@@ -117,7 +122,8 @@ module _ (r : Run) (f : HasTimes r) where
       let t = timed x sent_x in
       let u = timed y sent_y in
       let ends = f.lasts x sent_x in
-      let apart : x.start + r.air < y.start = in_order r.air r.turn (counter x) (counter y) r.spread x.start y.start (r.starts t.origin) (r.starts u.origin) f.room_to_turn less u.few (f.together t.origin u.origin t.initiator u.initiator) t.near u.near in
+      let apart : x.start + r.air < y.start = in_order r.air r.turn (counter x) (counter y) r.spread x.start y.start (r.starts t.origin)
+      (r.starts u.origin) f.room_to_turn less u.few (f.together t.origin u.origin t.initiator u.initiator) t.near u.near in
       omega (arith, apart, ends.1)
 
   pub meets : (x y : Sending) → Contains r.sendings x → Contains r.sendings y → counter x ≡ counter y → Meets x y
@@ -126,7 +132,8 @@ module _ (r : Run) (f : HasTimes r) where
       let u = timed y sent_y in
       let ends_x = f.lasts x sent_x in
       let ends_y = f.lasts y sent_y in
-      let m = meet r.air r.turn (counter x) r.spread x.start y.start (r.starts t.origin) (r.starts u.origin) f.room_to_overlap t.few (f.together t.origin u.origin t.initiator u.initiator) t.near
+      let m = meet r.air r.turn (counter x) r.spread x.start y.start (r.starts t.origin) (r.starts u.origin) f.room_to_overlap t.few
+      (f.together t.origin u.origin t.initiator u.initiator) t.near
       (subst (λ (i : ℕ). Near y.start (r.starts u.origin + i * (r.air + r.turn)) i) (sym same) u.near) in
       record { before = omega (arith, m.below, ends_y.1); after = omega (arith, m.above, ends_x.1) }
 
@@ -144,7 +151,8 @@ module _ (r : Run) (f : HasTimes r) where
   pub not_over : (x y : Sending) → Contains r.sendings x → Contains r.sendings y → counter x ≤ counter y → x.start < y.end
   not_over x y sent_x sent_y less =
       elim (cases_lt (counter x) (counter y)) [
-        | inl before ↦ (let room = f.room_to_overlap in let ends_x = f.lasts x sent_x in let ends_y = f.lasts y sent_y in omega (arith, over x y sent_x sent_y before, room, ends_x.1, ends_y.1))
+        | inl before ↦ (let room = f.room_to_overlap in let ends_x = f.lasts x sent_x in let ends_y = f.lasts y sent_y in
+            omega (arith, over x y sent_x sent_y before, room, ends_x.1, ends_y.1))
         | inr at ↦ (let m = meets x y sent_x sent_y (omega arith) in omega (arith, m.before))
       ]
 

@@ -10,7 +10,8 @@ use Rattle.lwb_flood.specs.FloodRun.{Run, FloodRun, TurnsAround}
 use Rattle.lwb_flood.specs.Windows.{IsSlot}
 use Rattle.lwb_flood.proofs.TunedWindows.{tuned_in_window}
 
-module _ (p : Numbers) (b : Budget) (fits : Fits p b) (n : ℕ) (clocks : ℕ → ℕ → ℕ) (r : Run) (Tuned : ℕ → Sending → Type 0) (slot : IsSlot p b n clocks r Tuned) where
+module _ (p : Numbers) (b : Budget) (fits : Fits p b) (n : ℕ) (clocks : ℕ → ℕ → ℕ) (r : Run) (Tuned : ℕ → Sending → Type 0)
+    (slot : IsSlot p b n clocks r Tuned) where
   turns : TurnsAround r
   turns v x here there time =
       let air = slot.air in
@@ -19,8 +20,10 @@ module _ (p : Numbers) (b : Budget) (fits : Fits p b) (n : ℕ) (clocks : ℕ �
       let until = time.until in
       let apart = fits.turn_apart in
       let short = fits.turn_short in
-      let near : Near (due (clocks v) (clocks v x.end + p.turn)) (x.end + p.turn) 1 = turn (clocks v) p.turn x.end (slot.clocks_drift v here) (omega arith) (omega arith) (omega arith) in
-      subst (λ (t : ℕ). Near t (x.end + r.turn) 1) (sym (slot.relay_start v x.end here)) (subst (λ (t : ℕ). Near (due (clocks v) (clocks v x.end + p.turn)) (x.end + t) 1) (sym same) near)
+      let near : Near (due (clocks v) (clocks v x.end + p.turn)) (x.end + p.turn) 1 =
+      turn (clocks v) p.turn x.end (slot.clocks_drift v here) (omega arith) (omega arith) (omega arith) in
+      subst (λ (t : ℕ). Near t (x.end + r.turn) 1) (sym (slot.relay_start v x.end here))
+      (subst (λ (t : ℕ). Near (due (clocks v) (clocks v x.end + p.turn)) (x.end + t) 1) (sym same) near)
 
   pub slot_run : FloodRun r Tuned
   slot_run =
@@ -45,5 +48,6 @@ module _ (p : Numbers) (b : Budget) (fits : Fits p b) (n : ℕ) (clocks : ℕ �
         };
         hears = slot.hears;
         tuned = λ v here. (let w = slot.windows v here in
-            tuned_in_window r Tuned v w.opening w.closing (λ x sent. (let last = slot.sent.lasts x sent in omega (arith, some, last.1))) w.window (λ z. (slot.happened.ended_events v z here).0));
+            tuned_in_window r Tuned v w.opening w.closing (λ x sent. (let last = slot.sent.lasts x sent in omega (arith, some, last.1))) w.window
+            (λ z. (slot.happened.ended_events v z here).0));
       }

@@ -1,5 +1,6 @@
 -- What a node's flood is at the beginning of a step, and what an event makes of it.
-use Rattle.std.proofs.Common.{◌≡◌, ℕ, ◌+◌, List, Bool, true, false, if◌then◌else◌, Option, Some, None, is_some, option_map, refl, sym, ◌∙◌, ap, add-zero, nat_lt, arith, inl, inr}
+use Rattle.std.proofs.Common.{◌≡◌, ℕ, ◌+◌, List, Bool, true, false, if◌then◌else◌, Option, Some, None, is_some, option_map, refl, sym, ◌∙◌, ap, add-zero}
+use Rattle.std.proofs.Common.{nat_lt, arith, inl, inr}
 use Rattle.std.proofs.lemmas.Bool.{cases_lt, lt-ltb, le-ltb}
 use Rattle.lwb_packets.specs.declared.kind.Kind.{Kind}
 use Rattle.glossy_relay.specs.FloodState.{FloodState}
@@ -14,7 +15,8 @@ early_is k = elim (cases_lt k 11) [
   | inr more ↦ le-ltb (k + 1) 12 (omega arith) ∙ sym (le-ltb k 11 more)
 ]
 
-abbrev pub of_parts : (kind : Kind) (limit slot : ℕ) (begun : Bool) (message : List ℕ) (spell : ℕ × ℕ → List ℕ) (times : ℕ) (sends : Option ℕ) (heard : Option (ℕ × ℕ)) → FloodState
+abbrev pub of_parts : (kind : Kind) (limit slot : ℕ) (begun : Bool) (message : List ℕ) (spell : ℕ × ℕ → List ℕ) (times : ℕ) (sends : Option ℕ)
+    (heard : Option (ℕ × ℕ)) → FloodState
 of_parts kind limit slot begun message spell times sends heard = record {
   kind = kind;
   slot = slot;
@@ -37,7 +39,8 @@ module _ (kind : Kind) (limit slot : ℕ) (begun : Bool) (message : List ℕ) (s
   at sends heard = of_parts kind limit slot begun message spelled times sends heard
 
   abbrev then_at : Bool → Option ℕ → Option ℕ → Option (ℕ × ℕ) → FloodState
-  then_at early sends hears heard = of_parts kind limit slot begun message spelled (times + (if is_some sends then 1 else 0)) (if early then hears else None) (first_heard heard k hears)
+  then_at early sends hears heard = of_parts kind limit slot begun message spelled (times + (if is_some sends then 1 else 0))
+      (if early then hears else None) (first_heard heard k hears)
 
   pub quiet_state : (early : Bool) (heard : Option (ℕ × ℕ)) → at None heard ≡ then_at early None None heard
   quiet_state true None = rw add-zero refl
@@ -54,12 +57,15 @@ module _ (kind : Kind) (limit slot : ℕ) (begun : Bool) (message : List ℕ) (s
   abbrev kept : Bool → FloodState → List ℕ → Bool → FloodState
   kept fitting s p early = if fitting then record s { waiting = early; first = first_of s.first p } else s
 
-  first_is : (b : Bool) (o : ℕ) (heard : Option (ℕ × ℕ)) → first_of (if b then Some message else option_map spelled heard) (spelled (o, k)) ≡ (if b then Some message else option_map spelled (first_heard heard k (Some o)))
+  first_is : (b : Bool) (o : ℕ) (heard : Option (ℕ × ℕ))
+      → first_of (if b then Some message else option_map spelled heard)
+      (spelled (o, k)) ≡ (if b then Some message else option_map spelled (first_heard heard k (Some o)))
   first_is true o heard = refl
   first_is false o None = refl
   first_is false o (Some h) = refl
 
-  heard_by_cases : (fitting early : Bool) (o : ℕ) (heard : Option (ℕ × ℕ)) → kept fitting (at None heard) (spelled (o, k)) early ≡ then_at early None (if fitting then Some o else None) heard
+  heard_by_cases : (fitting early : Bool) (o : ℕ) (heard : Option (ℕ × ℕ))
+      → kept fitting (at None heard) (spelled (o, k)) early ≡ then_at early None (if fitting then Some o else None) heard
   heard_by_cases false early o heard = quiet_state early heard
   heard_by_cases true true o heard = rw (add-zero, first_is begun o heard) refl
   heard_by_cases true false o heard = rw (add-zero, first_is begun o heard) refl

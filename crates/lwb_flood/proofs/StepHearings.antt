@@ -1,51 +1,22 @@
 -- One step of a flood on the air is one step of the flood by steps.
-use Rattle.std.proofs.Common.{◌≡◌, ℕ, ◌+◌, ◌*◌, ◌<◌, ◌≤◌, List, ◌++◌, Bool, true, false, not, ◌&&◌, ◌||◌, if◌then◌else◌, inl, inr, Option, Some, None, option_map, refl, sym, ◌∙◌, ap, subst, arith, ◌==◌, eq-eqb}
+use Rattle.std.proofs.Common.{◌≡◌, ℕ, ◌+◌, ◌*◌, ◌<◌, ◌≤◌, List, true, inl, inr, Option, Some, None}
+use Rattle.std.proofs.Common.{sym, ◌∙◌, ap, subst, arith}
 use Rattle.std.specs.Prelude.{Contains, slice_index, ◌⊎◌}
-use Rattle.std.specs.Str.{bytes_eq}
 use Rattle.std.specs.Option.{option_and_then}
-use Rattle.std.proofs.lemmas.Bool.{cases_eq, lt-ltb, ne_eqb, cond-true, false_from_ne_true}
-use Rattle.std.proofs.lemmas.Slice.Eq.{bytes_eq-Decides}
+use Rattle.std.proofs.lemmas.Bool.{cases_eq, cond-true}
 use Rattle.std.proofs.lemmas.List.Elements.{Contains-append_left, Contains-append_right}
 use Rattle.glossy_relay.specs.FloodState.{FloodState}
-use Rattle.lwb_packets.specs.Body.{body}
-use Rattle.glossy_relay.specs.Relaying.{fits, carries}
-use Rattle.bus_model.specs.Flooding.{Setting, Moment, has, offer, candidates, named, pick, agrees, takes}
+use Rattle.bus_model.specs.Flooding.{Setting, Moment, has, offer, candidates, named, pick}
 use Rattle.tick_clock.specs.Clocks.{Near}
 use Rattle.radio_model.specs.declared.sending.Sending.{Sending}
 use Rattle.radio_model.specs.Hearing.{Before}
 use Rattle.air_log.specs.NodeEvents.{Event, Heard, sending_of, after_all}
 use Rattle.lwb_flood.specs.FloodRun.{counter, Run, FloodRun, initiates, takes_part, packet, begins, Rival, Silent, Alone, Captured, HearsIn}
 use Rattle.bus_model.proofs.Options.{inspect, some_injective, only_when, only_from, in_filter, from_filter, sends_parts, not_both, named_parts}
-use Rattle.glossy_relay.proofs.CountedPackets.{slot_set, body_set}
 use Rattle.lwb_flood.proofs.StepTimes.{close}
-use Rattle.lwb_flood.proofs.SendingTimes.{timed, in_time, message_is, counter_is, same_origin, over, meets, one_step, not_over, event_sent}
+use Rattle.lwb_flood.proofs.SendingTimes.{timed, in_time, counter_is, same_origin, over, meets, one_step, not_over, event_sent}
 use Rattle.lwb_flood.proofs.EventOrder.{earliest}
-use Rattle.lwb_flood.proofs.Stations.{spell, station}
-
--- a sending of this node, step and origin
-pub record SentIn (r : Run) (k v o : ℕ) : Type 0 where
-  pub sending : Sending
-  pub sent : Contains r.sendings sending
-  pub node : sending.node ≡ v
-  pub packet : sending.packet ≡ packet r o k
-  pub initiator : initiates r o
-
--- a node's events before step k and from it on
-pub record Turn (r : Run) (k v : ℕ) (m : Moment) : Type 0 where
-  pub before : List Event
-  pub rest : List Event
-  pub whole : r.events v ≡ before ++ rest
-  pub earlier : (e : Event) → Contains before e → counter (sending_of e) < k
-  pub later : (e : Event) → Contains rest e → k ≤ counter (sending_of e)
-  pub state : after_all (begins r v) before ≡ station r m v
-
--- the flood on the air is at step k as the flood by steps at this moment
-pub record IsAt (r : Run) (k : ℕ) (m : Moment) : Type 0 where
-  pub sends : (x : Sending) (o : ℕ) → Contains r.sendings x → initiates r o → x.packet ≡ packet r o k → m.sends x.node ≡ Some o
-  pub sent : (v o : ℕ) → m.sends v ≡ Some o → SentIn r k v o
-  pub once : (x y : Sending) → Contains r.sendings x → Contains r.sendings y → counter x ≡ k → counter y ≡ k → x.node ≡ y.node → x ≡ y
-  pub heard : (v : ℕ) (h : ℕ × ℕ) → m.heard v ≡ Some h → initiates r h.0 × (initiates r v → h.0 ≡ v)
-  pub turns : (v : ℕ) → takes_part r v → Turn r k v m
+use Rattle.lwb_flood.proofs.StepsOnAir.{SentIn, Turn, IsAt}
 
 -- of this step and origin, and reaches v
 pub record Offered (r : Run) (k v o : ℕ) (x : Sending) : Type 0 where
@@ -62,7 +33,8 @@ pub record HeardIn (r : Run) (Tuned : ℕ → Sending → Type 0) (k v o : ℕ) 
   pub initiator : initiates r o
 
 -- what happened as a hearing is heard by the rule
-pub heard_by_rule : (r : Run) (Tuned : ℕ → Sending → Type 0) → FloodRun r Tuned → (v : ℕ) (y : Sending) → takes_part r v → Contains (r.events v) (Heard y) → HearsIn r Tuned v y
+pub heard_by_rule : (r : Run) (Tuned : ℕ → Sending → Type 0) → FloodRun r Tuned → (v : ℕ) (y : Sending) → takes_part r v
+    → Contains (r.events v) (Heard y) → HearsIn r Tuned v y
 heard_by_rule r Tuned f v y here there = (f.hears v y here).0 ((f.times.heard_events v y here).0 there)
 
 module _ (r : Run) (Tuned : ℕ → Sending → Type 0) (f : FloodRun r Tuned) (k : ℕ) (few : k ≤ 11) (m : Moment) (at : IsAt r k m) where
@@ -82,7 +54,8 @@ module _ (r : Run) (Tuned : ℕ → Sending → Type 0) (f : FloodRun r Tuned) (
   pub counter_sent : (v o : ℕ) (z : SentIn r k v o) → counter z.sending ≡ k
   counter_sent v o z = counter_is r f.times o k z.sending z.initiator z.packet
 
-  pub rival : (v : ℕ) (x y : Sending) → Contains r.sendings x → Contains r.sendings y → counter x ≡ k → counter y ≡ k → s.passes k y.node v ≡ true → Rival r v x y
+  pub rival : (v : ℕ) (x y : Sending) → Contains r.sendings x → Contains r.sendings y → counter x ≡ k → counter y ≡ k → s.passes k y.node v ≡ true
+      → Rival r v x y
   rival v x y sent_x sent_y at_x at_y passes = record {
     sent = sent_y;
     meets = meets r f.times x y sent_x sent_y (at_x ∙ sym at_y);
@@ -129,13 +102,15 @@ module _ (r : Run) (Tuned : ℕ → Sending → Type 0) (f : FloodRun r Tuned) (
           ap (λ (w : Option ℕ). option_and_then (offer_to v) w) is_named ∙ offered v c.winner.node o passes sends
 
   -- the events of a node around a sending of this step
-  early : (v : ℕ) (x : Sending) → takes_part r v → Contains r.sendings x → counter x ≡ k → (t : Turn r k v m) → (e : Event) → Contains t.before e → (sending_of e).end ≤ x.start
+  early : (v : ℕ) (x : Sending) → takes_part r v → Contains r.sendings x → counter x ≡ k → (t : Turn r k v m) → (e : Event) → Contains t.before e
+      → (sending_of e).end ≤ x.start
   early v x here sent step t e there =
       let event = subst (λ (l : List Event). Contains l e) (sym t.whole) (Contains-append_left t.before t.rest e there) in
       let less = t.earlier e there in
       omega (arith, over r f.times (sending_of e) x (event_sent r f.times v e here event) sent (omega arith))
 
-  late : (v : ℕ) (x : Sending) → takes_part r v → Contains r.sendings x → counter x ≡ k → (t : Turn r k v m) → (e : Event) → Contains t.rest e → x.start < (sending_of e).end
+  late : (v : ℕ) (x : Sending) → takes_part r v → Contains r.sendings x → counter x ≡ k → (t : Turn r k v m) → (e : Event) → Contains t.rest e
+      → x.start < (sending_of e).end
   late v x here sent step t e there =
       let event = subst (λ (l : List Event). Contains l e) (sym t.whole) (Contains-append_right t.before t.rest e there) in
       let more = t.later e there in
@@ -147,13 +122,19 @@ module _ (r : Run) (Tuned : ℕ → Sending → Type 0) (f : FloodRun r Tuned) (
   pub few_sent : (v : ℕ) (x : Sending) → takes_part r v → HearsIn r Tuned v x → counter x ≡ k → m.times v < s.limit
   few_sent v x here h step =
       let t = at.turns v here in
-      let less = (f.tuned v here x t.before t.rest h.sent (in_time r f.times x h.sent (timed r f.times x h.sent)) (record { whole = t.whole; ended = early v x here h.sent step t; later = late v x here h.sent step t }) h.silent).0 h.tuned in
+      let less = (f.tuned v here x t.before t.rest h.sent (in_time r f.times x h.sent (timed r f.times x h.sent)) (record {
+        whole = t.whole;
+        ended = early v x here h.sent step t;
+        later = late v x here h.sent step t;
+      }) h.silent).0 h.tuned in
       subst (λ (n : ℕ). n < s.limit) (sent_is v t) less
 
   tuned_in : (v : ℕ) (x : Sending) → takes_part r v → Contains r.sendings x → counter x ≡ k → Silent r v x → m.times v < s.limit → Tuned v x
   tuned_in v x here sent step silent less =
       let t = at.turns v here in
-      (f.tuned v here x t.before t.rest sent (in_time r f.times x sent (timed r f.times x sent)) (record { whole = t.whole; ended = early v x here sent step t; later = late v x here sent step t }) silent).1 (subst (λ (n : ℕ). n < s.limit) (sym (sent_is v t)) less)
+      (f.tuned v here x t.before t.rest sent (in_time r f.times x sent (timed r f.times x sent))
+      (record { whole = t.whole; ended = early v x here sent step t; later = late v x here sent step t }) silent).1
+      (subst (λ (n : ℕ). n < s.limit) (sym (sent_is v t)) less)
 
   -- what is picked is heard
   decide : (v o u : ℕ) → initiates r o → ((x : Sending) × Offered r k v o x × (x.node ≡ u)) ⊎ ((x : Sending) → Offered r k v o x → x.node ≡ u → ⊥)
@@ -189,7 +170,8 @@ module _ (r : Run) (Tuned : ℕ → Sending → Type 0) (f : FloodRun r Tuned) (
   begun_of v o is = let w = witness v o is in (at.sent w.0 o (sends_parts (s.passes k w.0 v) (m.sends w.0) o w.1).1).initiator
 
   offered_once : (v o : ℕ) → initiates r o → (x y : Sending) → Offered r k v o x → Offered r k v o y → x.node ≡ y.node → x ≡ y
-  offered_once v o begun x y is is' node = at.once x y is.sent is'.sent (counter_is r f.times o k x begun is.packet) (counter_is r f.times o k y begun is'.packet) node
+  offered_once v o begun x y is is' node = at.once x y is.sent is'.sent (counter_is r f.times o k x begun is.packet)
+      (counter_is r f.times o k y begun is'.packet) node
 
   hears_first : (v o : ℕ) → takes_part r v → pick s m k v ≡ Some o → m.sends v ≡ None → m.times v < s.limit
       → (x : Sending) → Offered r k v o x → ((y : Sending) → Offered r k v o y → has s.everyone y.node ≡ true → Before x y) → HearsIn r Tuned v x
@@ -227,9 +209,11 @@ module _ (r : Run) (Tuned : ℕ → Sending → Type 0) (f : FloodRun r Tuned) (
           let t = timed r f.times x mine.sent in
           let u = timed r f.times y rival.sent in
           let at_y : counter y ≡ counter x = ap (λ (q : List ℕ). slice_index q 2) same in
-          let origin : u.origin ≡ t.origin = same_origin r f.times u.origin t.origin (counter y) (counter x) u.initiator t.initiator (sym u.packet ∙ same ∙ t.packet) in
+          let origin : u.origin ≡ t.origin = same_origin r f.times u.origin t.origin (counter y) (counter x) u.initiator t.initiator
+          (sym u.packet ∙ same ∙ t.packet) in
           let near_y : Near y.start (r.starts t.origin + counter x * (r.air + r.turn)) (counter x) =
-          subst (λ (i : ℕ). Near y.start (r.starts t.origin + i * (r.air + r.turn)) i) at_y (subst (λ (p : ℕ). Near y.start (r.starts p + counter y * (r.air + r.turn)) (counter y)) origin u.near) in
+          subst (λ (i : ℕ). Near y.start (r.starts t.origin + i * (r.air + r.turn)) i) at_y
+          (subst (λ (p : ℕ). Near y.start (r.starts p + counter y * (r.air + r.turn)) (counter y)) origin u.near) in
           let room = f.times.displacement in
           omega (arith, close r.air r.turn (counter x) x.start y.start (r.starts t.origin) t.few t.near near_y, room)
 
@@ -260,7 +244,11 @@ module _ (r : Run) (Tuned : ℕ → Sending → Type 0) (f : FloodRun r Tuned) (
       let w = witness v o is in
       let parts = sends_parts (s.passes k w.0 v) (m.sends w.0) o w.1 in
       let z = at.sent w.0 o parts.1 in
-      let mine : Offered r k v o z.sending = record { sent = z.sent; packet = z.packet; passes = subst (λ (i : ℕ). s.passes k i v ≡ true) (sym z.node) parts.0 } in
+      let mine : Offered r k v o z.sending = record {
+        sent = z.sent;
+        packet = z.packet;
+        passes = subst (λ (i : ℕ). s.passes k i v ≡ true) (sym z.node) parts.0;
+      } in
       elim (earliest (Offered r k v o) (offered_once v o begun) (λ u. decide v o u begun) s.everyone) [
         | inl found ↦ record {
           sending = found.0;
@@ -271,44 +259,3 @@ module _ (r : Run) (Tuned : ℕ → Sending → Type 0) (f : FloodRun r Tuned) (
         }
         | inr nobody ↦ absurd (nobody z.sending mine (timed r f.times z.sending z.sent).here)
       ]
-
-  -- what fits
-  pub bodies : (p o i j : ℕ) → initiates r p → initiates r o → bytes_eq (body (packet r p i)) (body (packet r o j)) ≡ (p == o)
-  bodies p o i j is is' =
-      elim (cases_eq p o) [
-        | inl same ↦ (let d = bytes_eq-Decides (body (packet r p i)) (body (packet r o j)) in
-            d.1 (body_set (r.message p) i ∙ ap (λ (q : ℕ). body (r.message q)) same ∙ sym (body_set (r.message o) j)) ∙ sym (eq-eqb p o same))
-        | inr other ↦ (let d = bytes_eq-Decides (body (packet r p i)) (body (packet r o j)) in
-            false_from_ne_true _ (λ t. other (f.times.different p o is is' (sym (body_set (r.message p) i) ∙ d.0 t ∙ body_set (r.message o) j))) ∙ sym (ne_eqb p o other))
-      ]
-
-  abbrev pub wanted : ℕ → ℕ → Bool
-  wanted v o = takes s m v o
-
-  carries_is : (v o : ℕ) → initiates r o → carries (if has s.initiators v then Some (r.message v) else option_map (spell r) (m.heard v)) (packet r o k) ≡ wanted v o
-  carries_is v o begun = by_cases (has s.initiators v) (m.heard v) (λ is. is) (λ h is. at.heard v h is)
-    where
-      own : initiates r v → (h : Option (ℕ × ℕ)) → ((i : ℕ × ℕ) → h ≡ Some i → initiates r i.0 × (initiates r v → i.0 ≡ v)) → carries (Some (r.message v)) (packet r o k) ≡ ((v == o) && agrees h o)
-      own is h known =
-          ap (λ (q : List ℕ). bytes_eq (body q) (body (packet r o k))) (sym (message_is r f.times v is)) ∙ bodies v o 0 k is begun
-          ∙ elim (cases_eq v o) [
-            | inl same ↦ agreed same h known
-            | inr other ↦ rw (ne_eqb v o other) refl
-          ]
-        where
-          agreed : v ≡ o → (h : Option (ℕ × ℕ)) → ((i : ℕ × ℕ) → h ≡ Some i → initiates r i.0 × (initiates r v → i.0 ≡ v)) → (v == o) ≡ ((v == o) && agrees h o)
-          agreed same None known = rw (eq-eqb v o same) refl
-          agreed same (Some i) known = rw (eq-eqb v o same) (sym (eq-eqb i.0 o ((known i refl).1 is ∙ same)))
-
-      by_cases : (b : Bool) (h : Option (ℕ × ℕ)) → (b ≡ true → initiates r v) → ((i : ℕ × ℕ) → h ≡ Some i → initiates r i.0 × (initiates r v → i.0 ≡ v))
-          → carries (if b then Some (r.message v) else option_map (spell r) h) (packet r o k) ≡ ((not b || (v == o)) && agrees h o)
-      by_cases true h is known = own (is refl) h known
-      by_cases false None is known = refl
-      by_cases false (Some i) is known = bodies i.0 o i.1 k (known i refl).0 begun
-
-  pub fits_is : (v o : ℕ) → initiates r o → m.sends v ≡ None → m.times v < s.limit → fits (station r m v) (packet r o k) ≡ wanted v o
-  fits_is v o begun quiet less =
-      let may = lt-ltb (m.times v) s.limit less in
-      let spelled = f.times.spelled o k begun few in
-      let slot = eq-eqb _ _ (slot_set (r.message o) k ∙ f.times.slot o begun) in
-      rw (may, quiet, spelled, slot) (carries_is v o begun)

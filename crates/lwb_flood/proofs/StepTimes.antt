@@ -7,20 +7,23 @@ use Rattle.time_reference.specs.Floods.{Overlap}
 pub chained : (air turn k s s' s0 : ℕ) → Near s (s0 + k * (air + turn)) k → Near s' (s + air + turn) 1 → Near s' (s0 + (k + 1) * (air + turn)) (k + 1)
 chained air turn k s s' s0 near one = omega arith
 
-apart : (air turn k r q x y sx sy : ℕ) → q + 23 < turn → k + 1 + r ≤ 11 → Near sx sy q → Near x (sx + k * (air + turn)) k → Near y (sy + (k + 1 + r) * (air + turn)) (k + 1 + r) → x + air < y
+apart : (air turn k r q x y sx sy : ℕ) → q + 23 < turn → k + 1 + r ≤ 11 → Near sx sy q → Near x (sx + k * (air + turn)) k
+    → Near y (sy + (k + 1 + r) * (air + turn)) (k + 1 + r) → x + air < y
 apart air turn k r q x y sx sy room few origins at_x at_y =
     let some : 1 ≤ air + turn = omega arith in
     omega (arith, mul-le-mul_left r some)
 
 -- a sending of an earlier step ends before one of a later step starts
-pub in_order : (air turn k k' q x y sx sy : ℕ) → q + 23 < turn → k < k' → k' ≤ 11 → Near sx sy q → Near x (sx + k * (air + turn)) k → Near y (sy + k' * (air + turn)) k' → x + air < y
+pub in_order : (air turn k k' q x y sx sy : ℕ) → q + 23 < turn → k < k' → k' ≤ 11 → Near sx sy q → Near x (sx + k * (air + turn)) k
+    → Near y (sy + k' * (air + turn)) k' → x + air < y
 in_order air turn k k' q x y sx sy room less few origins at_x at_y =
     let r : ℕ = k' - (k + 1) in
     let is : k' ≡ k + 1 + r = omega arith in
     apart air turn k r q x y sx sy room (omega arith) origins at_x (subst (λ (i : ℕ). Near y (sy + i * (air + turn)) i) is at_y)
 
 -- sendings of one step overlap
-pub meet : (air turn k q x y sx sy : ℕ) → q + 22 < air → k ≤ 11 → Near sx sy q → Near x (sx + k * (air + turn)) k → Near y (sy + k * (air + turn)) k → Overlap x (x + air) y (y + air)
+pub meet : (air turn k q x y sx sy : ℕ) → q + 22 < air → k ≤ 11 → Near sx sy q → Near x (sx + k * (air + turn)) k → Near y (sy + k * (air + turn)) k
+    → Overlap x (x + air) y (y + air)
 meet air turn k q x y sx sy room few origins at_x at_y = omega arith
 
 -- sendings of one step and one initiator start within 22 ticks

@@ -1,5 +1,6 @@
 -- A node that listens in a window is tuned exactly where it has sent less often than its limit.
-use Rattle.std.proofs.Common.{◌≡◌, ℕ, zero, suc, ◌+◌, ◌-◌, ◌<◌, ◌≤◌, List, [], ◌∷◌, ◌++◌, Bool, true, false, if◌then◌else◌, inl, inr, refl, sym, ◌∙◌, ap, subst, arith, length, get_or}
+use Rattle.std.proofs.Common.{◌≡◌, ℕ, zero, suc, ◌+◌, ◌-◌, ◌<◌, ◌≤◌, List, [], ◌∷◌, ◌++◌, Bool, true, false, if◌then◌else◌, inl, inr, refl, sym, ◌∙◌, ap, subst}
+use Rattle.std.proofs.Common.{arith, length, get_or}
 use Rattle.std.specs.Prelude.{Contains}
 use Rattle.std.proofs.lemmas.Bool.{cases_lt}
 use Rattle.std.proofs.lemmas.List.Elements.{filter_map-append, Contains-append_right}
@@ -54,7 +55,8 @@ sent_among w (Heard x ∷ es) =
     omega (arith, kept, sent_among (after_heard w x.packet) es)
 sent_among w (Ended x ∷ es) = omega (arith, sent_among (after w (Ended x)) es)
 
-module _ (r : Run) (Tuned : ℕ → Sending → Type 0) (v opening closing : ℕ) (lasts : (x : Sending) → Contains r.sendings x → x.start < x.end) (window : IsWindow r Tuned v opening closing)
+module _ (r : Run) (Tuned : ℕ → Sending → Type 0) (v opening closing : ℕ) (lasts : (x : Sending) → Contains r.sendings x → x.start < x.end)
+    (window : IsWindow r Tuned v opening closing)
     (own : (z : Sending) → Contains (r.events v) (Ended z) → Contains r.sendings z × (z.node ≡ v)) where
   pub tuned_in_window : TunedByCount r Tuned v
   tuned_in_window x before rest sent time cut silent = (there, back)
@@ -85,11 +87,14 @@ module _ (r : Run) (Tuned : ℕ → Sending → Type 0) (v opening closing : ℕ
           over less until (Past is past) = omega arith
 
       back : (after_all (begins r v) before).sent < r.setting.limit → Tuned v x
-      back less = window.tuned x sent (window.since x time) (not_off (r.setting.limit - 1 - length (own_ends before)) (omega (arith, number, less)) (end_at rest (r.setting.limit - 1 - length (own_ends before)) closing))
+      back less = window.tuned x sent (window.since x time)
+          (not_off (r.setting.limit - 1 - length (own_ends before)) (omega (arith, number, less))
+          (end_at rest (r.setting.limit - 1 - length (own_ends before)) closing))
         where
           not_off : (i : ℕ) → length (own_ends before) + i ≡ r.setting.limit - 1 → EndAt rest i closing → x.end ≤ off_at r v closing
           not_off i at (Inside z in_rest is inside) =
-              let off : off_at r v closing ≡ z.end = off_is ∙ ap (λ (j : ℕ). get_or (own_ends before ++ own_ends rest) j closing) (sym at) ∙ after_first (own_ends before) (own_ends rest) i closing ∙ is in
+              let off : off_at r v closing ≡ z.end = off_is ∙ ap (λ (j : ℕ). get_or (own_ends before ++ own_ends rest) j closing) (sym at)
+              ∙ after_first (own_ends before) (own_ends rest) i closing ∙ is in
               let ends = cut.later (Ended z) in_rest in
               let mine = own z (subst (λ (l : List Event). Contains l (Ended z)) (sym cut.whole) (Contains-append_right before rest (Ended z) in_rest)) in
               let last = lasts z mine.0 in
@@ -98,5 +103,6 @@ module _ (r : Run) (Tuned : ℕ → Sending → Type 0) (v opening closing : ℕ
                 | inr after_it ↦ omega (arith, off, last)
               ]
           not_off i at (Past is past) =
-              let off : off_at r v closing ≡ closing = off_is ∙ ap (λ (j : ℕ). get_or (own_ends before ++ own_ends rest) j closing) (sym at) ∙ after_first (own_ends before) (own_ends rest) i closing ∙ is in
+              let off : off_at r v closing ≡ closing = off_is ∙ ap (λ (j : ℕ). get_or (own_ends before ++ own_ends rest) j closing) (sym at)
+              ∙ after_first (own_ends before) (own_ends rest) i closing ∙ is in
               omega (arith, off, window.until x time)

@@ -11,7 +11,7 @@ use Rattle.radio_model.specs.Hearing.{Before}
 use Rattle.air_log.specs.NodeEvents.{Event, Heard, Ended, sending_of, after_all, Occasion, InOrder}
 use Rattle.lwb_flood.specs.FloodRun.{counter, sending_at, FloodRun, initiates, takes_part, begins, Rival, Silent, HearsIn, Relayed, TunedByCount}
 use Rattle.lwb_flood.specs.TwoNodes.{packet_of, first_sending, second_sending, two_nodes, two_tuned}
-use Rattle.air_log.proofs.Elements.{not_in_none, contains_head, contains_tail, contains_cases}
+use Rattle.air_log.proofs.Elements.{contains_head, contains_tail, one_of, one_of_two}
 use Rattle.lwb_flood.specs.Windows.{IsWindow}
 use Rattle.lwb_flood.proofs.SendingTimes.{equal_sendings}
 use Rattle.lwb_flood.proofs.TunedWindows.{tuned_in_window}
@@ -19,12 +19,6 @@ use Rattle.glossy_relay.proofs.Spellings.{data_again}
 
 abbrev Tuned : ℕ → Sending → Type 0
 Tuned v x = two_tuned v x ≡ true
-
-one_of : {X : Type 0} (x y : X) → Contains (x ∷ []) y → x ≡ y
-one_of x y there = elim (contains_cases x [] y there) [ inl is ↦ is | inr none ↦ absurd (not_in_none y none) ]
-
-one_of_two : {X : Type 0} (x y z : X) → Contains (x ∷ y ∷ []) z → (x ≡ z) ⊎ (y ≡ z)
-one_of_two x y z there = elim (contains_cases x (y ∷ []) z there) [ inl is ↦ inl is | inr later ↦ inr (one_of y z later) ]
 
 node_cases : (v : ℕ) → takes_part two_nodes v → (1 ≡ v) ⊎ (2 ≡ v)
 node_cases v here =
@@ -82,8 +76,10 @@ own_unheard v x there node silent = let some = lasts_some x there in silent x th
 hears_only : (v : ℕ) (x : Sending) → takes_part two_nodes v → HearsIn two_nodes Tuned v x → Contains two_nodes.hearings (record { node = v; sending = x })
 hears_only v x here h =
     at_nodes (λ v. HearsIn two_nodes Tuned v x → Contains two_nodes.hearings (record { node = v; sending = x }))
-    (λ h. sent (λ x. HearsIn two_nodes Tuned 1 x → Contains two_nodes.hearings (record { node = 1; sending = x })) (λ g. absurd (own_unheard 1 first_sending g.sent refl g.silent)) (λ g. absurd (false≢true g.tuned)) x h.sent h)
-    (λ h. sent (λ x. HearsIn two_nodes Tuned 2 x → Contains two_nodes.hearings (record { node = 2; sending = x })) (λ g. contains_head (record { node = 2; sending = first_sending }) []) (λ g. absurd (own_unheard 2 second_sending g.sent refl g.silent)) x h.sent h)
+    (λ h. sent (λ x. HearsIn two_nodes Tuned 1 x → Contains two_nodes.hearings (record { node = 1; sending = x }))
+    (λ g. absurd (own_unheard 1 first_sending g.sent refl g.silent)) (λ g. absurd (false≢true g.tuned)) x h.sent h)
+    (λ h. sent (λ x. HearsIn two_nodes Tuned 2 x → Contains two_nodes.hearings (record { node = 2; sending = x }))
+    (λ g. contains_head (record { node = 2; sending = first_sending }) []) (λ g. absurd (own_unheard 2 second_sending g.sent refl g.silent)) x h.sent h)
     v here h
 
 ended_not_heard : (x y : Sending) → Ended x ≡ Heard y → ⊥
@@ -96,11 +92,17 @@ relay_same : (p q : List ℕ) → Relay p ≡ Relay q → p ≡ q
 relay_same p q is = cc
 
 by_one : (x : Sending) → Relayed two_nodes 1 x → ⊥
-by_one x is = ended_not_heard first_sending is.heard (ap (λ (o : Occasion). o.event) (one_of (record { before = begins two_nodes 1; event = Ended first_sending }) (record { before = is.flood; event = Heard is.heard }) is.occasion))
+by_one x is = ended_not_heard first_sending is.heard
+    (ap (λ (o : Occasion). o.event) (one_of (record { before = begins two_nodes 1; event = Ended first_sending }) (record {
+      before = is.flood;
+      event = Heard is.heard;
+    }) is.occasion))
 
 by_two : (start : ℕ) (p : List ℕ) → Relayed two_nodes 2 (sending_at two_nodes 2 start p) → second_sending ≡ sending_at two_nodes 2 start p
 by_two start p is =
-    elim (one_of_two (record { before = begins two_nodes 2; event = Heard first_sending }) (record { before = after_all (begins two_nodes 2) (Heard first_sending ∷ []); event = Ended second_sending }) (record { before = is.flood; event = Heard is.heard }) is.occasion) [
+    elim (one_of_two (record { before = begins two_nodes 2; event = Heard first_sending })
+    (record { before = after_all (begins two_nodes 2) (Heard first_sending ∷ []); event = Ended second_sending })
+    (record { before = is.flood; event = Heard is.heard }) is.occasion) [
       | inl same ↦
           (let answer : Relay (packet_of 1 1) ≡ Relay p = ap (λ (o : Occasion). reply_to o.before (sending_of o.event).packet) same ∙ is.answer in
           let at : 45056 ≡ start = ap (λ (o : Occasion). (sending_of o.event).end + 12288) same ∙ sym is.start in
@@ -120,25 +122,31 @@ heard_events_one x = (
 heard_events_two : (x : Sending) → Contains (two_nodes.events 2) (Heard x) ↔ Contains two_nodes.hearings (record { node = 2; sending = x })
 heard_events_two x = (
   λ there. elim (one_of_two (Heard first_sending) (Ended second_sending) (Heard x) there) [
-    | inl is ↦ subst (λ (e : Event). Contains two_nodes.hearings (record { node = 2; sending = sending_of e })) is (contains_head (record { node = 2; sending = first_sending }) [])
+    | inl is ↦ subst (λ (e : Event). Contains two_nodes.hearings (record { node = 2; sending = sending_of e })) is
+        (contains_head (record { node = 2; sending = first_sending }) [])
     | inr is ↦ absurd (ended_not_heard second_sending x is)
   ],
-  λ there. (let is = heard_hearing 2 x there in subst (λ (y : Sending). Contains (two_nodes.events 2) (Heard y)) is.1 (contains_head (Heard first_sending) (Ended second_sending ∷ []))),
+  λ there. (let is = heard_hearing 2 x there in subst (λ (y : Sending). Contains (two_nodes.events 2) (Heard y)) is.1
+      (contains_head (Heard first_sending) (Ended second_sending ∷ []))),
 )
 
 ended_events_one : (x : Sending) → Contains (two_nodes.events 1) (Ended x) ↔ (Contains two_nodes.sendings x × (x.node ≡ 1))
 ended_events_one x = (
-  λ there. subst (λ (e : Event). Contains two_nodes.sendings (sending_of e) × ((sending_of e).node ≡ 1)) (one_of (Ended first_sending) (Ended x) there) (contains_head first_sending (second_sending ∷ []), refl),
-  λ is. sent (λ x. x.node ≡ 1 → Contains (two_nodes.events 1) (Ended x)) (λ node. contains_head (Ended first_sending) []) (λ node. absurd (omega arith)) x is.0 is.1,
+  λ there. subst (λ (e : Event). Contains two_nodes.sendings (sending_of e) × ((sending_of e).node ≡ 1)) (one_of (Ended first_sending) (Ended x) there)
+      (contains_head first_sending (second_sending ∷ []), refl),
+  λ is. sent (λ x. x.node ≡ 1 → Contains (two_nodes.events 1) (Ended x)) (λ node. contains_head (Ended first_sending) [])
+      (λ node. absurd (omega arith)) x is.0 is.1,
 )
 
 ended_events_two : (x : Sending) → Contains (two_nodes.events 2) (Ended x) ↔ (Contains two_nodes.sendings x × (x.node ≡ 2))
 ended_events_two x = (
   λ there. elim (one_of_two (Heard first_sending) (Ended second_sending) (Ended x) there) [
     | inl is ↦ absurd (heard_not_ended first_sending x is)
-    | inr is ↦ subst (λ (e : Event). Contains two_nodes.sendings (sending_of e) × ((sending_of e).node ≡ 2)) is (contains_tail first_sending (second_sending ∷ []) second_sending (contains_head second_sending []), refl)
+    | inr is ↦ subst (λ (e : Event). Contains two_nodes.sendings (sending_of e) × ((sending_of e).node ≡ 2)) is
+        (contains_tail first_sending (second_sending ∷ []) second_sending (contains_head second_sending []), refl)
   ],
-  λ is. sent (λ x. x.node ≡ 2 → Contains (two_nodes.events 2) (Ended x)) (λ node. absurd (omega arith)) (λ node. contains_tail (Heard first_sending) (Ended second_sending ∷ []) (Ended second_sending) (contains_head (Ended second_sending) [])) x is.0 is.1,
+  λ is. sent (λ x. x.node ≡ 2 → Contains (two_nodes.events 2) (Ended x)) (λ node. absurd (omega arith))
+      (λ node. contains_tail (Heard first_sending) (Ended second_sending ∷ []) (Ended second_sending) (contains_head (Ended second_sending) [])) x is.0 is.1,
 )
 
 order_one : InOrder (two_nodes.events 1)
@@ -168,11 +176,13 @@ window_two = record {
   only = λ x there time. sent (λ x. Tuned 2 x → x.end ≤ 77824) (λ t. omega arith) (λ t. omega arith) x there;
 }
 
-relayed_by : (v start : ℕ) (p : List ℕ) → takes_part two_nodes v → Relayed two_nodes v (sending_at two_nodes v start p) → Contains two_nodes.sendings (sending_at two_nodes v start p)
+relayed_by : (v start : ℕ) (p : List ℕ) → takes_part two_nodes v → Relayed two_nodes v (sending_at two_nodes v start p)
+    → Contains two_nodes.sendings (sending_at two_nodes v start p)
 relayed_by v start p here is =
     at_nodes (λ v. Relayed two_nodes v (sending_at two_nodes v start p) → Contains two_nodes.sendings (sending_at two_nodes v start p))
     (λ is. absurd (by_one (sending_at two_nodes 1 start p) is))
-    (λ is. subst (λ (y : Sending). Contains two_nodes.sendings y) (by_two start p is) (contains_tail first_sending (second_sending ∷ []) second_sending (contains_head second_sending [])))
+    (λ is. subst (λ (y : Sending). Contains two_nodes.sendings y) (by_two start p is)
+    (contains_tail first_sending (second_sending ∷ []) second_sending (contains_head second_sending [])))
     v here is
 
 pub two_is_run : FloodRun two_nodes Tuned
@@ -193,29 +203,41 @@ two_is_run = record {
     };
     sent = record {
       lasts = lasting;
-      begun = λ o is. subst (λ (v : ℕ). Contains two_nodes.sendings (sending_at two_nodes v 0 (packet_of v 0))) (starter o is) (contains_head first_sending (second_sending ∷ []));
-      beginnings = λ x there. sent (λ x. counter x ≡ 0 → initiates two_nodes x.node × (x.start ≡ 0) × (x.packet ≡ packet_of x.node 0)) (λ at. (refl, refl, refl)) (λ at. absurd (omega arith)) x there;
+      begun = λ o is. subst (λ (v : ℕ). Contains two_nodes.sendings (sending_at two_nodes v 0 (packet_of v 0))) (starter o is)
+          (contains_head first_sending (second_sending ∷ []));
+      beginnings = λ x there. sent (λ x. counter x ≡ 0 → initiates two_nodes x.node × (x.start ≡ 0) × (x.packet ≡ packet_of x.node 0))
+          (λ at. (refl, refl, refl)) (λ at. absurd (omega arith)) x there;
       relayed = relayed_by;
       relays = λ x there. sent (λ x. counter x ≢ 0 → takes_part two_nodes x.node × Relayed two_nodes x.node x) (λ at. absurd (at refl)) (λ at. (
         refl,
         record {
           heard = first_sending;
           flood = begins two_nodes 2;
-          occasion = contains_head (record { before = begins two_nodes 2; event = Heard first_sending }) (record { before = after_all (begins two_nodes 2) (Heard first_sending ∷ []); event = Ended second_sending } ∷ []);
+          occasion = contains_head (record { before = begins two_nodes 2; event = Heard first_sending })
+              (record { before = after_all (begins two_nodes 2) (Heard first_sending ∷ []); event = Ended second_sending } ∷ []);
           answer = refl;
           start = refl;
         },
       )) x there;
     };
     happened = record {
-      heard_events = λ v x here. at_nodes (λ v. Contains (two_nodes.events v) (Heard x) ↔ Contains two_nodes.hearings (record { node = v; sending = x })) (heard_events_one x) (heard_events_two x) v here;
-      ended_events = λ v x here. at_nodes (λ v. Contains (two_nodes.events v) (Ended x) ↔ (Contains two_nodes.sendings x × (x.node ≡ v))) (ended_events_one x) (ended_events_two x) v here;
+      heard_events = λ v x here. at_nodes
+          (λ v. Contains (two_nodes.events v) (Heard x) ↔ Contains two_nodes.hearings (record { node = v; sending = x })) (heard_events_one x)
+          (heard_events_two x) v here;
+      ended_events = λ v x here. at_nodes (λ v. Contains (two_nodes.events v) (Ended x) ↔ (Contains two_nodes.sendings x × (x.node ≡ v)))
+          (ended_events_one x) (ended_events_two x) v here;
       in_order = λ v here. at_nodes (λ v. InOrder (two_nodes.events v)) order_one order_two v here;
     };
-    heard_sent = λ v x here there. (let is = heard_hearing v x there in subst (λ (y : Sending). Contains two_nodes.sendings y) is.1 (contains_head first_sending (second_sending ∷ [])));
+    heard_sent = λ v x here there.
+        (let is = heard_hearing v x there in subst (λ (y : Sending). Contains two_nodes.sendings y) is.1 (contains_head first_sending (second_sending ∷ [])));
     turned = λ v x here there time. omega arith;
   };
-  hears = λ v x here. (λ there. (let is = heard_hearing v x there in subst (λ (w : ℕ). HearsIn two_nodes Tuned w x) is.0 (subst (λ (y : Sending). HearsIn two_nodes Tuned 2 y) is.1 hears_first)), hears_only v x here);
+  hears = λ v x here. (
+    λ there.
+        (let is = heard_hearing v x there in subst (λ (w : ℕ). HearsIn two_nodes Tuned w x) is.0
+        (subst (λ (y : Sending). HearsIn two_nodes Tuned 2 y) is.1 hears_first)),
+    hears_only v x here,
+  );
   tuned = λ v here. at_nodes (λ v. TunedByCount two_nodes Tuned v)
       (tuned_in_window two_nodes Tuned 1 0 540672 lasts_some window_one (λ z. (ended_events_one z).0))
       (tuned_in_window two_nodes Tuned 2 0 540672 lasts_some window_two (λ z. (ended_events_two z).0)) v here;

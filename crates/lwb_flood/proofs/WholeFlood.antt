@@ -1,5 +1,6 @@
 -- From the first step to the last.
-use Rattle.std.proofs.Common.{◌≡◌, ℕ, zero, suc, ◌≤◌, ◌↔◌, List, [], ◌∷◌, ◌++◌, Bool, true, false, if◌then◌else◌, Option, Some, None, option_map, refl, sym, ◌∙◌, ap, subst, arith}
+use Rattle.std.proofs.Common.{◌≡◌, ℕ, zero, suc, ◌≤◌, ◌↔◌, List, [], ◌∷◌, ◌++◌, Bool, true, false, if◌then◌else◌, Option, Some, None, option_map, refl, sym}
+use Rattle.std.proofs.Common.{◌∙◌, ap, subst, arith}
 use Rattle.std.specs.Prelude.{Contains}
 use Rattle.std.proofs.lemmas.Bool.{true≢false, cond-true}
 use Rattle.std.proofs.lemmas.List.{append-nil}
@@ -15,25 +16,36 @@ use Rattle.lwb_flood.specs.FloodBySteps.{SendsOnAir, HearsOnAir, ended, IsFloodB
 use Rattle.air_log.proofs.Elements.{not_in_none, contains_head}
 use Rattle.bus_model.proofs.Options.{some_injective}
 use Rattle.glossy_relay.proofs.CountedPackets.{counter_set}
+use Rattle.bus_model.proofs.FirstHearings.{first_hearing, kept_hearing, heard_in_time}
+use Rattle.lwb_flood.proofs.NextSteps.{step_on}
 use Rattle.lwb_flood.proofs.SendingTimes.{timed, message_is, long, counter_is, same_origin, event_sent, occasion_event, same_sending}
 use Rattle.lwb_flood.proofs.Stations.{of_parts, spell, station}
-use Rattle.bus_model.proofs.FirstHearings.{first_hearing, kept_hearing, heard_in_time}
-use Rattle.lwb_flood.proofs.StepHearings.{heard_by_rule, SentIn, Turn, IsAt, hearing_from}
-use Rattle.lwb_flood.proofs.NextSteps.{heard_once, parts_of, hears_is, current, occasion_now, heard_event, step_on}
+use Rattle.lwb_flood.proofs.StepHearings.{heard_by_rule, hearing_from}
+use Rattle.lwb_flood.proofs.StepOccasions.{heard_event, heard_once, parts_of, hears_is, current, occasion_now}
+use Rattle.lwb_flood.proofs.StepsOnAir.{SentIn, Turn, IsAt}
 
 begun_parts : (b : Bool) (v o : ℕ) → (if b then Some v else None) ≡ Some o → (b ≡ true) × (v ≡ o)
 begun_parts true v o is = (refl, some_injective v o is)
 begun_parts false v o is = absurd (cc)
 
 begun_station : (kind : Kind) (limit slot : ℕ) (b : Bool) (message : List ℕ) (spelled : ℕ × ℕ → List ℕ) (v : ℕ)
-    → ◌≡◌ {A = FloodState} (record { kind = kind; slot = slot; limit = limit; sent = 0; waiting = b; initiated = b; first = if b then Some message else None }) (of_parts kind limit slot b message spelled 0 (if b then Some v else None) None)
+    → ◌≡◌ {A = FloodState} (record {
+      kind = kind;
+      slot = slot;
+      limit = limit;
+      sent = 0;
+      waiting = b;
+      initiated = b;
+      first = if b then Some message else None;
+    }) (of_parts kind limit slot b message spelled 0 (if b then Some v else None) None)
 begun_station kind limit slot true message spelled v = refl
 begun_station kind limit slot false message spelled v = refl
 
 some_pair : (a b : List ℕ × ℕ) → Some a ≡ Some b → a ≡ b
 some_pair a b is = cc
 
-first_kept : (kind : Kind) (limit slot : ℕ) (b : Bool) (message : List ℕ) (spelled : ℕ × ℕ → List ℕ) (times : ℕ) (sends : Option ℕ) (heard : Option (ℕ × ℕ)) → b ≡ false
+first_kept : (kind : Kind) (limit slot : ℕ) (b : Bool) (message : List ℕ) (spelled : ℕ × ℕ → List ℕ) (times : ℕ) (sends : Option ℕ)
+    (heard : Option (ℕ × ℕ)) → b ≡ false
     → accepted_of (of_parts kind limit slot b message spelled times sends heard) ≡ option_map {U = List ℕ × ℕ} (λ h. (spelled h, counter_of (spelled h))) heard
 first_kept kind limit slot true message spelled times sends heard is = absurd (true≢false is)
 first_kept kind limit slot false message spelled times sends None is = refl
@@ -128,9 +140,13 @@ module _ (r : Run) (Tuned : ℕ → Sending → Type 0) (f : FloodRun r Tuned) w
           let event : Contains (r.events v) (Heard x) = occasion_event (begins r v) (r.events v) (record { before = h.flood; event = Heard x }) h.occasion in
           let air = heard_by_rule r Tuned f v x here event in
           let step = counter_is r f.times o k x begun h.packet in
-          let now : h.flood ≡ station r (moment s k) v = current r Tuned f k few (moment s k) at v here (record { before = h.flood; event = Heard x }) h.occasion step in
+          let now : h.flood ≡ station r (moment s k) v = current r Tuned f k few (moment s k) at v here (record {
+            before = h.flood;
+            event = Heard x;
+          }) h.occasion step in
           let fitting : fits (station r (moment s k) v) x.packet ≡ true = subst (λ (w : FloodState). fits w x.packet ≡ true) now h.fitting in
-          hears_is r Tuned f k few (moment s k) at v o x here air step begun h.packet ∙ cond-true (fits (station r (moment s k) v) x.packet) (Some o) None fitting
+          hears_is r Tuned f k few (moment s k) at v o x here air step begun h.packet
+          ∙ cond-true (fits (station r (moment s k) v) x.packet) (Some o) None fitting
 
       fit_of : (b : Bool) → (if b then Some o else None) ≡ Some o → b ≡ true
       fit_of true is = refl
@@ -144,14 +160,16 @@ module _ (r : Run) (Tuned : ℕ → Sending → Type 0) (f : FloodRun r Tuned) w
           record {
             sending = z.sending;
             flood = station r (moment s k) v;
-            occasion = occasion_now r Tuned f k few (moment s k) at v z.sending here (heard_event r Tuned f k few (moment s k) at v z.sending here z.hears) z.step;
+            occasion = occasion_now r Tuned f k few (moment s k) at v z.sending here
+                (heard_event r Tuned f k few (moment s k) at v z.sending here z.hears) z.step;
             fitting = fit_of (fits (station r (moment s k) v) z.sending.packet) (sym got ∙ is);
             packet = z.packet;
           }
 
   -- the end
   last_state : (v : ℕ) → takes_part r v → (t : Turn r 12 v (moment s 12)) (rest : List Event) → t.rest ≡ rest → ended r v ≡ station r (moment s 12) v
-  last_state v here t [] is = ap (λ (l : List Event). after_all (begins r v) l) (t.whole ∙ ap (λ (l : List Event). t.before ++ l) is ∙ append-nil t.before) ∙ t.state
+  last_state v here t [] is = ap (λ (l : List Event). after_all (begins r v) l)
+      (t.whole ∙ ap (λ (l : List Event). t.before ++ l) is ∙ append-nil t.before) ∙ t.state
   last_state v here t (e ∷ es) is =
       let there : Contains t.rest e = subst (λ (l : List Event). Contains l e) (sym is) (contains_head e es) in
       let more = t.later e there in
@@ -162,8 +180,11 @@ module _ (r : Run) (Tuned : ℕ → Sending → Type 0) (f : FloodRun r Tuned) w
   ended_is : (v : ℕ) → takes_part r v → ended r v ≡ station r (moment s 12) v
   ended_is v here = let t = (at_step 12 (omega arith)).turns v here in last_state v here t t.rest refl
 
-  accepted_is : (v : ℕ) → takes_part r v → has s.initiators v ≡ false → accepted_of (ended r v) ≡ option_map {U = List ℕ × ℕ} (λ h. (spell r h, counter_of (spell r h))) ((moment s 12).heard v)
-  accepted_is v here listens = ap (λ (w : FloodState). accepted_of w) (ended_is v here) ∙ first_kept r.kind s.limit r.slot (has s.initiators v) (r.message v) (spell r) ((moment s 12).times v) ((moment s 12).sends v) ((moment s 12).heard v) listens
+  accepted_is : (v : ℕ) → takes_part r v → has s.initiators v ≡ false
+      → accepted_of (ended r v) ≡ option_map {U = List ℕ × ℕ} (λ h. (spell r h, counter_of (spell r h))) ((moment s 12).heard v)
+  accepted_is v here listens = ap (λ (w : FloodState). accepted_of w) (ended_is v here)
+      ∙ first_kept r.kind s.limit r.slot (has s.initiators v) (r.message v) (spell r) ((moment s 12).times v) ((moment s 12).sends v)
+      ((moment s 12).heard v) listens
 
   known : (v : ℕ) (h : ℕ × ℕ) → (moment s 12).heard v ≡ Some h → initiates r h.0
   known v h is = ((at_step 12 (omega arith)).heard v h is).0
@@ -171,19 +192,33 @@ module _ (r : Run) (Tuned : ℕ → Sending → Type 0) (f : FloodRun r Tuned) w
   counter_of_spelled : (h : ℕ × ℕ) → initiates r h.0 → counter_of (spell r h) ≡ h.1
   counter_of_spelled h begun = counter_set (r.message h.0) h.1 (long r f.times h.0 begun)
 
-  accepts_only : (v : ℕ) (p : List ℕ) (k : ℕ) → takes_part r v → has s.initiators v ≡ false → accepted_of (ended r v) ≡ Some (p, k) → (o : ℕ) × initiates r o × (p ≡ packet r o k) × Accepts s v o k
+  accepts_only : (v : ℕ) (p : List ℕ) (k : ℕ) → takes_part r v → has s.initiators v ≡ false → accepted_of (ended r v) ≡ Some (p, k)
+      → (o : ℕ) × initiates r o × (p ≡ packet r o k) × Accepts s v o k
   accepts_only v p k here listens is = by_cases ((moment s 12).heard v) refl (sym (accepted_is v here listens) ∙ is)
     where
-      by_cases : (h : Option (ℕ × ℕ)) → (moment s 12).heard v ≡ h → option_map {U = List ℕ × ℕ} (λ h. (spell r h, counter_of (spell r h))) h ≡ Some (p, k) → (o : ℕ) × initiates r o × (p ≡ packet r o k) × Accepts s v o k
+      by_cases : (h : Option (ℕ × ℕ)) → (moment s 12).heard v ≡ h
+          → option_map {U = List ℕ × ℕ} (λ h. (spell r h, counter_of (spell r h))) h ≡ Some (p, k)
+          → (o : ℕ) × initiates r o × (p ≡ packet r o k) × Accepts s v o k
       by_cases None at is = absurd (cc)
       by_cases (Some h) at is =
           let begun = known v h at in
           let pair : (spell r h, counter_of (spell r h)) ≡ (p, k) = some_pair (spell r h, counter_of (spell r h)) (p, k) is in
           let step : h.1 ≡ k = sym (counter_of_spelled h begun) ∙ ap (λ (q : List ℕ × ℕ). q.1) pair in
-          let first = first_hearing s 12 v h at in
-          (h.0, begun, sym (ap (λ (q : List ℕ × ℕ). q.0) pair) ∙ ap (λ (i : ℕ). packet r h.0 i) step, subst (λ (i : ℕ). Accepts s v h.0 i) step (record { here = here; listens = listens; hears = first.hears; first = λ i less. first.none i less h.0 }))
+          let first = first_hearing s 12 v h at in (
+            h.0,
+            begun,
+            sym (ap (λ (q : List ℕ × ℕ). q.0) pair)
+                ∙ ap (λ (i : ℕ). packet r h.0 i) step,
+            subst (λ (i : ℕ). Accepts s v h.0 i) step (record {
+              here = here;
+              listens = listens;
+              hears = first.hears;
+              first = λ i less. first.none i less h.0;
+            }),
+          )
 
-  accepts_on_air : (v k o : ℕ) → takes_part r v → has s.initiators v ≡ false → initiates r o → accepted_of (ended r v) ≡ Some (packet r o k, k) ↔ Accepts s v o k
+  accepts_on_air : (v k o : ℕ) → takes_part r v → has s.initiators v ≡ false → initiates r o → accepted_of (ended r v) ≡ Some (packet r o k, k)
+      ↔ Accepts s v o k
   accepts_on_air v k o here listens begun = (there, back)
     where
       there : accepted_of (ended r v) ≡ Some (packet r o k, k) → Accepts s v o k

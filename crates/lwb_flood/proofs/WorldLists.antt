@@ -1,5 +1,6 @@
 -- The lists of a flood's world after a change: its nodes, and its log with one entry more.
-use Rattle.std.proofs.Common.{◌≡◌, ◌≢◌, ℕ, zero, suc, ◌≤◌, ◌<◌, List, [], ◌∷◌, ◌++◌, map, take, Option, Some, None, ◌==◌, ◌+◌, inl, inr, refl, sym, ◌∙◌, ap, subst, arith, length, get_or, eq-eqb}
+use Rattle.std.proofs.Common.{◌≡◌, ◌≢◌, ℕ, zero, suc, ◌≤◌, ◌<◌, List, [], ◌∷◌, ◌++◌, map, Option, Some, None, ◌==◌, ◌+◌, inl, inr, refl, sym, ◌∙◌, ap}
+use Rattle.std.proofs.Common.{subst, arith, length, get_or, eq-eqb}
 use Rattle.std.specs.Prelude.{Contains, AllPairs, ◌⊎◌}
 use Rattle.std.specs.List.{cons_option}
 use Rattle.std.proofs.lemmas.Bool.{cond_both, cond-true, cond-false, eqb-true, eqb-false, ne_eqb}
@@ -34,21 +35,27 @@ one_of_mark g (x ∷ xs) distinct a b there_a there_b same =
 
 -- nodes after a change at one of them
 module _ (v : ℕ) (change : Member → Member) (ms : List Member) where
-  pub each_changed : (P : Member → Type 0) → ((m : Member) → Contains ms m → m.node ≡ v → P (change m)) → ((m : Member) → Contains ms m → m.node ≢ v → P m) → (m : Member) → Contains (with_change v change ms) m → P m
+  pub each_changed : (P : Member → Type 0) → ((m : Member) → Contains ms m → m.node ≡ v → P (change m))
+      → ((m : Member) → Contains ms m → m.node ≢ v → P m) → (m : Member) → Contains (with_change v change ms) m → P m
   each_changed P here other m there =
       let was = map_from (changed_at v change) ms m there in
-      subst P was.2 (cond_both (was.0.node == v) (change was.0) was.0 P (λ is. here was.0 was.1 (eqb-true was.0.node v is)) (λ not. other was.0 was.1 (eqb-false was.0.node v not)))
+      subst P was.2 (cond_both (was.0.node == v) (change was.0) was.0 P (λ is. here was.0 was.1 (eqb-true was.0.node v is))
+      (λ not. other was.0 was.1 (eqb-false was.0.node v not)))
 
   pub changed_there : (m : Member) → Contains ms m → m.node ≡ v → Contains (with_change v change ms) (change m)
-  changed_there m there is = subst (λ (n : Member). Contains (with_change v change ms) n) (cond-true (m.node == v) (change m) m (eq-eqb m.node v is)) (map_contains (changed_at v change) ms m there)
+  changed_there m there is = subst (λ (n : Member). Contains (with_change v change ms) n) (cond-true (m.node == v) (change m) m (eq-eqb m.node v is))
+      (map_contains (changed_at v change) ms m there)
 
   pub same_there : (m : Member) → Contains ms m → m.node ≢ v → Contains (with_change v change ms) m
-  same_there m there not = subst (λ (n : Member). Contains (with_change v change ms) n) (cond-false (m.node == v) (change m) m (ne_eqb m.node v not)) (map_contains (changed_at v change) ms m there)
+  same_there m there not = subst (λ (n : Member). Contains (with_change v change ms) n) (cond-false (m.node == v) (change m) m (ne_eqb m.node v not))
+      (map_contains (changed_at v change) ms m there)
 
-pub nodes_kept : (v : ℕ) (change : Member → Member) → ((m : Member) → (change m).node ≡ m.node) → (ms : List Member) → map node_of (with_change v change ms) ≡ map node_of ms
+pub nodes_kept : (v : ℕ) (change : Member → Member) → ((m : Member) → (change m).node ≡ m.node) → (ms : List Member)
+    → map node_of (with_change v change ms) ≡ map node_of ms
 nodes_kept v change keeps [] = refl
 nodes_kept v change keeps (m ∷ ms) =
-    ap (λ (n : ℕ). n ∷ map node_of (with_change v change ms)) (cond_both (m.node == v) (change m) m (λ (n : Member). n.node ≡ m.node) (λ _. keeps m) (λ _. refl))
+    ap (λ (n : ℕ). n ∷ map node_of (with_change v change ms))
+    (cond_both (m.node == v) (change m) m (λ (n : Member). n.node ≡ m.node) (λ _. keeps m) (λ _. refl))
     ∙ ap (λ (l : List ℕ). m.node ∷ l) (nodes_kept v change keeps ms)
 
 -- a log with one entry more
@@ -90,14 +97,18 @@ module _ (air : List Entry) (u t : ℕ) where
   events_tuned v = filter_map-append (event_in v) air (tuned_entry u t ∷ []) ∙ append-nil (events_in air v)
 
 -- an event more
-pub occasion_more : (s : FloodState) (es : List Event) (e : Event) → occasions s (es ++ e ∷ []) ≡ occasions s es ++ record { before = after_all s es; event = e } ∷ []
+pub occasion_more : (s : FloodState) (es : List Event) (e : Event)
+    → occasions s (es ++ e ∷ []) ≡ occasions s es ++ record { before = after_all s es; event = e } ∷ []
 occasion_more s es e = occasions_append s es (e ∷ [])
 
 pub occasion_kept : (s : FloodState) (es fs : List Event) (o : Occasion) → Contains (occasions s es) o → Contains (occasions s (es ++ fs)) o
-occasion_kept s es fs o there = subst (λ (l : List Occasion). Contains l o) (sym (occasions_append s es fs)) (Contains-append_left (occasions s es) (occasions (after_all s es) fs) o there)
+occasion_kept s es fs o there = subst (λ (l : List Occasion). Contains l o) (sym (occasions_append s es fs))
+    (Contains-append_left (occasions s es) (occasions (after_all s es) fs) o there)
 
-pub occasion_cases : (s : FloodState) (es : List Event) (e : Event) (o : Occasion) → Contains (occasions s (es ++ e ∷ [])) o → Contains (occasions s es) o ⊎ (record { before = after_all s es; event = e } ≡ o)
-occasion_cases s es e o there = Contains-push_cases (occasions s es) (record { before = after_all s es; event = e }) o (subst (λ (l : List Occasion). Contains l o) (occasion_more s es e) there)
+pub occasion_cases : (s : FloodState) (es : List Event) (e : Event) (o : Occasion) → Contains (occasions s (es ++ e ∷ [])) o
+    → Contains (occasions s es) o ⊎ (record { before = after_all s es; event = e } ≡ o)
+occasion_cases s es e o there = Contains-push_cases (occasions s es) (record { before = after_all s es; event = e }) o
+    (subst (λ (l : List Occasion). Contains l o) (occasion_more s es e) there)
 
 -- pairs with one element more
 pub pairs_push : {X : Type 0} (R : X → X → Type 0) (xs : List X) (y : X) → AllPairs R xs → ((x : X) → Contains xs x → R x y) → AllPairs R (xs ++ y ∷ [])
@@ -108,5 +119,6 @@ pairs_push R xs y all last = all_pairs_push R xs y all (λ k d less. last (get_o
     same (y ∷ ys) zero d e less = refl
     same (y ∷ ys) (suc k) d e less = same ys k d e (omega arith)
 
-pub in_order_push : (es : List Event) (e : Event) → InOrder es → ((d : Event) → Contains es d → ((sending_of d).end ≤ (sending_of e).end) × (d ≢ e)) → InOrder (es ++ e ∷ [])
+pub in_order_push : (es : List Event) (e : Event) → InOrder es → ((d : Event) → Contains es d → ((sending_of d).end ≤ (sending_of e).end) × (d ≢ e))
+    → InOrder (es ++ e ∷ [])
 in_order_push es e order last = pairs_push (λ d e. ((sending_of d).end ≤ (sending_of e).end) × (d ≢ e)) es e order last

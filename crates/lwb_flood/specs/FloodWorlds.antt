@@ -1,5 +1,6 @@
 -- The world of one flood: its medium, what each node is about, and the log so far. And what changes in it, and when.
-use Rattle.std.specs.Prelude.{◌≡◌, ℕ, ◌+◌, ◌^◌, ◌<◌, ◌≤◌, ◌⊎◌, List, [], ◌∷◌, ◌++◌, map, All, AllPairs, Contains, ◌↔◌, Bool, true, false, not, ◌&&◌, ◌||◌, ◌==◌, nat_lt, if◌then◌else◌, Some, None}
+use Rattle.std.specs.Prelude.{◌≡◌, ℕ, ◌+◌, ◌^◌, ◌<◌, ◌≤◌, ◌⊎◌, List, [], ◌∷◌, ◌++◌, map, All, AllPairs, Contains, ◌↔◌, Bool, true, false, not, ◌&&◌, ◌||◌, ◌==◌}
+use Rattle.std.specs.Prelude.{nat_lt, if◌then◌else◌, Some, None}
 use Rattle.std.specs.declared.option.Option.{Option}
 use Rattle.std.specs.List.{list_any}
 use Rattle.std.specs.Option.{IfSome}
@@ -155,7 +156,8 @@ readings_at R (c ∷ cs) (u ∷ us) v = if u == v then R c else readings_at R cs
 -- these nodes hear a sending that ends: by the rule of the air, in a scene that the medium holds
 pub record IsHeardBy (lines : Lines) (x : Sending) (w : World) (vs : List ℕ) : Type 0 where
   pub ascending : AllPairs (λ u v. u < v) vs
-  pub hearers : (a : Scene) → Holds w.medium a → a.lines ≡ lines → (v : ℕ) → Contains vs v ↔ (Contains (nodes_of w.medium) v × Hears (as_it_stands w.medium x.end a) v x)
+  pub hearers : (a : Scene) → Holds w.medium a → a.lines ≡ lines → (v : ℕ) → Contains vs v
+      ↔ (Contains (nodes_of w.medium) v × Hears (as_it_stands w.medium x.end a) v x)
 
 pub record CanEnd (lines : Lines) (w : World) (m : Member) (x : Sending) : Type 0 where
   pub node : x.node ≡ m.node

@@ -1,29 +1,27 @@
 //! The world of a flood, and what changes in it.
 
-ghost use Rattle.std.specs.Prelude.{◌≡◌, ◌++◌, List, ℕ, ◌<◌, ◌≤◌, ◌^◌, OnOk, IfSome, IfNone, All, Contains, ◌↔◌, AllPairs, length, map, slice_index_or, Some, None, true, if◌then◌else◌};
+ghost use Rattle.std.specs.Prelude.{◌≡◌, ◌<◌, ◌≤◌, ◌^◌, OnOk, IfSome, IfNone, All, Contains, length, map, slice_index_or, Some, None, true, if◌then◌else◌};
 ghost use Rattle.lwb_base.specs.Profile.{one};
-ghost use Rattle.link_trace.specs.Sealed.{Traced};
 ghost use Rattle.radio_model.specs.declared.sending.Sending.{Sending};
-ghost use Rattle.radio_model.specs.Hearing.{Scene, Hears};
-ghost use Rattle.radio_model.specs.Holding.{Holds, as_it_stands};
-ghost use Rattle.radio_model.specs.Stations.{MediumState, IsTime, Ends, nodes_of, sending_of, station_of};
+ghost use Rattle.radio_model.specs.Hearing.{Scene};
+ghost use Rattle.radio_model.specs.Holding.{Holds};
+ghost use Rattle.radio_model.specs.Stations.{IsTime, Ends, nodes_of, sending_of, station_of};
 ghost use Rattle.air_log.specs.FloodLaw.{sending_at};
-ghost use Rattle.lwb_flood.specs.FloodWorlds.{World, node_of, moment_of, NotAfter, IsNext, begun, gone, own_ended, ended, heard, is_last, with_change, with_act, sooner as sooner_of, comes_before as comes_before_of, hearing_by, after_own, heard_by_all, readings_at, Ended, CanStep, Stepped, closed_by, closed_all};
+ghost use Rattle.lwb_flood.specs.FloodWorlds.{World, node_of, moment_of, IsNext, begun, gone, heard, sooner as sooner_of, comes_before as comes_before_of, heard_by_all, readings_at, Ended, CanStep, Stepped, closed_by, closed_all};
 ghost use Rattle.air_log.specs.Entries.{sent_entry as sent_entry_of, heard_entry as heard_entry_of};
 ghost use Rattle.lwb_flood.specs.declared.member.Member.{Member};
-ghost use Rattle.glossy_relay.specs.declared.flood.After.TheVariants.{More, Off as After_Off};
-ghost use Rattle.lwb_flood.specs.declared.member.Act.{Act as ActOf};
+ghost use Rattle.glossy_relay.specs.declared.flood.After.TheVariants.{More};
 
+use crate::flood_nodes::{end_own, hear_at, place_of, set_act};
 use crate::member::{Act, Member, copy_of_act, is_off};
 use air_log::{Air, Entry, HeardEntry, SentEntry, TunedEntry};
-use glossy_relay::{After, Reply};
+use glossy_relay::After;
 use link_trace::Trace;
 use lwb_base::{Memory, NodeId, Packet, Profile, Rank};
 use radio_model::sending::Sending;
 use radio_model::{Hearers, Medium};
 use std::marker::Model;
-use std::mem;
-use tick_clock::{DriftClock, turn_bounds};
+use tick_clock::DriftClock;
 
 // The true tick at which the nodes tune in.
 const OPENING: u64 = 1_344_000_000;
@@ -278,56 +276,4 @@ fn heard_entry(node: NodeId, x: &Sending) -> Entry
         end: x.end,
         packet: x.packet.copy(),
     })
-}
-
-// What the node is about from now on.
-fn set_act(members: &mut Vec<Member>, node: NodeId, act: Act)
-    requires node { Contains (map node_of members.old.items) node }
-    requires ascend { AllPairs (λ a b. a < b) (map node_of members.old.items) }
-    ensures { members.new.items ≡ with_change node (with_act act) members.old.items }
-{
-    let place = place_of(members, node);
-    members[place].act = act;
-}
-
-// The node's sending ended.
-fn end_own(members: &mut Vec<Member>, node: NodeId) -> After
-    requires node { Contains (map node_of members.old.items) node }
-    requires ascend { AllPairs (λ a b. a < b) (map node_of members.old.items) }
-    requires waits { All (λ m. m.node ≡ node → m.flood.waiting ≡ true) members.old.items }
-    ensures last { result ≡ (if is_last node members.old.items then After_Off else More) }
-    ensures members { members.new.items ≡ with_change node after_own members.old.items }
-{
-    let place = place_of(members, node);
-    let member = &mut members[place];
-    member.act = Act::Listens;
-    member.flood.sent()
-}
-
-// The node at that place hears a sending that has ended.
-fn hear_at<C: DriftClock>(members: &mut Vec<Member>, place: usize, clock: &C, x: &Sending)
-    requires place { place < length members.old.items }
-    requires ascend { AllPairs (λ a b. a < b) (map node_of members.old.items) }
-    requires early { x.now.end ≤ 2 ^ 45 }
-    ensures { (d : Member) → members.new.items ≡ with_change (slice_index_or members.old.items place d).node (hearing_by (C.readings clock.now) x.now) members.old.items }
-{
-    let member = &mut members[place];
-    match member.flood.heard(&x.packet) {
-        Reply::Relay(packet) => member.act = Act::Waits(turn_bounds(clock, x.end), packet),
-        Reply::Keep | Reply::Ignore => {}
-    }
-}
-
-// The place of a node.
-fn place_of(members: &[Member], node: NodeId) -> usize
-    requires { Contains (map node_of members.now) node }
-    ensures below { result < length members.now }
-    ensures there { (d : Member) → (slice_index_or members.now result d).node ≡ node }
-{
-    for (i, member) in members.iter().enumerate() {
-        if member.node == node {
-            return i;
-        }
-    }
-    unreachable!()
 }

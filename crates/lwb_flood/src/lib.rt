@@ -6,6 +6,7 @@
 mod flood_beginning;
 pub mod flood_laws;
 pub mod flood_log_laws;
+mod flood_nodes;
 mod flood_outcome;
 mod flood_world;
 mod member;

@@ -2,15 +2,15 @@
 //! it accepted, and what the end of a frame changes.
 #![tactic(auto)]
 
-mod closing;
+mod accepting;
 mod kept;
 pub mod laws;
 mod member;
 mod message;
 mod planning;
-mod slots;
+mod round_end;
 mod speaking;
 
 pub use member::Member;
 pub use message::{Heard, message_in};
-pub use slots::last_slot;
+pub use round_end::last_slot;

@@ -9,7 +9,7 @@ ghost use Rattle.lwb_member.specs.Members.{IsBoot};
 ghost use Rattle.lwb_member.specs.Places.{IsPlaced};
 
 use crate::kept::Kept;
-use crate::slots::last_slot;
+use crate::round_end::last_slot;
 use arrayvec::ArrayVec;
 use bus_rules::{Part, Tune};
 use host_failover::Tuner;

@@ -17,7 +17,7 @@ ghost use Rattle.lwb_member.specs.Planning.{AreAnswers, AreKept, IsEarly};
 
 use crate::kept::Kept;
 use crate::member::Member;
-use crate::slots::last_slot;
+use crate::round_end::last_slot;
 use arrayvec::ArrayVec;
 use host_scheduler::plan_round;
 use lwb_base::{NodeId, Owner, Packet};

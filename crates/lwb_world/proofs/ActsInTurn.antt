@@ -113,5 +113,6 @@ acts_as t p f g xs ks v w dv dw same a = record {
 }
 
 -- from a field that is seen as another
-pub acts_seen : {t p : ℕ} {f : Setup → Device → Device} {xs : List Sending} {ks : List DropLine} {v w x : FieldState} {dv dx : List Due} → v ≡ w → Acts t p f xs ks v dv x dx → Acts t p f xs ks w dv x dx
+pub acts_seen : {t p : ℕ} {f : Setup → Device → Device} {xs : List Sending} {ks : List DropLine} {v w x : FieldState} {dv dx : List Due} → v ≡ w
+    → Acts t p f xs ks v dv x dx → Acts t p f xs ks w dv x dx
 acts_seen {t} {p} {f} {xs} {ks} {v} {w} {x} {dv} {dx} same a = subst (λ (z : FieldState). Acts t p f xs ks z dv x dx) same a

@@ -1,5 +1,6 @@
 -- What is on the air of a run at first, and when time passes and nothing happens.
-use Rattle.std.proofs.Common.{length, ◌≡◌, ℕ, suc, ◌<◌, ◌≤◌, ◌↔◌, inl, inr, List, [], Some, None, Option, option_map, refl, sym, ◌∙◌, ap, subst, arith, Contains, IfSome}
+use Rattle.std.proofs.Common.{length, ◌≡◌, ℕ, suc, ◌<◌, ◌≤◌, ◌↔◌, inl, inr, List, [], Some, None, Option, option_map, refl, sym, ◌∙◌, ap, subst, arith}
+use Rattle.std.proofs.Common.{Contains, IfSome}
 use Rattle.std.proofs.lemmas.Bool.{cases_lt}
 use Rattle.std.proofs.lemmas.Option.{same_Some}
 use Rattle.radio_model.specs.declared.sending.Sending.{Sending}
@@ -71,13 +72,15 @@ module _ (s : ScenarioParts) (w : FieldState) (due : List Due) (is : IsFirst s w
   }
 
 -- a tuning that lasts
-goes_on : (tuned : Option Tuned) (l : Option Listening) (r k : ℕ) → option_map rank_of tuned ≡ option_map channel_of l → IfSome tuned (λ o. o.since ≤ k) → listened r k l → Goes tuned r k
+goes_on : (tuned : Option Tuned) (l : Option Listening) (r k : ℕ) → option_map rank_of tuned ≡ option_map channel_of l
+    → IfSome tuned (λ o. o.since ≤ k) → listened r k l → Goes tuned r k
 goes_on None None r k same since on = on
 goes_on None (Some l) r k same since on = cc
 goes_on (Some o) None r k same since on = absurd on
 goes_on (Some o) (Some l) r k same since on = (same_Some o.rank l.rank same ∙ on.0, since)
 
-listens_on : (tuned : Option Tuned) (l : Option Listening) (r k : ℕ) → option_map rank_of tuned ≡ option_map channel_of l → IfSome l (λ l. l.since ≤ k) → Goes tuned r k → listened r k l
+listens_on : (tuned : Option Tuned) (l : Option Listening) (r k : ℕ) → option_map rank_of tuned ≡ option_map channel_of l → IfSome l (λ l. l.since ≤ k)
+    → Goes tuned r k → listened r k l
 listens_on None l r k same since on = absurd on
 listens_on (Some o) None r k same since on = cc
 listens_on (Some o) (Some l) r k same since on = (sym (same_Some o.rank l.rank same) ∙ on.0, since)
@@ -96,7 +99,8 @@ pub heard_alike : (s : ScenarioParts) (t : ℕ) (w : FieldState) (due : List Due
     → (v : ℕ) (x : Sending) → Contains (sendings_of w.air) x → x.end ≤ t → Hears b v x ↔ Hears c v x
 heard_alike s t w due a b c h agree v x there over = settled b c v x (h.begun x there).0 (agree_earlier x.end t b c over agree)
 
-module _ (s : ScenarioParts) (t u : ℕ) (w : FieldState) (due : List Due) (a : Scene) (h : HoldsScene s t w due a) (later : t ≤ u) (time : IsTime w.medium u) (field : IsField w) (all : AreTuned t w due) where
+module _ (s : ScenarioParts) (t u : ℕ) (w : FieldState) (due : List Due) (a : Scene) (h : HoldsScene s t w due a) (later : t ≤ u)
+    (time : IsTime w.medium u) (field : IsField w) (all : AreTuned t w due) where
   waits : Agree t (as_it_stands w.medium t a) (as_it_stands w.medium u a)
   waits = by_waiting w.medium t u a later
 
@@ -124,7 +128,8 @@ module _ (s : ScenarioParts) (t u : ℕ) (w : FieldState) (due : List Due) (a : 
       where
         of_station : Lasts w.medium q.id r k → listened r k d.listening
         of_station lasts =
-            let one : lasts.station ≡ station = same_Some lasts.station station (sym (found_member w.medium.stations lasts.station field.medium.nodes.ascending lasts.there) ∙ ap (station_of w.medium) lasts.node ∙ there) in
+            let one : lasts.station ≡ station = same_Some lasts.station station
+            (sym (found_member w.medium.stations lasts.station field.medium.nodes.ascending lasts.there) ∙ ap (station_of w.medium) lasts.node ∙ there) in
             listens_on station.tuned d.listening r k same (began_by t k d.listening from by.since) (subst (λ (st : Station). Goes st.tuned r k) one lasts.goes)
 
     back : WasTuned d r k → IsTuned (as_it_stands w.medium u a) q.id r k
@@ -135,11 +140,14 @@ module _ (s : ScenarioParts) (t u : ℕ) (w : FieldState) (due : List Due) (a : 
             station = station;
             there = found.0;
             node = found.1;
-            goes = goes_on station.tuned d.listening r k same (since_by w.medium.now k station.tuned station.last (let by_now = h.time.later in omega (arith, by_now, from)) (h.held.orderly station found.0).tunings) goes;
+            goes = goes_on station.tuned d.listening r k same
+                (since_by w.medium.now k station.tuned station.last (let by_now = h.time.later in omega (arith, by_now, from))
+                (h.held.orderly station found.0).tunings) goes;
           })
         ]
 
-  place_later : (q : Setup) (p : ℕ) (d : Device) → Shows q t w due p d → HasTunedBy t d → (r k : ℕ) → k < u → IsTuned (as_it_stands w.medium u a) q.id r k ↔ WasTuned d r k
+  place_later : (q : Setup) (p : ℕ) (d : Device) → Shows q t w due p d → HasTunedBy t d → (r k : ℕ) → k < u
+      → IsTuned (as_it_stands w.medium u a) q.id r k ↔ WasTuned d r k
   place_later q p d shows by r k early =
       elim (cases_lt k t) [
         | inl before ↦
@@ -185,10 +193,12 @@ module _ (s : ScenarioParts) (t u : ℕ) (w : FieldState) (due : List Due) (a : 
     next = has.next;
   }
     where
-      alike_by : (v : ℕ) (x : Sending) → Contains (sendings_of w.air) x → (Runs w.medium x → ⊥) → Hears (as_it_stands w.medium t a) v x ↔ Hears (as_it_stands w.medium u a) v x
+      alike_by : (v : ℕ) (x : Sending) → Contains (sendings_of w.air) x → (Runs w.medium x → ⊥) → Hears (as_it_stands w.medium t a) v x
+          ↔ Hears (as_it_stands w.medium u a) v x
       alike_by v x there stopped = let before = has.ended x there stopped in heard_alike s t w due a _ _ h waits v x there (omega (arith, before, now))
 
-pub time_passes : (s : ScenarioParts) (over more t u : ℕ) (w : FieldState) (due : List Due) → t ≤ u → over ≤ suc t → over ≤ more → IsTime w.medium u → IsField w → AreTuned t w due
+pub time_passes : (s : ScenarioParts) (over more t u : ℕ) (w : FieldState) (due : List Due) → t ≤ u → over ≤ suc t → over ≤ more → IsTime w.medium u
+    → IsField w → AreTuned t w due
     → IsOnAir s over t w due → IsOnAir s more u w due
 time_passes s over more t u w due later now grows time field all is = record {
   scene = is.scene;

@@ -13,7 +13,7 @@ use Rattle.scenario_text.specs.ScenarioParts.{ScenarioParts}
 use Rattle.scenario_text.specs.ScenarioFacts.{IsSoundScenario}
 use Rattle.bus_rules.specs.Cores.{Setup}
 use Rattle.node_core.specs.Rows.{row}
-use Rattle.node_core.specs.Runs.{orders_by}
+use Rattle.node_core.specs.Rows.{orders_by}
 use Rattle.air_log.specs.Devices.{Device, Power, PowerOff, PowerOn, obeyed, moved, event_by, silenced, tunes, listens_to}
 use Rattle.air_log.specs.Trails.{setup_of, run_end, is_due, one_alarm, alarms, alarmed}
 use Rattle.air_log.specs.AlarmRuns.{IsAlarmRun}
@@ -37,7 +37,8 @@ on_alike rank t d e (x ∷ es) is = cond_both _ _ _ (λ (y : Device). AreAlike y
 listen_alike : (clock : ℕ → ℕ) (v t rank : ℕ) (d : Device) → AreAlike (obeyed clock v t d (Listen rank)) d
 listen_alike clock v t rank d =
     let x = silenced v t d in
-    cond_both (listens_to rank d.listening) d (tunes rank t x x.made.tuned) (λ (y : Device). AreAlike y d) (λ on. (refl, refl)) (λ off. on_alike rank t x d x.made.tuned (refl, refl))
+    cond_both (listens_to rank d.listening) d (tunes rank t x x.made.tuned) (λ (y : Device). AreAlike y d) (λ on. (refl, refl))
+    (λ off. on_alike rank t x d x.made.tuned (refl, refl))
 
 module _ (clock : ℕ → ℕ) (s : Setup) (t : ℕ) where
   order_alike : (d e : Device) (o : Order) → AreAlike d e → AreAlike (obeyed clock s.id t d o) (obeyed clock s.id t e o)
@@ -85,14 +86,16 @@ module _ (clock : ℕ → ℕ) (s : Setup) (t : ℕ) where
       is_run clock s t (is_due t d.alarm) (clock t + 300) d refl (ap (is_due t) (alarmed_alike d e is).1 ∙ run.over)
 
 module _ (s : ScenarioParts) (clocks : ℕ → ℕ → ℕ) (t p : ℕ) (clock : ℕ → ℕ) (own_clock : IsClockAt s clocks p clock) (w : FieldState) (due : List Due)
-    (sound : IsSoundScenario s) (drifts : AreClocks clocks) (within : t < run_end s) (places : HasPlaces s w due) (trails : OnTrails s clocks t (At Alarm) w due) where
+    (sound : IsSoundScenario s) (drifts : AreClocks clocks) (within : t < run_end s) (places : HasPlaces s w due)
+    (trails : OnTrails s clocks t (At Alarm) w due) where
   pub alarms_end : (q : Setup) (d : Device) → Shows q t w due p d → IsAlarmRun clock q t d (alarmed clock q t d)
   alarms_end q d shows =
       let n = node_there s q t w due p d places shows in
       let v = n.0.node in
       let trail = trails p n.0 n.1 in
       let e = trail.device in
-      let of_trail : IsAlarmRun (clocks v) (setup_of s v) t e (alarmed (clocks v) (setup_of s v) t e) = alarm_run s v (clocks v) (heard_by w.air v) t sound (drifts v) within e trail.at in
+      let of_trail : IsAlarmRun (clocks v) (setup_of s v) t e (alarmed (clocks v) (setup_of s v) t e) =
+      alarm_run s v (clocks v) (heard_by w.air v) t sound (drifts v) within e trail.at in
       let by_clock : IsAlarmRun clock (setup_of s v) t e (alarmed clock (setup_of s v) t e) =
       subst (λ (c : ℕ → ℕ). IsAlarmRun c (setup_of s v) t e (alarmed c (setup_of s v) t e)) (sym (own_clock n.0 n.1)) of_trail in
       let by_setup : IsAlarmRun clock q t e (alarmed clock q t e) = subst (λ (x : Setup). IsAlarmRun clock x t e (alarmed clock x t e)) (sym n.2) by_clock in

@@ -1,5 +1,6 @@
 -- What the start of an ordered sending leads to at a device.
-use Rattle.std.proofs.Common.{◌≡◌, ℕ, ◌+◌, List, [], ◌∷◌, ◌++◌, Option, Some, None, inl, inr, refl, sym, ◌∙◌, ap, subst, arith, length, length-append, eq-eqb, ◌==◌}
+use Rattle.std.proofs.Common.{◌≡◌, ℕ, ◌+◌, List, [], ◌∷◌, ◌++◌, Option, Some, None, inl, inr, refl, sym, ◌∙◌, ap, subst, arith, length, length-append, eq-eqb}
+use Rattle.std.proofs.Common.{◌==◌}
 use Rattle.std.specs.Prelude.{◌⊎◌}
 use Rattle.std.specs.Option.{option_map}
 use Rattle.std.proofs.lemmas.Bool.{cond-true}
@@ -9,7 +10,7 @@ use Rattle.bus_rules.specs.Cores.{Setup}
 use Rattle.air_log.specs.Devices.{Device, Listening, Ordered, Made}
 use Rattle.air_log.specs.Trails.{begun, begun_by, starts, sending_from, starting, starting_by}
 use Rattle.air_log.specs.DeviceStates.{DeviceState, whole, with_sent}
-use Rattle.lwb_world.specs.Fields.{tick_of}
+use Rattle.air_log.specs.Courses.{tick_of}
 
 -- an order that is due is gone
 abbrev pub unordered : Device → Device
@@ -42,20 +43,30 @@ module _ (s : Setup) (t : ℕ) where
   begun_at : (d : Device) (o : Ordered) → d.ordered ≡ Some o → o.tick ≡ t → begun s t d ≡ starts s t o.packet d d.listening d.sending
   begun_at d o ordered now = ap (begun_by s t d) ordered ∙ cond-true (o.tick == t) (starts s t o.packet d d.listening d.sending) d (eq-eqb o.tick t now)
 
-  starting_in : (d : Device) (o : Option Ordered) (l : Option Listening) (x : Option Sending) → d.ordered ≡ o → d.listening ≡ l → d.sending ≡ x → starting s t d ≡ starting_by s t o l x
+  starting_in : (d : Device) (o : Option Ordered) (l : Option Listening) (x : Option Sending) → d.ordered ≡ o → d.listening ≡ l → d.sending ≡ x
+      → starting s t d ≡ starting_by s t o l x
   starting_in d o l x ordered listening sending =
-      ap (λ (p : Option Ordered). starting_by s t p d.listening d.sending) ordered ∙ ap (λ (p : Option Listening). starting_by s t o p d.sending) listening ∙ ap (λ (p : Option Sending). starting_by s t o l p) sending
+      ap (λ (p : Option Ordered). starting_by s t p d.listening d.sending) ordered
+      ∙ ap (λ (p : Option Listening). starting_by s t o p d.sending) listening ∙ ap (λ (p : Option Sending). starting_by s t o l p) sending
 
-  starts_in : (d : Device) (packet : List ℕ) (l : Option Listening) (x : Option Sending) → d.listening ≡ l → d.sending ≡ x → starts s t packet d d.listening d.sending ≡ starts s t packet d l x
-  starts_in d packet l x listening sending = ap (λ (p : Option Listening). starts s t packet d p d.sending) listening ∙ ap (λ (p : Option Sending). starts s t packet d l p) sending
+  starts_in : (d : Device) (packet : List ℕ) (l : Option Listening) (x : Option Sending) → d.listening ≡ l → d.sending ≡ x
+      → starts s t packet d d.listening d.sending ≡ starts s t packet d l x
+  starts_in d packet l x listening sending = ap (λ (p : Option Listening). starts s t packet d p d.sending) listening
+      ∙ ap (λ (p : Option Sending). starts s t packet d l p) sending
 
   -- a device at which an order is due at this tick
   pub begins_or_not : (d : Device) (o : Ordered) → d.ordered ≡ Some o → o.tick ≡ t → StaysSilent s t d ⊎ ((x : Sending) × BeginsToSend s t d x)
   begins_or_not d o ordered now = by_cases d.listening d.sending refl refl
     where
       by_cases : (l : Option Listening) (x : Option Sending) → d.listening ≡ l → d.sending ≡ x → StaysSilent s t d ⊎ ((x : Sending) × BeginsToSend s t d x)
-      by_cases None x listening sending = inl (record { is = begun_at d o ordered now ∙ starts_in d o.packet None x listening sending; starting = starting_in d (Some o) None x ordered listening sending })
-      by_cases (Some l) (Some x) listening sending = inl (record { is = begun_at d o ordered now ∙ starts_in d o.packet (Some l) (Some x) listening sending; starting = starting_in d (Some o) (Some l) (Some x) ordered listening sending })
+      by_cases None x listening sending = inl (record {
+        is = begun_at d o ordered now ∙ starts_in d o.packet None x listening sending;
+        starting = starting_in d (Some o) None x ordered listening sending;
+      })
+      by_cases (Some l) (Some x) listening sending = inl (record {
+        is = begun_at d o ordered now ∙ starts_in d o.packet (Some l) (Some x) listening sending;
+        starting = starting_in d (Some o) (Some l) (Some x) ordered listening sending;
+      })
       by_cases (Some l) None listening sending = inr (
         sending_from s t o.packet l,
         record {
@@ -85,10 +96,15 @@ module _ (t : ℕ) (st new : DeviceState) (ordered : option_map tick_of st.order
   order = ordered_then st.ordered t ordered
 
   nothing_sent : answers None → (made : Made) → (x : Sending) → BeginsToSend st.setup t (whole st made) x → ⊥
-  nothing_sent is made x begins = let same : made.sent ++ x ∷ [] ≡ made.sent = ap (λ (d : Device). d.made.sent) (sym begins.is ∙ is made) in absurd (omega (arith, ap length same, length-append made.sent (x ∷ [])))
+  nothing_sent is made x begins =
+      let same : made.sent ++ x ∷ [] ≡ made.sent = ap (λ (d : Device). d.made.sent) (sym begins.is ∙ is made) in
+      absurd (omega (arith, ap length same, length-append made.sent (x ∷ [])))
 
   pub silent_with : answers None → (made : Made) → StaysSilent st.setup t (whole st made)
-  silent_with is made = elim (begins_or_not st.setup t (whole st made) order.0 order.1 order.2) [ inl silent ↦ silent | inr begins ↦ absurd (nothing_sent is made begins.0 begins.1) ]
+  silent_with is made = elim (begins_or_not st.setup t (whole st made) order.0 order.1 order.2) [
+    | inl silent ↦ silent
+    | inr begins ↦ absurd (nothing_sent is made begins.0 begins.1)
+  ]
 
   pub begins_with : (x : Sending) → answers (Some x) → (made : Made) → BeginsToSend st.setup t (whole st made) x
   begins_with x is made =

@@ -1,10 +1,10 @@
--- A field after the ordered sending of a device has started, or has not.
-use Rattle.std.proofs.Common.{◌≡◌, ◌≢◌, ℕ, ◌+◌, ◌<◌, ◌≤◌, List, [], ◌∷◌, ◌++◌, set, length, Option, Some, None, if◌then◌else◌, is_none, option_to_list, reverse, refl, sym, ◌∙◌, ap, subst, arith, Contains, inl}
+-- A field after the ordered sending of a device has started.
+use Rattle.std.proofs.Common.{◌≡◌, ◌≢◌, ℕ, ◌+◌, ◌≤◌, List, [], ◌∷◌, ◌++◌, set, length, Option, Some, None, if◌then◌else◌, is_none, option_to_list, reverse}
+use Rattle.std.proofs.Common.{refl, sym, ◌∙◌, ap, subst, arith, Contains, inl}
 use Rattle.std.specs.Prelude.{slice_get}
 use Rattle.std.specs.Option.{option_map}
 use Rattle.std.proofs.lemmas.List.{append-nil, length-set}
 use Rattle.std.proofs.lemmas.List.Elements.{All-contains}
-use Rattle.std.proofs.lemmas.Option.{slice_get_within, get_or_from_slice_get}
 use Rattle.lwb_base.specs.Profile.{Numbers, airtime}
 use Rattle.radio_model.specs.declared.sending.Sending.{Sending}
 use Rattle.radio_model.specs.declared.station.Station.{Station}
@@ -13,138 +13,52 @@ use Rattle.radio_model.specs.Hearing.{Scene}
 use Rattle.radio_model.specs.Holding.{Holds, after_starting}
 use Rattle.radio_model.specs.Holding as holding
 use Rattle.radio_model.specs.Stations.{MediumState, IsTime, station_of, nodes_of, started, after, next_sending, first_sending}
-use Rattle.radio_model.proofs.Agreement.{agree_same}
 use Rattle.radio_model.proofs.NothingBefore.{by_starting}
 use Rattle.radio_model.proofs.Changes.{started_keeps}
 use Rattle.radio_model.proofs.OneCall.{each_after, found_member}
 use Rattle.radio_model.proofs.OneStation.{same_nodes, other_station}
 use Rattle.air_log.proofs.Elements.{map_contains}
 use Rattle.radio_model.proofs.Places.{still_medium}
-use Rattle.event_calendar.specs.Orders.{Due, at, changed, due_at, with_tick, nothing_due}
-use Rattle.event_calendar.specs.declared.class.Class.{Class}
+use Rattle.event_calendar.specs.Orders.{Due, at, changed}
 use Rattle.event_calendar.specs.declared.class.Class.TheVariants.{SendingEnd, SendingStart}
 use Rattle.bus_rules.specs.Cores.{Setup}
-use Rattle.air_log.specs.Devices.{Device, Ordered, Made, nothing_made}
+use Rattle.air_log.specs.Devices.{Device, Made, nothing_made}
 use Rattle.air_log.specs.Trails.{begun, starting}
-use Rattle.air_log.specs.Entries.{sendings_of, sent_entry}
+use Rattle.air_log.specs.Entries.{sent_entry}
 use Rattle.air_log.specs.declared.entry.Entry.{Entry}
 use Rattle.air_log.proofs.LoggedEntries.{sendings_sent, hearings_sent}
 use Rattle.radio_model.proofs.ChangedStations.{node_of_station, station_changed}
 use Rattle.air_log.specs.DeviceStates.{DeviceState, whole, with_sent, HappenedBy, IsSameNode}
-use Rattle.lwb_world.specs.Fields.{FieldState, IsField, IsKnown, Shows, IsShown, due_of, end_of, tick_of, id_of, ids_of, setup_of, rank_of, channel_of}
-use Rattle.lwb_world.specs.FieldSteps.{Acts, GoesOn}
+use Rattle.lwb_world.specs.Fields.{FieldState, IsField, IsKnown, Shows, IsShown, due_of, id_of, ids_of, setup_of, rank_of, channel_of}
+use Rattle.lwb_world.specs.FieldSteps.{GoesOn}
 use Rattle.lwb_world.proofs.ShownPlaces.{there_now, elsewhere, same_marks, is_there, still_field, still_shown, shown_as}
 use Rattle.lwb_world.proofs.DevicesOfNodes.{one_place}
 use Rattle.lwb_world.proofs.LoggedSendings.{sent_own, sent_other, tuned_beside_sent, entry_more}
-use Rattle.lwb_world.proofs.BegunDevices.{BeginsToSend, sends_now, silent_with, begins_with}
-
--- what the start at a device comes to
-abbrev pub Begins : ℕ → ℕ → FieldState → List Due → FieldState → List Due → Type 0
-Begins t p old old_due new new_due =
-    (x : List Sending) × Acts t p (λ s d. begun s t d) x [] old old_due new new_due × ((s : Setup) (d : Device) → Shows s t old old_due p d → x ≡ starting s t d)
-
--- what a device has in the queue
-abbrev due_by : Option Sending → Option ℕ → Option Ordered → Due
-due_by sending alarm ordered = record { sending_end = option_map end_of sending; alarm = alarm; sending_start = option_map tick_of ordered }
-
--- the queue at a place where an order is set
-pub due_there : (due : List Due) (p : ℕ) (class : Class) (tick : Option ℕ) (d : Due) → slice_get due p ≡ Some d → slice_get (changed due p class tick) p ≡ Some (with_tick class tick d)
-due_there due p class tick d set_so =
-    there_now due p d (with_tick class tick (due_at due p)) set_so ∙ ap (λ (e : Due). let o : Option Due = Some (with_tick class tick e) in o) (get_or_from_slice_get due p d nothing_due set_so)
+use Rattle.lwb_world.proofs.BegunDevices.{BeginsToSend, sends_now, begins_with}
+use Rattle.lwb_world.proofs.NothingBegun.{Begins, due_by, due_there}
+use Rattle.lwb_world.proofs.NothingBegun as NothingBegun
+use Rattle.air_log.specs.Courses.{tick_of}
 
 module _ (t p : ℕ) (w : FieldState) (field : IsField w) (due : List Due) (st new : DeviceState) (here : slice_get w.devices p ≡ Some st)
-    (node : IsSameNode st new) (keeps_time : (now : ℕ) → HappenedBy now st → HappenedBy now new) (stands : at due p SendingStart ≡ Some t) (shown : IsShown t w due p) (time : IsTime w.medium t) where
-  known : IsKnown w due p st
-  known = (shown_as shown.setup t w due p shown.device st here shown.shows).known
+    (node : IsSameNode st new) (keeps_time : (now : ℕ) → HappenedBy now st → HappenedBy now new) (stands : at due p SendingStart ≡ Some t)
+    (shown : IsShown t w due p) (time : IsTime w.medium t) where
+  abbrev known : IsKnown w due p st
+  known = NothingBegun.known t p w field due st new here node keeps_time stands shown time
 
-  ordered : option_map tick_of st.ordered ≡ Some t
-  ordered = ap (λ (d : Due). d.sending_start) (sym (get_or_from_slice_get due p (due_of st) nothing_due known.set)) ∙ stands
-
-  below : p < length due
-  below = slice_get_within due p (due_of st) known.set
-
-  -- where nothing starts
-  module _ (is : (made : Made) → begun st.setup t (whole st made) ≡ whole new (with_sent None made)) where
-    abbrev silent_field : FieldState
-    silent_field = record { medium = w.medium; devices = set w.devices p new; air = w.air; deliveries = w.deliveries; drops = w.drops; sums = w.sums }
-
-    abbrev silent_due : List Due
-    silent_due = changed due p SendingStart None
-
-    silent_now : whole new nothing_made ≡ record (whole st nothing_made) { ordered = None }
-    silent_now = sym (is nothing_made) ∙ (silent_with t st new ordered is nothing_made).is
-
-    silent_set : slice_get silent_due p ≡ Some (due_of new)
-    silent_set =
-        due_there due p SendingStart None (due_of st) known.set
-        ∙ ap (λ (d : Device). let o : Option Due = Some (due_by d.sending d.alarm d.ordered) in o) (sym silent_now)
-
-    silent_own : (s : Setup) (d : Device) → Shows s t w due p d → Shows s t silent_field silent_due p (begun s t d)
-    silent_own s d shows =
-        let sh = shown_as s t w due p d st here shows in
-        record {
-          state = new;
-          there = there_now w.devices p st new here;
-          setup = node.setup ∙ sh.setup;
-          made = sh.made;
-          is = sym (is sh.made) ∙ ap (λ (u : Setup). begun u t (whole st sh.made)) sh.setup ∙ ap (begun s t) sh.is;
-          logged = record { sent = sh.logged.sent; tuned = sh.logged.tuned; deliveries = sh.logged.deliveries };
-          known = record {
-            station = known.station;
-            there = ap (λ (u : Setup). station_of w.medium u.id) node.setup ∙ known.there;
-            tuned = known.tuned ∙ ap (λ (e : Device). option_map channel_of e.listening) (sym silent_now);
-            sending = known.sending ∙ ap (λ (e : Device). e.sending) (sym silent_now);
-            set = silent_set;
-          };
-          counted = sh.counted;
-          ended = sh.ended;
-          happened = keeps_time t sh.happened;
-          taken = node.delivery ∙ sh.taken;
-        }
-
-    pub not_begun : Begins t p w due silent_field silent_due
-    not_begun = (
-      [],
-      record {
-        own = silent_own;
-        others = λ q other s d shows. still_shown t q w due silent_field silent_due s d (record {
-          device = elsewhere w.devices p q new other;
-          sent = refl;
-          tuned = refl;
-          deliveries = refl;
-          station = refl;
-          due = elsewhere due p q _ other;
-          sums = refl;
-        }) shows;
-        hearings = refl;
-        sendings = sym (append-nil (sendings_of w.air));
-        drops = sym (append-nil w.drops);
-        air = record {
-          scene = λ a held. (a, record { held = held; lines = refl; sendings = sym (append-nil a.sendings); before = agree_same t _ });
-          time = time;
-          nodes = refl;
-          numbers = refl;
-          still = λ is. is;
-        };
-        same = record {
-          setups = same_marks setup_of w.devices p st new here node.setup;
-          places = length-set due p _;
-          entries = λ e there. inl there;
-          deliverers = λ d there. inl there;
-        };
-      },
-      λ s d shows.
-          let sh = shown_as s t w due p d st here shows in
-          sym (ap (λ (u : Setup). starting u t d) (sym sh.setup) ∙ ap (starting st.setup t) (sym sh.is) ∙ (silent_with t st new ordered is sh.made).starting),
-    )
-
-    pub silent_is_field : IsField silent_field
-    silent_is_field = still_field w w.medium p st new w.air w.deliveries w.drops field field.medium refl refl here node.setup
+  abbrev ordered : option_map tick_of st.ordered ≡ Some t
+  ordered = NothingBegun.ordered t p w field due st new here node keeps_time stands shown time
 
   -- where x starts
   module _ (x : Sending) (is : (made : Made) → begun st.setup t (whole st made) ≡ whole new (with_sent (Some x) made)) where
     abbrev begun_field : FieldState
-    begun_field = record { medium = after t x.node (started w.medium.numbers t x.packet) w.medium; devices = set w.devices p new; air = w.air ++ sent_entry x ∷ []; deliveries = w.deliveries; drops = w.drops; sums = w.sums }
+    begun_field = record {
+      medium = after t x.node (started w.medium.numbers t x.packet) w.medium;
+      devices = set w.devices p new;
+      air = w.air ++ sent_entry x ∷ [];
+      deliveries = w.deliveries;
+      drops = w.drops;
+      sums = w.sums;
+    }
 
     abbrev begun_due : List Due
     begun_due = changed (changed due p SendingStart None) p SendingEnd (Some x.end)
@@ -170,16 +84,31 @@ module _ (t p : ℕ) (w : FieldState) (field : IsField w) (due : List Due) (st n
     numbers : st.setup.profile ≡ w.medium.numbers
     numbers = All-contains (λ (d : DeviceState). d.setup.profile ≡ w.medium.numbers) w.devices st field.numbers (is_there w.devices p st here)
 
-    next_by : (o : Option Tuned) → known.station.tuned ≡ o → option_map rank_of o ≡ Some x.rank → next_sending w.medium.numbers t x.packet known.station.node known.station.tuned ≡ Some x
+    next_by : (o : Option Tuned) → known.station.tuned ≡ o → option_map rank_of o ≡ Some x.rank
+        → next_sending w.medium.numbers t x.packet known.station.node known.station.tuned ≡ Some x
     next_by None tuned rank = cc
     next_by (Some o) tuned rank =
         let same : o.rank ≡ x.rank = cc in
         ap (next_sending w.medium.numbers t x.packet known.station.node) tuned
-        ∙ ap (λ (r : ℕ). let y : Option Sending = Some (record { rank = r; node = known.station.node; start = t; end = t + airtime w.medium.numbers (length x.packet); packet = x.packet }) in y) same
-        ∙ ap (λ (n : ℕ). let y : Option Sending = Some (record { rank = x.rank; node = n; start = t; end = t + airtime w.medium.numbers (length x.packet); packet = x.packet }) in y) own_node
-        ∙ ap (λ (m : Numbers). let y : Option Sending = Some (record { rank = x.rank; node = x.node; start = t; end = t + airtime m (length x.packet); packet = x.packet }) in y) (sym numbers)
+        ∙ ap (λ (r : ℕ). let y : Option Sending = Some (record {
+          rank = r;
+          node = known.station.node;
+          start = t;
+          end = t + airtime w.medium.numbers (length x.packet);
+          packet = x.packet;
+        }) in y) same
+        ∙ ap (λ (n : ℕ). let y : Option Sending = Some (record {
+          rank = x.rank;
+          node = n;
+          start = t;
+          end = t + airtime w.medium.numbers (length x.packet);
+          packet = x.packet;
+        }) in y) own_node
+        ∙ ap (λ (m : Numbers). let y : Option Sending =
+        Some (record { rank = x.rank; node = x.node; start = t; end = t + airtime m (length x.packet); packet = x.packet }) in y) (sym numbers)
         ∙ ap (λ (k : ℕ). let y : Option Sending = Some (record { rank = x.rank; node = x.node; start = t; end = k; packet = x.packet }) in y) (sym starts.end)
-        ∙ ap (λ (k : ℕ). let y : Option Sending = Some (record { rank = x.rank; node = x.node; start = k; end = x.end; packet = x.packet }) in y) (sym starts.start)
+        ∙ ap (λ (k : ℕ). let y : Option Sending = Some (record { rank = x.rank; node = x.node; start = k; end = x.end; packet = x.packet }) in y)
+        (sym starts.start)
 
     next : next_sending w.medium.numbers t x.packet known.station.node known.station.tuned ≡ Some x
     next =
@@ -190,7 +119,8 @@ module _ (t p : ℕ) (w : FieldState) (field : IsField w) (due : List Due) (st n
     station_silent = known.sending ∙ starts.silent
 
     station_sends : (change known.station).sending ≡ Some x
-    station_sends = ap (λ (o : Option Sending). first_sending o (next_sending w.medium.numbers t x.packet known.station.node known.station.tuned)) station_silent ∙ next
+    station_sends = ap (λ (o : Option Sending). first_sending o
+        (next_sending w.medium.numbers t x.packet known.station.node known.station.tuned)) station_silent ∙ next
 
     station_of_x : station_of w.medium x.node ≡ Some known.station
     station_of_x = ap (station_of w.medium) starts.node ∙ known.there
@@ -201,7 +131,8 @@ module _ (t p : ℕ) (w : FieldState) (field : IsField w) (due : List Due) (st n
     scene_begins : holding.begun w.medium.numbers t x.packet (station_of w.medium x.node) ≡ Some x
     scene_begins =
         ap (holding.begun w.medium.numbers t x.packet) station_of_x
-        ∙ ap (λ (o : Option Sending). if is_none o then next_sending w.medium.numbers t x.packet known.station.node known.station.tuned else None) station_silent
+        ∙ ap (λ (o : Option Sending).
+        if is_none o then next_sending w.medium.numbers t x.packet known.station.node known.station.tuned else None) station_silent
         ∙ next
 
     begun_own : (s : Setup) (d : Device) → Shows s t w due p d → Shows s t begun_field begun_due p (begun s t d)
@@ -234,7 +165,8 @@ module _ (t p : ℕ) (w : FieldState) (field : IsField w) (due : List Due) (st n
 
     begun_others : (q : ℕ) → q ≢ p → (s : Setup) (d : Device) → Shows s t w due q d → Shows s t begun_field begun_due q d
     begun_others q other s d shows =
-        let apart : s.id ≢ x.node = λ same. other (one_place w field q p shows.state st shows.there here (ap (λ (u : Setup). u.id) shows.setup ∙ same ∙ starts.node)) in
+        let apart : s.id ≢ x.node = λ same. other
+        (one_place w field q p shows.state st shows.there here (ap (λ (u : Setup). u.id) shows.setup ∙ same ∙ starts.node)) in
         still_shown t q w due begun_field begun_due s d (record {
           device = elsewhere w.devices p q new other;
           sent = sent_other w.air x s.id (λ same. apart (sym same));
@@ -263,14 +195,17 @@ module _ (t p : ℕ) (w : FieldState) (field : IsField w) (due : List Due) (st n
         same_station : (a b : Station) → (let o : Option Station = Some a in o ≡ Some b) → a ≡ b
         same_station a b is = cc
 
-        of_own : {y : Sending} (s : Station) → Contains w.medium.stations s → s.node ≡ x.node → (started w.medium.numbers t x.packet s).sending ≡ Some y → t ≤ y.end
+        of_own : {y : Sending} (s : Station) → Contains w.medium.stations s → s.node ≡ x.node
+            → (started w.medium.numbers t x.packet s).sending ≡ Some y → t ≤ y.end
         of_own {y = y} s there own runs =
-            let found : station_of w.medium x.node ≡ Some s = ap (station_of w.medium) (sym own) ∙ found_member w.medium.stations s field.medium.nodes.ascending there in
+            let found : station_of w.medium x.node ≡ Some s = ap (station_of w.medium) (sym own)
+            ∙ found_member w.medium.stations s field.medium.nodes.ascending there in
             let same : known.station ≡ s = same_station known.station s (sym station_of_x ∙ found) in
             let end = starts.end in
             same_end x y (sym station_sends ∙ ap (λ (k : Station). (started w.medium.numbers t x.packet k).sending) same ∙ runs) (omega arith)
 
-    begun_goes_on : (held : (a : Scene) → Holds w.medium a → Holds begun_field.medium (after_starting w.medium x.node t x.packet a)) → GoesOn t w.medium begun_field.medium (x ∷ [])
+    begun_goes_on : (held : (a : Scene) → Holds w.medium a → Holds begun_field.medium (after_starting w.medium x.node t x.packet a))
+        → GoesOn t w.medium begun_field.medium (x ∷ [])
     begun_goes_on held = record {
       scene = λ a holds. (
         after_starting w.medium x.node t x.packet a,
@@ -287,7 +222,8 @@ module _ (t p : ℕ) (w : FieldState) (field : IsField w) (due : List Due) (st n
       still = still_medium (started w.medium.numbers t x.packet) (started_keeps w.medium.numbers t x.packet) x.node t w.medium;
     }
 
-    begins_here : ((a : Scene) → Holds w.medium a → Holds begun_field.medium (after_starting w.medium x.node t x.packet a)) → Begins t p w due begun_field begun_due
+    begins_here : ((a : Scene) → Holds w.medium a → Holds begun_field.medium (after_starting w.medium x.node t x.packet a))
+        → Begins t p w due begun_field begun_due
     begins_here held = (
       x ∷ [],
       record {
@@ -300,7 +236,8 @@ module _ (t p : ℕ) (w : FieldState) (field : IsField w) (due : List Due) (st n
         same = record {
           setups = same_marks setup_of w.devices p st new here node.setup;
           places = length-set (changed due p SendingStart None) p _ ∙ length-set due p _;
-          entries = entry_more w.air (ids_of w) (sent_entry x) (subst (λ (n : ℕ). Contains (ids_of w) n) (sym starts.node) (map_contains id_of w.devices st (is_there w.devices p st here)));
+          entries = entry_more w.air (ids_of w) (sent_entry x)
+              (subst (λ (n : ℕ). Contains (ids_of w) n) (sym starts.node) (map_contains id_of w.devices st (is_there w.devices p st here)));
           deliverers = λ d there. inl there;
         };
       },
@@ -310,7 +247,8 @@ module _ (t p : ℕ) (w : FieldState) (field : IsField w) (due : List Due) (st n
     )
 
     -- with the medium and the log as the code has them
-    pub has_begun : (m : MediumState) → m ≡ begun_field.medium → ((a : Scene) → Holds w.medium a → Holds m (after_starting w.medium x.node t x.packet a)) → (air : List Entry) → air ≡ begun_field.air
+    pub has_begun : (m : MediumState) → m ≡ begun_field.medium
+        → ((a : Scene) → Holds w.medium a → Holds m (after_starting w.medium x.node t x.packet a)) → (air : List Entry) → air ≡ begun_field.air
         → Begins t p w due (record begun_field { medium = m; air = air }) begun_due
     has_begun m state held air pushed =
         subst (λ (l : List Entry). Begins t p w due (record begun_field { medium = m; air = l }) begun_due) (sym pushed)
@@ -319,7 +257,8 @@ module _ (t p : ℕ) (w : FieldState) (field : IsField w) (due : List Due) (st n
 
     -- what the code asks and keeps
     pub has_station : Contains (nodes_of w.medium) x.node
-    has_station = subst (λ (l : List ℕ). Contains l x.node) field.nodes (subst (λ (n : ℕ). Contains (ids_of w) n) (sym starts.node) (map_contains id_of w.devices st (is_there w.devices p st here)))
+    has_station = subst (λ (l : List ℕ). Contains l x.node) field.nodes
+        (subst (λ (n : ℕ). Contains (ids_of w) n) (sym starts.node) (map_contains id_of w.devices st (is_there w.devices p st here)))
 
     pub begun_is_field : (air : List Entry) → IsField (record begun_field { air = air })
     begun_is_field air =
@@ -328,6 +267,8 @@ module _ (t p : ℕ) (w : FieldState) (field : IsField w) (due : List Due) (st n
         (same_nodes w.medium t x.node (started w.medium.numbers t x.packet) (started_keeps w.medium.numbers t x.packet).node) refl here node.setup
 
 -- with the field, the place and the queue as they are given
-pub as_given : (t i p : ℕ) (w given : FieldState) (due after given_due : List Due) (new : FieldState) → w ≡ given → i ≡ p → given_due ≡ after → Begins t i w due new after → Begins t p given due new given_due
+pub as_given : (t i p : ℕ) (w given : FieldState) (due after given_due : List Due) (new : FieldState) → w ≡ given → i ≡ p → given_due ≡ after
+    → Begins t i w due new after → Begins t p given due new given_due
 as_given t i p w given due after given_due new same place queue is =
-    subst (λ (v : FieldState). Begins t p v due new given_due) same (subst (λ (k : ℕ). Begins t k w due new given_due) place (subst (λ (q : List Due). Begins t i w due new q) (sym queue) is))
+    subst (λ (v : FieldState). Begins t p v due new given_due) same
+    (subst (λ (k : ℕ). Begins t k w due new given_due) place (subst (λ (q : List Due). Begins t i w due new q) (sym queue) is))

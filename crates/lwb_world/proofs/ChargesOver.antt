@@ -1,5 +1,5 @@
 -- The end of a run: what was counted of each node is what its trail comes to.
-use Rattle.std.proofs.Common.{◌≡◌, ℕ, suc, ◌+◌, ◌-◌, ◌%◌, ◌^◌, ◌<◌, ◌≤◌, List, map, length, Bool, count_by, Option, Some, refl, sym, ◌∙◌, ap, subst, arith, get_or}
+use Rattle.std.proofs.Common.{◌≡◌, ℕ, ◌+◌, ◌-◌, ◌%◌, ◌^◌, ◌<◌, ◌≤◌, List, length, Bool, count_by, Option, Some, sym, ◌∙◌, ap, subst, arith}
 use Rattle.std.specs.Prelude.{slice_get}
 use Rattle.std.specs.List.{range_with_len}
 use Rattle.std.specs.Option.{option_map}
@@ -11,14 +11,14 @@ use Rattle.scenario_text.specs.declared.lines.NodeLine.{NodeLine}
 use Rattle.event_calendar.specs.Orders.{Due}
 use Rattle.air_log.specs.declared.charge.NodeCharge.{NodeCharge}
 use Rattle.air_log.specs.Charges.{windows_charge, scans_with}
-use Rattle.air_log.specs.Devices.{Device, Power, seen_power}
+use Rattle.air_log.specs.Devices.{Device, seen_power}
 use Rattle.air_log.specs.Lawful.{heard_by, trail_in}
 use Rattle.air_log.specs.NodeCharges.{charge_in, charges_in}
 use Rattle.air_log.specs.Trails.{Reception, setup_of, run_end, before_tick, tune_at}
 use Rattle.air_log.specs.WindowLogs.{WindowLog}
 use Rattle.air_log.specs.WindowSums.{WindowSum, IsCounted}
 use Rattle.air_log.proofs.ChargedWindows.{charge_is}
-use Rattle.lwb_world.specs.Counting.{scans_before, all_scans_before, charge_for, AreCharges}
+use Rattle.lwb_world.specs.Counting.{scans_before, all_scans_before, AreCharges}
 use Rattle.lwb_world.specs.Fields.{FieldState}
 use Rattle.lwb_world.specs.FieldSteps.{IsClosed}
 use Rattle.lwb_world.specs.Moments.{Before}
@@ -38,7 +38,8 @@ module _ (s : ScenarioParts) (clocks : ℕ → ℕ → ℕ) (w : FieldState) (du
       let inside = slice_get_within w.sums (length s.nodes - 1) has.sum has.there in
       omega (arith, inside, sound.two_nodes)
 
-module _ (s : ScenarioParts) (clocks : ℕ → ℕ → ℕ) (w : FieldState) (due : List Due) (closed : FieldState) (sound : IsSoundScenario s) (drifts : AreClocks clocks) (running : IsRunning s clocks s.script (run_end s) Before w due) (over : IsClosed (run_end s) w due closed) where
+module _ (s : ScenarioParts) (clocks : ℕ → ℕ → ℕ) (w : FieldState) (due : List Due) (closed : FieldState) (sound : IsSoundScenario s)
+    (drifts : AreClocks clocks) (running : IsRunning s clocks s.script (run_end s) Before w due) (over : IsClosed (run_end s) w due closed) where
   -- what the windows of a node count
   record HasCharge (p v : ℕ) : Type 0 where
     pub sum : WindowSum
@@ -50,8 +51,10 @@ module _ (s : ScenarioParts) (clocks : ℕ → ℕ → ℕ) (w : FieldState) (du
       let v = n.node in
       let end = at_place s clocks w due closed running over p n at in
       let has = end.shows.counted in
-      let windows : end.shows.made.windows ≡ (trail_in s clocks closed.air v).made.windows = ap (λ (d : Device). d.made.windows) end.shows.is ∙ ap (λ (d : Device). d.made.windows) (sym end.is) in
-      let counted : IsCounted s.profile s.sends (trail_in s clocks closed.air v).made.windows has.sum = subst (λ (ws : List WindowLog). IsCounted s.profile s.sends ws has.sum) windows has.is in
+      let windows : end.shows.made.windows ≡ (trail_in s clocks closed.air v).made.windows = ap (λ (d : Device). d.made.windows) end.shows.is
+      ∙ ap (λ (d : Device). d.made.windows) (sym end.is) in
+      let counted : IsCounted s.profile s.sends (trail_in s clocks closed.air v).made.windows has.sum =
+      subst (λ (ws : List WindowLog). IsCounted s.profile s.sends ws has.sum) windows has.is in
       let power : (before_tick s v (clocks v) (heard_by closed.air v) (run_end s)).power ≡ end.device.power = ap (λ (d : Device). d.power) end.is in
       let boots = ap (λ (b : Bool × ℕ). b.1) (ap seen_power power ∙ running.script.power (setup_of s v) p end.device end.shows) in
       let few = sound.few_boots v in
@@ -61,15 +64,23 @@ module _ (s : ScenarioParts) (clocks : ℕ → ℕ → ℕ) (w : FieldState) (du
         is = charge_is (clocks v) s v (heard_by closed.air v) sound (drifts v) (omega (arith, boots, few)) has.sum counted;
       }
 
-  pub charges_over : (scanned : List ℕ) (charges : List NodeCharge) → scanned ≡ all_scans_before s clocks w.air s.frames → AreCharges closed.sums scanned charges → charges ≡ charges_in s clocks closed.air
-  charges_over scanned charges are is = each_place (charge_in s clocks closed.air) s.nodes charges (is.long ∙ ap length are ∙ length-map s.nodes (scans_before s clocks w.air s.frames)) one
+  pub charges_over : (scanned : List ℕ) (charges : List NodeCharge) → scanned ≡ all_scans_before s clocks w.air s.frames
+      → AreCharges closed.sums scanned charges → charges ≡ charges_in s clocks closed.air
+  charges_over scanned charges are is = each_place (charge_in s clocks closed.air) s.nodes charges
+      (is.long ∙ ap length are ∙ length-map s.nodes (scans_before s clocks w.air s.frames)) one
     where
       one : (p : ℕ) (n : NodeLine) → slice_get s.nodes p ≡ Some n → slice_get charges p ≡ Some (charge_in s clocks closed.air n)
       one p n at =
           let v = n.node in
           let has = has_charge p n at in
           let frames : slice_get scanned p ≡ Some (scans_before s clocks w.air s.frames n) =
-          ap (λ (l : List ℕ). slice_get l p) are ∙ slice_get-map (scans_before s clocks w.air s.frames) s.nodes p ∙ ap (option_map (scans_before s clocks w.air s.frames)) at in
+          ap (λ (l : List ℕ). slice_get l p) are ∙ slice_get-map (scans_before s clocks w.air s.frames) s.nodes p
+          ∙ ap (option_map (scans_before s clocks w.air s.frames)) at in
           is.each p has.sum (scans_before s clocks w.air s.frames n) has.there frames
           ∙ ap (λ (k : ℕ). let o : Option NodeCharge = Some (record { windows = k; scanned = scans_before s clocks w.air s.frames n }) in o) has.is
-          ∙ ap (λ (hs : List Reception). let o : Option NodeCharge = Some (record { windows = windows_charge s (trail_in s clocks closed.air v); scanned = count_by (λ (g : ℕ). scans_with (tune_at s v (clocks v) hs g)) (range_with_len 0 s.frames) }) in o) (sym (same_heard s clocks w due closed running over v))
+          ∙ ap (λ (hs : List Reception). let o : Option NodeCharge =
+          Some (record {
+            windows = windows_charge s (trail_in s clocks closed.air v);
+            scanned = count_by (λ (g : ℕ). scans_with (tune_at s v (clocks v) hs g)) (range_with_len 0 s.frames);
+          }) in o)
+          (sym (same_heard s clocks w due closed running over v))

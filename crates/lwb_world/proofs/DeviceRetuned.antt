@@ -25,7 +25,8 @@ use Rattle.lwb_world.proofs.DeviceSteps.{IsStationOf}
 tuned_then : (rank : Option ℕ) (t : ℕ) (st : Station) → option_map rank_of (retuned rank t st).tuned ≡ rank
 tuned_then None t st = refl
 tuned_then (Some r) t st =
-    cond_both (is_tuned_to st.tuned r) st (tuned_in r t (tuned_out t st)) (λ (s : Station). option_map rank_of s.tuned ≡ Some r) (λ is. was st.tuned is) (λ not. refl)
+    cond_both (is_tuned_to st.tuned r) st (tuned_in r t (tuned_out t st)) (λ (s : Station). option_map rank_of s.tuned ≡ Some r)
+    (λ is. was st.tuned is) (λ not. refl)
   where
     was : (o : Option TunedTo) → is_tuned_to o r ≡ true → option_map rank_of o ≡ Some r
     was None is = cc
@@ -33,7 +34,8 @@ tuned_then (Some r) t st =
 
 sends_still : (rank : Option ℕ) (t : ℕ) (st : Station) → (retuned rank t st).sending ≡ st.sending
 sends_still None t st = refl
-sends_still (Some r) t st = cond_both (is_tuned_to st.tuned r) st (tuned_in r t (tuned_out t st)) (λ (s : Station). s.sending ≡ st.sending) (λ is. refl) (λ not. refl)
+sends_still (Some r) t st = cond_both (is_tuned_to st.tuned r) st (tuned_in r t (tuned_out t st)) (λ (s : Station). s.sending ≡ st.sending)
+    (λ is. refl) (λ not. refl)
 
 module _ (t v : ℕ) (rank : Option ℕ) (old new : MediumState) (is : new ≡ after t v (retuned rank t) old) where
   sends_so : (st : Station) → (changed_at v (retuned rank t) st).sending ≡ st.sending
@@ -52,7 +54,8 @@ module _ (t v : ℕ) (rank : Option ℕ) (old new : MediumState) (is : new ≡ a
   retuned_others u other = ap (λ (m : MediumState). station_of m u) is ∙ other_station old t v (retuned rank t) (retuned_keeps rank t).node u other
 
   pub retuned_own : (st : Station) → station_of old v ≡ Some st → station_of new v ≡ Some (retuned rank t st)
-  retuned_own st there = ap (λ (m : MediumState). station_of m v) is ∙ changed_station old t v (retuned rank t) (retuned_keeps rank t).node ∙ ap (option_map (retuned rank t)) there
+  retuned_own st there = ap (λ (m : MediumState). station_of m v) is ∙ changed_station old t v (retuned rank t) (retuned_keeps rank t).node
+      ∙ ap (option_map (retuned rank t)) there
 
   retuned_time : IsTime old t → IsTime (after t v (retuned rank t) old) t
   retuned_time time = record {
@@ -71,7 +74,8 @@ module _ (t v : ℕ) (rank : Option ℕ) (old new : MediumState) (is : new ≡ a
         held = holds a held;
         lines = refl;
         sendings = sym (append-nil a.sendings);
-        before = subst (λ (m : MediumState). Agree t (as_it_stands old t a) (as_it_stands m t (after_tuning old v rank t a))) (sym is) (by_tuning old nodes.ascending a held v rank t time.later);
+        before = subst (λ (m : MediumState). Agree t (as_it_stands old t a) (as_it_stands m t (after_tuning old v rank t a))) (sym is)
+            (by_tuning old nodes.ascending a held v rank t time.later);
       },
     );
     time = subst (λ (m : MediumState). IsTime m t) (sym is) (retuned_time time);
@@ -81,7 +85,8 @@ module _ (t v : ℕ) (rank : Option ℕ) (old new : MediumState) (is : new ≡ a
   }
 
   -- as the device is tuned
-  pub retuned_station : (d : DeviceState) (st : Station) → d.setup.id ≡ v → station_of old v ≡ Some st → st.sending ≡ d.sending → option_map channel_of d.listening ≡ rank → IsStationOf new d
+  pub retuned_station : (d : DeviceState) (st : Station) → d.setup.id ≡ v → station_of old v ≡ Some st → st.sending ≡ d.sending
+      → option_map channel_of d.listening ≡ rank → IsStationOf new d
   retuned_station d st id there sending listening = record {
     station = retuned rank t st;
     there = ap (station_of new) id ∙ retuned_own st there;
@@ -117,11 +122,25 @@ pub listening_then : (clock : ℕ → ℕ) (v t rank : ℕ) (d : Device) → IsL
 listening_then clock v t rank d =
     cond_both (listens_to rank d.listening) d (tuned_again rank t (silenced v t d)) (IsListening rank d)
     (λ is. (record { sending = refl; alarm = refl; ordered = refl }, was_listening rank d.listening is))
-    (λ not. let on = as_tuned rank t (silenced v t d) (silenced v t d).made.tuned in (record { sending = on.0.sending; alarm = on.0.alarm; ordered = on.0.ordered }, on.1))
+    (λ not. let on = as_tuned rank t (silenced v t d) (silenced v t d).made.tuned in (
+      record {
+        sending = on.0.sending;
+        alarm = on.0.alarm;
+        ordered = on.0.ordered;
+      },
+      on.1,
+    ))
 
 -- so of a device whose whole is what the order makes of it
-pub listens_after : (clock : ℕ → ℕ) (v t rank : ℕ) (state after : DeviceState) (made making : Made) → obeyed clock v t (whole state made) (Listen rank) ≡ whole after making → IsListening rank (whole state made) (whole after making)
-listens_after clock v t rank state after made making same = subst (λ (e : Device). IsListening rank (whole state made) e) same (listening_then clock v t rank (whole state made))
+pub listens_after : (clock : ℕ → ℕ) (v t rank : ℕ) (state after : DeviceState) (made making : Made)
+    → obeyed clock v t (whole state made) (Listen rank) ≡ whole after making → IsListening rank (whole state made) (whole after making)
+listens_after clock v t rank state after made making same =
+    subst (λ (e : Device). IsListening rank (whole state made) e) same (listening_then clock v t rank (whole state made))
 
-pub silent_after : (v t : ℕ) (state after : DeviceState) (made making : Made) → silenced v t (whole state made) ≡ whole after making → IsSetAs (whole after making) (whole state made)
-silent_after v t state after made making same = subst (λ (e : Device). IsSetAs e (whole state made)) same (record { sending = refl; alarm = refl; ordered = refl })
+pub silent_after : (v t : ℕ) (state after : DeviceState) (made making : Made) → silenced v t (whole state made) ≡ whole after making
+    → IsSetAs (whole after making) (whole state made)
+silent_after v t state after made making same = subst (λ (e : Device). IsSetAs e (whole state made)) same (record {
+  sending = refl;
+  alarm = refl;
+  ordered = refl;
+})

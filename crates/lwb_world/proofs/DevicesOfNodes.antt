@@ -15,7 +15,8 @@ somewhere (d ∷ ds) v (k, below, at) none =
     none k d within (sym (get_or-map id_of (d ∷ ds) k d v within) ∙ at)
 
 -- no node stands at two places
-pub one_place : (w : FieldState) → IsField w → (p q : ℕ) (d e : DeviceState) → slice_get w.devices p ≡ Some d → slice_get w.devices q ≡ Some e → d.setup.id ≡ e.setup.id → p ≡ q
+pub one_place : (w : FieldState) → IsField w → (p q : ℕ) (d e : DeviceState) → slice_get w.devices p ≡ Some d → slice_get w.devices q ≡ Some e
+    → d.setup.id ≡ e.setup.id → p ≡ q
 one_place w is p q d e at_p at_q same =
     let below_p = slice_get_within w.devices p d at_p in
     let below_q = slice_get_within w.devices q e at_q in

@@ -8,7 +8,7 @@ use Rattle.air_log.specs.declared.entry.Entry.{Entry}
 use Rattle.air_log.specs.ScriptedDevices.{after_line}
 use Rattle.air_log.specs.Trails.{Reception, setup_of, frame_start, run_end, before_tick}
 use Rattle.air_log.specs.Lawful.{heard_by}
-use Rattle.air_log.specs.Drops.{told_before, drop_by, drops_below, drops_of}
+use Rattle.air_log.specs.Drops.{told_at_tick, drop_by, drops_below, drops_of}
 use Rattle.lwb_world.specs.Fields.{FieldState}
 use Rattle.lwb_world.specs.FieldSteps.{IsClosed}
 use Rattle.lwb_world.specs.Moments.{Before}
@@ -19,7 +19,9 @@ module _ (s : ScenarioParts) (clocks : ℕ → ℕ → ℕ) (a b : List Entry) (
   -- what a line loses, by what its node has heard
   abbrev lost_by : List ScriptLine → ScriptLine → List Reception → List DropLine
   lost_by above l hs =
-      option_to_list (drop_by l l.act (fold (after_line (clocks l.node) (setup_of s l.node) (frame_start s l.frame)) (before_tick s l.node (clocks l.node) hs (frame_start s l.frame)) (told_before s above l)).power)
+      option_to_list (drop_by l l.act
+      (fold (after_line (clocks l.node) (setup_of s l.node) (frame_start s l.frame))
+      (before_tick s l.node (clocks l.node) hs (frame_start s l.frame)) (told_at_tick s above l)).power)
 
   pub same_drops : (above ls : List ScriptLine) → drops_below s clocks a above ls ≡ drops_below s clocks b above ls
   same_drops above [] = refl
@@ -27,6 +29,7 @@ module _ (s : ScenarioParts) (clocks : ℕ → ℕ → ℕ) (a b : List Entry) (
       ap (λ (ds : List DropLine). ds ++ drops_below s clocks a (above ++ l ∷ []) ls) (ap (lost_by above l) (same l.node))
       ∙ ap (λ (ds : List DropLine). lost_by above l (heard_by b l.node) ++ ds) (same_drops (above ++ l ∷ []) ls)
 
-module _ (s : ScenarioParts) (clocks : ℕ → ℕ → ℕ) (w : FieldState) (due : List Due) (closed : FieldState) (running : IsRunning s clocks s.script (run_end s) Before w due) (over : IsClosed (run_end s) w due closed) where
+module _ (s : ScenarioParts) (clocks : ℕ → ℕ → ℕ) (w : FieldState) (due : List Due) (closed : FieldState)
+    (running : IsRunning s clocks s.script (run_end s) Before w due) (over : IsClosed (run_end s) w due closed) where
   pub drops_over : closed.drops ≡ drops_of s clocks closed.air
   drops_over = over.drops ∙ running.script.drops ∙ sym (same_drops s clocks closed.air w.air (same_heard s clocks w due closed running over) [] s.script)

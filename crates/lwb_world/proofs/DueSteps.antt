@@ -39,7 +39,8 @@ use Rattle.lwb_world.proofs.RunPlaces.{place_of_order, sealed}
 use Rattle.lwb_world.proofs.StepsGoOn.{end_goes_on, alarm_goes_on, begin_goes_on}
 use Rattle.lwb_world.proofs.TrailsGoOn.{AreClocks}
 
-module _ {C : Type 0} (R : C → ℕ → ℕ) (law : (c : C) → IsClock (R c)) (s : ScenarioParts) (sound : IsSoundScenario s) (cs : List C) (count : length cs ≡ length s.nodes)
+module _ {C : Type 0} (R : C → ℕ → ℕ) (law : (c : C) → IsClock (R c)) (s : ScenarioParts) (sound : IsSoundScenario s) (cs : List C)
+    (count : length cs ≡ length s.nodes)
     (t p : ℕ) (within : t < run_end s) (class : Class) (old : FieldState) (old_due : List Due) (next : IsNext old_due (Some (t, class, p))) where
   abbrev pub clocks : ℕ → ℕ → ℕ
   clocks = clocks_by R s.nodes cs
@@ -96,12 +97,19 @@ module _ {C : Type 0} (R : C → ℕ → ℕ) (law : (c : C) → IsClock (R c)) 
           let x = sending.0 in
           let all = done x sending.2 in
           let air = run_end_of.air in
-          let after = end_goes_on s clocks sound told t p node.0 node.1 old old_due new new_due lines by_trace (readings_at R cs) (clocks_at_places R s sound cs count) x sending.1 sending.2 next_end all.0 all.1 run_end_of in
-          let deaf = not_own s clocks sound lines by_trace (readings_at R cs) t p x sending.1 all.0 old old_due new new_due all.1 run_end_of.places run_end_of.trails sending.2 node.0 node.1 air.scene air.holds _ air.has in (
+          let after = end_goes_on s clocks sound told t p node.0 node.1 old old_due new new_due lines by_trace (readings_at R cs)
+          (clocks_at_places R s sound cs count) x sending.1 sending.2 next_end all.0 all.1 run_end_of in
+          let deaf = not_own s clocks sound lines by_trace
+          (readings_at R cs) t p x sending.1 all.0 old old_due new new_due all.1 run_end_of.places run_end_of.trails sending.2 node.0 node.1
+          air.scene air.holds _ air.has in (
             after,
             past s clocks sound drifts told t within SendingEnd p few new new_due after
-                (later_places t SendingEnd p old_due new_due next_end (were_at_end s clocks told t p SendingEnd old old_due new new_due run_end_of after lines (readings_at R cs) x all.0 all.1 deaf refl)),
-            end_stays s clocks t x all.0 old.air new.air sending.1 (heard_at_end s clocks sound lines by_trace (readings_at R cs) t p x sending.1 all.0 old old_due new new_due all.1 run_end_of.places run_end_of.trails sending.2 node.0 node.1 air.scene air.holds _ air.has),
+                (later_places t SendingEnd p old_due new_due next_end
+                (were_at_end s clocks told t p SendingEnd old old_due new new_due run_end_of after lines (readings_at R cs) x all.0 all.1 deaf refl)),
+            end_stays s clocks t x all.0 old.air new.air sending.1
+                (heard_at_end s clocks sound lines by_trace
+                (readings_at R cs) t p x sending.1 all.0 old old_due new new_due all.1 run_end_of.places run_end_of.trails sending.2 node.0 node.1
+                air.scene air.holds _ air.has),
           )
 
     -- alarms
@@ -118,10 +126,12 @@ module _ {C : Type 0} (R : C → ℕ → ℕ) (law : (c : C) → IsClock (R c)) 
       pub alarm_done : (new : FieldState) (new_due : List Due) → Acts t p (λ x d. alarmed (R c) x t d) [] [] old old_due new new_due
           → IsRunning s clocks told t (At Alarm) new new_due × IsPast t Alarm p new_due × TrailsStay s clocks t old.air new.air
       alarm_done new new_due acts =
-          let after = alarm_goes_on s clocks sound told t p node.0 node.1 old old_due new new_due drifts within (R c) (own_clock R s sound cs count p c clock) acts run_alarm_of in (
+          let after = alarm_goes_on s clocks sound told t p node.0 node.1 old old_due new new_due drifts within (R c)
+          (own_clock R s sound cs count p c clock) acts run_alarm_of in (
             after,
             past s clocks sound drifts told t within Alarm p few new new_due after
-                (later_places t Alarm p old_due new_due next_alarm (were_at s clocks told t p Alarm old old_due new new_due run_alarm_of after (λ x d. alarmed (R c) x t d) [] [] acts
+                (later_places t Alarm p old_due new_due next_alarm
+                (were_at s clocks told t p Alarm old old_due new new_due run_alarm_of after (λ x d. alarmed (R c) x t d) [] [] acts
                 (λ x d shows. alarm_gone (R c) x t d (alarms_over x d shows)))),
             acts_stay s clocks t p (λ x d. alarmed (R c) x t d) [] [] old old_due new new_due acts,
           )
@@ -135,14 +145,17 @@ module _ {C : Type 0} (R : C → ℕ → ℕ) (law : (c : C) → IsClock (R c)) 
       next_start = subst (λ (k : Class). IsNext old_due (Some (t, k, p))) is_start next
 
       pub start_done : (new : FieldState) (new_due : List Due)
-          → (starts : List Sending) × Acts t p (λ x d. begun x t d) starts [] old old_due new new_due × ((x : Setup) (d : Device) → Shows x t old old_due p d → starts ≡ starting x t d)
+          → (starts : List Sending) × Acts t p (λ x d. begun x t d) starts [] old old_due new new_due
+          × ((x : Setup) (d : Device) → Shows x t old old_due p d → starts ≡ starting x t d)
           → IsRunning s clocks told t (At SendingStart) new new_due × IsPast t SendingStart p new_due × TrailsStay s clocks t old.air new.air
       start_done new new_due all =
           let c = at_place cs p in_clocks in
-          let after = begin_goes_on s clocks sound told t p node.0 node.1 old old_due new new_due drifts within (R c.0) (own_clock R s sound cs count p c.0 c.1) all.0 all.1 all.2 run_start_of in (
+          let after = begin_goes_on s clocks sound told t p node.0 node.1 old old_due new new_due drifts within (R c.0)
+          (own_clock R s sound cs count p c.0 c.1) all.0 all.1 all.2 run_start_of in (
             after,
             past s clocks sound drifts told t within SendingStart p few new new_due after
-                (later_places t SendingStart p old_due new_due next_start (were_at s clocks told t p SendingStart old old_due new new_due run_start_of after (λ x d. begun x t d) all.0 [] all.1
+                (later_places t SendingStart p old_due new_due next_start
+                (were_at s clocks told t p SendingStart old old_due new new_due run_start_of after (λ x d. begun x t d) all.0 [] all.1
                 (λ x d shows. start_gone x t d))),
             acts_stay s clocks t p (λ x d. begun x t d) all.0 [] old old_due new new_due all.1,
           )

@@ -1,14 +1,13 @@
 -- A field in which the sending of a device is over, but nobody is told yet.
-use Rattle.std.proofs.Common.{◌≡◌, ◌≢◌, ℕ, ◌<◌, ◌≤◌, List, [], set, get_or, length, Option, Some, None, refl, sym, ◌∙◌, ap, subst, arith, inl, ◌==◌, eq-eqb}
+use Rattle.std.proofs.Common.{◌≡◌, ◌≢◌, ℕ, ◌<◌, ◌≤◌, [], set, length, Option, Some, None, List, refl, sym, ◌∙◌, ap, arith, inl}
 use Rattle.std.specs.Prelude.{slice_get}
-use Rattle.std.proofs.lemmas.Bool.{cond-true}
 use Rattle.std.proofs.lemmas.List.{append-nil, length-set}
-use Rattle.std.proofs.lemmas.Option.{slice_get_within, slice_get_read}
+use Rattle.std.proofs.lemmas.Option.{slice_get_within}
 use Rattle.radio_model.specs.declared.sending.Sending.{Sending}
 use Rattle.radio_model.specs.declared.station.Station.{Station}
 use Rattle.radio_model.specs.Hearing.{Scene}
 use Rattle.radio_model.specs.Holding.{Holds}
-use Rattle.radio_model.specs.Stations.{MediumState, IsTime, Ends, station_of, sending_of, finished, after}
+use Rattle.radio_model.specs.Stations.{IsTime, Ends, station_of, sending_of, finished, after}
 use Rattle.radio_model.proofs.Changes.{finished_keeps}
 use Rattle.radio_model.proofs.NothingBefore.{by_ending}
 use Rattle.radio_model.proofs.OneCall.{each_after}
@@ -20,12 +19,12 @@ use Rattle.bus_rules.specs.Cores.{Setup}
 use Rattle.air_log.specs.Entries.{sendings_of}
 use Rattle.air_log.specs.Devices.{Device}
 use Rattle.radio_model.proofs.ChangedStations.{station_changed}
-use Rattle.air_log.specs.DeviceStates.{DeviceState, ending_at}
+use Rattle.air_log.specs.DeviceStates.{DeviceState}
 use Rattle.lwb_world.specs.Fields.{FieldState, IsField, IsKnown, Shows, IsShown, due_of, setup_of}
 use Rattle.lwb_world.specs.FieldSteps.{Acts, Sends}
-use Rattle.lwb_world.proofs.ShownPlaces.{there_now, elsewhere, same_marks, still_field, still_shown, shown_as}
 use Rattle.lwb_world.proofs.DevicesOfNodes.{one_place}
-use Rattle.lwb_world.proofs.BegunSendings.{due_there}
+use Rattle.lwb_world.proofs.NothingBegun.{due_there}
+use Rattle.lwb_world.proofs.ShownPlaces.{there_now, elsewhere, same_marks, still_field, still_shown, shown_as}
 
 -- the sending x of the device st at place p ends at t
 pub record IsEnding (t p : ℕ) (w : FieldState) (due : List Due) (st : DeviceState) (x : Sending) : Type 0 where
@@ -38,57 +37,15 @@ pub record IsEnding (t p : ℕ) (w : FieldState) (due : List Due) (st : DeviceSt
   pub runs : st.sending ≡ Some x
   pub until : x.end ≡ t
 
--- what the code is given
-pub is_ending : (t i p : ℕ) (w given : FieldState) (due : List Due) (st : DeviceState) → w ≡ given → i ≡ p → IsField w → st ≡ get_or w.devices i st → p < length given.devices
-    → ((q : ℕ) → q < length given.devices → IsShown t given due q) → IsTime given.medium t
-    → ((s : Setup) (d : Device) → Shows s t given due p d → Ends given.medium s.id t) → (x : Sending) × IsEnding t p w due st x
-is_ending t i p w given due st same place field is below shown time ends =
-    let back : (q : ℕ) → q < length w.devices → IsShown t w due q = subst (λ (v : FieldState). (q : ℕ) → q < length v.devices → IsShown t v due q) (sym same) shown in
-    let within : p < length w.devices = subst (λ (v : FieldState). p < length v.devices) (sym same) below in
-    let there : slice_get w.devices p ≡ Some st = subst (λ (k : ℕ). slice_get w.devices k ≡ Some st) place (slice_get_read w.devices (length w.devices) i st refl (omega (arith, within, place)) is) in
-    let at = back p within in
-    let sh = shown_as at.setup t w due p at.device st there at.shows in
-    let own : Ends w.medium st.setup.id t =
-    subst (λ (u : Setup). Ends w.medium u.id t) (sym sh.setup) ((subst (λ (v : FieldState). (s : Setup) (d : Device) → Shows s t v due p d → Ends v.medium s.id t) (sym same) ends) at.setup at.device at.shows) in (
-      own.sending,
-      record {
-        field = field;
-        here = there;
-        shown = back;
-        time = subst (λ (v : FieldState). IsTime v.medium t) (sym same) time;
-        ends = own;
-        own = own.runs;
-        runs = sym sh.known.sending ∙ ap sending_of (sym sh.known.there) ∙ own.runs;
-        until = own.until;
-      },
-    )
-
--- one device stands at a place
-pub one_there : (ds : List DeviceState) (p : ℕ) (a b : DeviceState) → slice_get ds p ≡ Some a → slice_get ds p ≡ Some b → a ≡ b
-one_there ds p a b at_a at_b = of_some (sym at_a ∙ at_b)
-  where
-    of_some : (let o : Option DeviceState = Some a in o ≡ Some b) → a ≡ b
-    of_some is = cc
-
 abbrev pub over : ℕ → ℕ → DeviceState → FieldState → FieldState
-over t p st w = record { medium = after t st.setup.id finished w.medium; devices = set w.devices p (record st { sending = None }); air = w.air; deliveries = w.deliveries; drops = w.drops; sums = w.sums }
-
--- what the code makes of it
-pub as_over : (t i p u : ℕ) (w : FieldState) (m : MediumState) (st new : DeviceState) → i ≡ p → u ≡ st.setup.id → m ≡ after t u finished w.medium → new ≡ record st { sending = None }
-    → record { medium = m; devices = set w.devices i new; air = w.air; deliveries = w.deliveries; drops = w.drops; sums = w.sums } ≡ over t p st w
-as_over t i p u w m st new place node medium device =
-    ap with_medium (medium ∙ ap (λ (v : ℕ). after t v finished w.medium) node)
-    ∙ ap with_devices (ap (λ (k : ℕ). set w.devices k new) place ∙ ap (set w.devices p) device)
-  where
-    with_medium : MediumState → FieldState
-    with_medium k = record { medium = k; devices = set w.devices i new; air = w.air; deliveries = w.deliveries; drops = w.drops; sums = w.sums }
-
-    with_devices : List DeviceState → FieldState
-    with_devices l = record { medium = after t st.setup.id finished w.medium; devices = l; air = w.air; deliveries = w.deliveries; drops = w.drops; sums = w.sums }
-
--- the device says that it ends
-pub says_end : (t : ℕ) (sending r : Option Sending) (x : Sending) → sending ≡ Some x → x.end ≡ t → r ≡ ending_at t sending → r ≡ Some x
-says_end t sending r x runs until is = is ∙ ap (ending_at t) runs ∙ cond-true (x.end == t) (Some x) None (eq-eqb x.end t until)
+over t p st w = record {
+  medium = after t st.setup.id finished w.medium;
+  devices = set w.devices p (record st { sending = None });
+  air = w.air;
+  deliveries = w.deliveries;
+  drops = w.drops;
+  sums = w.sums;
+}
 
 pub one_sending : (r : Option Sending) (x y : Sending) → r ≡ Some x → r ≡ Some y → x ≡ y
 one_sending r x y is_x is_y = of_some (sym is_x ∙ is_y)
@@ -140,7 +97,8 @@ module _ (t p : ℕ) (w : FieldState) (due : List Due) (st : DeviceState) (x : S
 
   over_others : (q : ℕ) → q ≢ p → (s : Setup) (d : Device) → Shows s t w due q d → Shows s t (over t p st w) over_due q d
   over_others q other s d shows =
-      let apart : s.id ≢ st.setup.id = λ same. other (one_place w ending.field q p shows.state st shows.there ending.here (ap (λ (u : Setup). u.id) shows.setup ∙ same)) in
+      let apart : s.id ≢ st.setup.id = λ same. other
+      (one_place w ending.field q p shows.state st shows.there ending.here (ap (λ (u : Setup). u.id) shows.setup ∙ same)) in
       still_shown t q w due (over t p st w) over_due s d (record {
         device = elsewhere w.devices p q (record st { sending = None }) other;
         sent = refl;
@@ -172,7 +130,8 @@ module _ (t p : ℕ) (w : FieldState) (due : List Due) (st : DeviceState) (x : S
       (same_nodes w.medium t st.setup.id finished finished_keeps.node) refl ending.here refl
 
   -- to all others nothing has happened
-  pub sending_is_over : ((a : Scene) → Holds w.medium a → Holds (over t p st w).medium a) → Acts t p (λ s d. record d { sending = None }) [] [] w due (over t p st w) over_due
+  pub sending_is_over : ((a : Scene) → Holds w.medium a → Holds (over t p st w).medium a)
+      → Acts t p (λ s d. record d { sending = None }) [] [] w due (over t p st w) over_due
   sending_is_over held = record {
     own = over_own;
     others = over_others;

@@ -1,5 +1,6 @@
 -- A field whose tunings end one after another, place by place.
-use Rattle.std.proofs.Common.{◌≡◌, ◌≢◌, ◌<◌, ◌≤◌, ◌+◌, ℕ, List, ◌++◌, map, set, get_or, length, reverse, filter, ◌==◌, Some, Option, refl, sym, ◌∙◌, ap, subst, arith, inl, inr, ◌⊎◌, Contains, IfSome, option_map}
+use Rattle.std.proofs.Common.{◌≡◌, ◌≢◌, ◌<◌, ◌≤◌, ◌+◌, ℕ, List, ◌++◌, map, set, get_or, length, reverse, filter, ◌==◌, Some, Option, refl, sym, ◌∙◌, ap, subst}
+use Rattle.std.proofs.Common.{arith, inl, inr, ◌⊎◌, Contains, IfSome, option_map}
 use Rattle.std.specs.Prelude.{AllPairs, slice_get}
 use Rattle.std.proofs.lemmas.Bool.{cases_order, cases_eq}
 use Rattle.std.proofs.lemmas.List.{length-map}
@@ -29,13 +30,15 @@ abbrev IsOwn : ℕ → Option TunedEntry → Type 0
 IsOwn v e = IfSome e (λ x. x.node ≡ v)
 
 -- no node stands at two places
-ids_differ : (w : FieldState) → IsField w → (p q : ℕ) (d e : DeviceState) → q ≢ p → slice_get w.devices p ≡ Some d → slice_get w.devices q ≡ Some e → e.setup.id ≢ d.setup.id
+ids_differ : (w : FieldState) → IsField w → (p q : ℕ) (d e : DeviceState) → q ≢ p → slice_get w.devices p ≡ Some d → slice_get w.devices q ≡ Some e
+    → e.setup.id ≢ d.setup.id
 ids_differ w is p q d e other at_p at_q =
     apart_at (ids_of w) (subst (λ (l : List ℕ). AllPairs (λ a b. a < b) l) (sym is.nodes) is.medium.nodes.ascending) q p e.setup.id d.setup.id other
     (slice_get-map id_of w.devices q ∙ ap (option_map id_of) at_q)
     (slice_get-map id_of w.devices p ∙ ap (option_map id_of) at_p)
 
-pub logged_more : (w : FieldState) (v : ℕ) (made : Made) (e : Option TunedEntry) → IsOwn v e → IsLogged w v made → IsLogged (with_entry e w) v (with_tuned e made)
+pub logged_more : (w : FieldState) (v : ℕ) (made : Made) (e : Option TunedEntry) → IsOwn v e → IsLogged w v made
+    → IsLogged (with_entry e w) v (with_tuned e made)
 logged_more w v made e own is = record {
   sent = is.sent ∙ sym (sent_same w.air v e);
   tuned = ap (one_more e) is.tuned ∙ sym (tuned_own w.air v e own);
@@ -51,7 +54,8 @@ logged_still w u v made e own other is = record {
 
 -- the devices below place i have gone off, the others are as they were
 pub record IsClosedUpto (t i : ℕ) (old new : FieldState) : Type 0 where
-  pub done : (p : ℕ) (d : DeviceState) (made : Made) → p < i → slice_get old.devices p ≡ Some d → IsLogged old d.setup.id made → IsLogged new d.setup.id (silenced d.setup.id t (whole d made)).made
+  pub done : (p : ℕ) (d : DeviceState) (made : Made) → p < i → slice_get old.devices p ≡ Some d → IsLogged old d.setup.id made
+      → IsLogged new d.setup.id (silenced d.setup.id t (whole d made)).made
   pub todo : (p : ℕ) (d : DeviceState) (made : Made) → i ≤ p → slice_get old.devices p ≡ Some d → IsLogged old d.setup.id made → IsLogged new d.setup.id made
   pub same : (p : ℕ) → i ≤ p → slice_get new.devices p ≡ slice_get old.devices p
   pub hearings : hearings_of new.air ≡ hearings_of old.air
@@ -104,11 +108,13 @@ module _ (t i : ℕ) (old now new : FieldState) (field : IsField old) (is : IsCl
   own_id : Contains (ids_of old) state.setup.id
   own_id = map_contains id_of old.devices state (contains_at old.devices i state at_old)
 
-  logged_at_other : (p : ℕ) (d : DeviceState) (made : Made) → p ≢ i → slice_get old.devices p ≡ Some d → IsLogged now d.setup.id made → IsLogged after d.setup.id made
+  logged_at_other : (p : ℕ) (d : DeviceState) (made : Made) → p ≢ i → slice_get old.devices p ≡ Some d → IsLogged now d.setup.id made
+      → IsLogged after d.setup.id made
   logged_at_other p d made other at logged =
       let differ = ids_differ old field i p state d other at_old at in
       logged_as logged_after after d.setup.id made refl refl
-      (logged_still (with_entry goes.before now) state.setup.id d.setup.id made goes.last goes.own_last differ (logged_still now state.setup.id d.setup.id made goes.before goes.own_before differ logged))
+      (logged_still (with_entry goes.before now) state.setup.id d.setup.id made goes.last goes.own_last differ
+      (logged_still now state.setup.id d.setup.id made goes.before goes.own_before differ logged))
 
   logged_at_own : (made : Made) → IsLogged now state.setup.id made → IsLogged after state.setup.id (silenced state.setup.id t (whole state made)).made
   logged_at_own made logged =
@@ -117,7 +123,8 @@ module _ (t i : ℕ) (old now new : FieldState) (field : IsField old) (is : IsCl
       ap (λ (d : Device). d.made) (goes.made made) ∙ ap (λ (e : Option TunedEntry). with_tuned e log) goes.none in
       subst (IsLogged after state.setup.id) (sym is_log) (
       logged_as logged_after after state.setup.id log refl refl
-      (logged_more (with_entry goes.before now) state.setup.id (with_tuned goes.before made) goes.last goes.own_last (logged_more now state.setup.id made goes.before goes.own_before logged))
+      (logged_more (with_entry goes.before now) state.setup.id (with_tuned goes.before made) goes.last goes.own_last
+      (logged_more now state.setup.id made goes.before goes.own_before logged))
       )
 
   same_power : goes.silent.power ≡ state.power
@@ -135,7 +142,8 @@ module _ (t i : ℕ) (old now new : FieldState) (field : IsField old) (is : IsCl
         | inr more ↦ own goes.last goes.own_last more
       ]
 
-  one_done : (p : ℕ) (d : DeviceState) (made : Made) → p < i + 1 → slice_get old.devices p ≡ Some d → IsLogged old d.setup.id made → IsLogged after d.setup.id (silenced d.setup.id t (whole d made)).made
+  one_done : (p : ℕ) (d : DeviceState) (made : Made) → p < i + 1 → slice_get old.devices p ≡ Some d → IsLogged old d.setup.id made
+      → IsLogged after d.setup.id (silenced d.setup.id t (whole d made)).made
   one_done p d made below at logged =
       elim (cases_eq p i) [
         | inl own ↦
@@ -146,13 +154,17 @@ module _ (t i : ℕ) (old now new : FieldState) (field : IsField old) (is : IsCl
       ]
     where
       less_of : (p i : ℕ) → p ≢ i → p < i + 1 → p < i
-      less_of p i other below = elim (cases_order p i) [ inl same ↦ absurd (other same) | inr apart ↦ elim apart [ inl less ↦ less | inr more ↦ absurd (omega arith) ] ]
+      less_of p i other below = elim (cases_order p i) [
+        | inl same ↦ absurd (other same)
+        | inr apart ↦ elim apart [ inl less ↦ less | inr more ↦ absurd (omega arith) ]
+      ]
 
   one_core : (p : ℕ) (d : DeviceState) → p < i + 1 → slice_get after.devices p ≡ Some d → IsCoreAt d.core d.power
   one_core p d below at =
       elim (cases_order p i) [
         | inl own ↦
-            let is_silent : goes.silent ≡ d = same_Some _ _ (sym (at_set now.devices i goes.silent (slice_get_within now.devices i state goes.there)) ∙ ap (slice_get after.devices) (sym own) ∙ at) in
+            let is_silent : goes.silent ≡ d = same_Some _ _
+            (sym (at_set now.devices i goes.silent (slice_get_within now.devices i state goes.there)) ∙ ap (slice_get after.devices) (sym own) ∙ at) in
             subst (λ (x : DeviceState). IsCoreAt x.core x.power) is_silent goes.core
         | inr apart ↦ elim apart [
           | inl less ↦ is.cores p d less (sym (at_other now.devices i p goes.silent (λ same. omega (arith, same))) ∙ at)
@@ -186,14 +198,17 @@ all_closed t i old due new is end = record {
       let below = slice_get_within old.devices p shows.state shows.there in
       let logged : IsLogged old shows.state.setup.id shows.made = subst (λ (u : Setup). IsLogged old u.id shows.made) (sym shows.setup) shows.logged in
       subst (λ (x : Device). IsLogged new s.id (silenced s.id t x).made) shows.is
-      (subst (λ (u : Setup). IsLogged new u.id (silenced u.id t (whole shows.state shows.made)).made) shows.setup (is.done p shows.state shows.made (omega arith) shows.there logged));
+      (subst (λ (u : Setup). IsLogged new u.id (silenced u.id t (whole shows.state shows.made)).made) shows.setup
+      (is.done p shows.state shows.made (omega arith) shows.there logged));
   hearings = is.hearings;
   sendings = is.sendings;
   deliveries = is.deliveries;
   drops = is.drops;
   sums = is.sums;
   powers = is.powers;
-  cores = λ p d below. is.cores p (get_or new.devices p d) (let long = ap length is.setups in omega (arith, long, length-map new.devices setup_of, length-map old.devices setup_of)) (slice_get-get_or new.devices p d below);
+  cores = λ p d below. is.cores p (get_or new.devices p d)
+      (let long = ap length is.setups in omega (arith, long, length-map new.devices setup_of, length-map old.devices setup_of))
+      (slice_get-get_or new.devices p d below);
   ids = same_ids new old is.setups;
   entries = is.entries;
 }

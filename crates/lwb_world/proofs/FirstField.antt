@@ -1,7 +1,7 @@
 -- A field as it is at first: its devices at rest, on a medium of which nobody has made use.
 use Rattle.std.proofs.Common.{◌≡◌, ℕ, ◌<◌, List, [], ◌∷◌, map, Option, Some, None, sym, ◌∙◌, ap, subst, refl, arith, rules}
-use Rattle.std.specs.Prelude.{AllPairs, All, get_or}
-use Rattle.std.proofs.lemmas.List.{length-map, get_or-map}
+use Rattle.std.specs.Prelude.{All}
+use Rattle.std.proofs.lemmas.List.{length-map}
 use Rattle.std.proofs.lemmas.List.Elements.{All-map}
 use Rattle.lwb_base.specs.Profile.{Numbers}
 use Rattle.link_trace.specs.Masks.{AreNodes}
@@ -18,13 +18,15 @@ use Rattle.air_log.specs.DeviceStates.{DeviceState, whole, one_more, core_in}
 use Rattle.lwb_world.specs.Fields.{FieldState, IsField, id_of}
 use Rattle.lwb_world.specs.FieldSteps.{first_device, node_id, IsFirst}
 use Rattle.lwb_world.specs.Worlds.{new_core}
+use Rattle.air_log.proofs.Elements.{pairs_of_map}
 
 none_closed : (e : Option TunedEntry) → one_more e [] ≡ [] → e ≡ None
 none_closed None is = refl
 none_closed (Some x) is = cc
 
 -- a device that is made for a node
-pub new_device : (s : ScenarioParts) (n : NodeLine) (d : DeviceState) → d.setup ≡ setup_of s n.node → whole d nothing_made ≡ at_rest → d.delivery ≡ None → d.core ≡ rebooted 1 → d ≡ first_device s n
+pub new_device : (s : ScenarioParts) (n : NodeLine) (d : DeviceState) → d.setup ≡ setup_of s n.node → whole d nothing_made ≡ at_rest
+    → d.delivery ≡ None → d.core ≡ rebooted 1 → d ≡ first_device s n
 new_device s n d setup rest delivery core =
     let power = ap (λ (x : Device). x.power) rest in
     let listening = ap (λ (x : Device). x.listening) rest in
@@ -33,14 +35,6 @@ new_device s n d setup rest delivery core =
     let sending = ap (λ (x : Device). x.sending) rest in
     let closed : d.closed ≡ None = none_closed d.closed (ap (λ (x : Device). x.made.tuned) rest) in
     search rules
-
-pairs_of_map : {X Y : Type 0} (g : X → Y) (R : Y → Y → Type 0) (xs : List X) → AllPairs (λ a b. R (g a) (g b)) xs → AllPairs R (map g xs)
-pairs_of_map g R [] all i j d less within = absurd (omega arith)
-pairs_of_map g R (x ∷ xs) all i j d less within =
-    let long = length-map (x ∷ xs) g in
-    let at_i = get_or-map g (x ∷ xs) i x d (omega arith) in
-    let at_j = get_or-map g (x ∷ xs) j x d (omega arith) in
-    subst (λ (y : _). R y (get_or (map g (x ∷ xs)) j d)) (sym at_i) (subst (λ (y : _). R (g (get_or (x ∷ xs) i x)) y) (sym at_j) (all i j x less (omega arith)))
 
 pub sound_nodes : (s : ScenarioParts) → IsSoundScenario s → AreNodes (map node_id s.nodes)
 sound_nodes s is =
@@ -56,11 +50,14 @@ ids_first s (n ∷ ns) = ap (λ (l : List ℕ). n.node ∷ l) (ids_first s ns)
 numbers_first : (s : ScenarioParts) (ns : List NodeLine) → All (λ (d : DeviceState). d.setup.profile ≡ s.profile) (map (first_device s) ns)
 numbers_first s ns = All-map (λ (d : DeviceState). d.setup.profile ≡ s.profile) (first_device s) ns (λ k d less. refl)
 
-pub first_field : (s : ScenarioParts) → IsSoundScenario s → (w : FieldState) → w.medium ≡ first_state s.profile (map node_id s.nodes) → w.devices ≡ map (first_device s) s.nodes → IsField w
+pub first_field : (s : ScenarioParts) → IsSoundScenario s → (w : FieldState) → w.medium ≡ first_state s.profile (map node_id s.nodes)
+    → w.devices ≡ map (first_device s) s.nodes → IsField w
 first_field s sound w medium devices = record {
   medium = subst IsMedium (sym medium) (first_is_medium s.profile (map node_id s.nodes) sound.profile (sound_nodes s sound));
   nodes = ap (map id_of) devices ∙ ids_first s s.nodes ∙ sym (ap nodes_of medium ∙ nodes_from 0 (map node_id s.nodes));
-  numbers = subst (λ (l : List DeviceState). All (λ (d : DeviceState). d.setup.profile ≡ w.medium.numbers) l) (sym devices) (subst (λ (p : Numbers). All (λ (d : DeviceState). d.setup.profile ≡ p) (map (first_device s) s.nodes)) (ap (λ m. m.numbers) (sym medium)) (numbers_first s s.nodes));
+  numbers = subst (λ (l : List DeviceState). All (λ (d : DeviceState). d.setup.profile ≡ w.medium.numbers) l) (sym devices)
+      (subst (λ (p : Numbers). All (λ (d : DeviceState). d.setup.profile ≡ p) (map (first_device s) s.nodes)) (ap (λ m. m.numbers) (sym medium))
+      (numbers_first s s.nodes));
 }
 
 -- the cores that a world at first shows

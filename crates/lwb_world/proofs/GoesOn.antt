@@ -1,5 +1,5 @@
 -- Steps of the medium and of the places, one after another.
-use Rattle.std.proofs.Common.{◌≡◌, ℕ, suc, ◌+◌, ◌<◌, List, [], ◌∷◌, map, ◌++◌, length, All, refl, sym, ◌∙◌, ap, subst, arith, Contains, inl, inr}
+use Rattle.std.proofs.Common.{◌≡◌, ℕ, suc, List, [], ◌∷◌, map, ◌++◌, All, refl, sym, ◌∙◌, ap, subst, arith, Contains, inl, inr}
 use Rattle.std.proofs.lemmas.List.{append-nil, append_assoc}
 use Rattle.std.proofs.lemmas.List.Elements.{All-cons, All-nil}
 use Rattle.lwb_base.specs.Profile.{Numbers}
@@ -81,10 +81,12 @@ numbers_by n [] (e ∷ es) same all = absurd (cc)
 numbers_by n (d ∷ ds) (e ∷ es) same all =
     let head : e.setup ≡ d.setup = cc in
     let tail : map setup_of es ≡ map setup_of ds = cc in
-    All-cons (HasNumbers n) e es (ap (λ (s : Setup). s.profile) head ∙ all 0 d (omega arith)) (numbers_by n ds es tail (λ k x below. all (suc k) x (omega arith)))
+    All-cons (HasNumbers n) e es (ap (λ (s : Setup). s.profile) head ∙ all 0 d (omega arith))
+    (numbers_by n ds es tail (λ k x below. all (suc k) x (omega arith)))
 
 -- a field goes on as one
-pub field_goes_on : (t : ℕ) (begun : List Sending) (v w : FieldState) (due after : List Due) → AreSame v due w after → GoesOn t v.medium w.medium begun → IsField v → IsField w
+pub field_goes_on : (t : ℕ) (begun : List Sending) (v w : FieldState) (due after : List Due) → AreSame v due w after → GoesOn t v.medium w.medium begun
+    → IsField v → IsField w
 field_goes_on t begun v w due after same air field = record {
   medium = air.still field.medium;
   nodes = same_ids v w due after same ∙ field.nodes ∙ sym air.nodes;

@@ -1,9 +1,10 @@
 -- Who has heard what, when a sending ends: each hearer this sending, behind all that it heard, and no other node.
-use Rattle.std.proofs.Common.{◌≡◌, ◌≢◌, ℕ, ◌<◌, ◌≤◌, List, [], ◌∷◌, ◌++◌, map, filter, length, get_or, Bool, true, false, ◌==◌, ◌&&◌, cond, All, AllPairs, Some, None, Option, option_map, Contains, ◌⊎◌, inl, inr, refl, sym, ◌∙◌, ap, subst, arith, eqb-true, ltb-true, append-nil}
+use Rattle.std.proofs.Common.{◌≡◌, ◌≢◌, ℕ, ◌<◌, ◌≤◌, List, [], ◌∷◌, ◌++◌, map, filter, length, get_or, Bool, true, false, ◌==◌, ◌&&◌, Some, None, Option}
+use Rattle.std.proofs.Common.{option_map, Contains, ◌⊎◌, inl, inr, refl, sym, ◌∙◌, ap, subst, arith, eqb-true, ltb-true, append-nil}
 use Rattle.std.specs.Prelude.{slice_get, slice_index_or}
-use Rattle.std.proofs.lemmas.Bool.{cases_eq, eq-eqb, ne_eqb, le-ltb, or_from, or_cases, and_parts}
+use Rattle.std.proofs.lemmas.Bool.{cases_eq, le-ltb, or_from, or_cases, and_parts}
 use Rattle.std.proofs.lemmas.List.{length-map, map-append}
-use Rattle.std.proofs.lemmas.List.Elements.{filter-append, All-contains, Contains-get_or, Contains-append_cases}
+use Rattle.std.proofs.lemmas.List.Elements.{filter-append, All-contains}
 use Rattle.std.proofs.lemmas.List.Kept.{AllPairs-cons, AllPairs-filter}
 use Rattle.std.proofs.lemmas.Option.{slice_get-map, slice_get_cases, get_or_from_slice_get}
 use Rattle.link_trace.specs.Passes.{Lines}
@@ -22,10 +23,9 @@ use Rattle.air_log.specs.Entries.{hearings_of, sendings_of}
 use Rattle.air_log.specs.Devices.{Device}
 use Rattle.air_log.specs.Trails.{Reception, setup_of, scripted, heard, before_tick}
 use Rattle.air_log.specs.Lawful.{comes_before, AreInTurn, reception_of, hearings_by, heard_by, sent_by}
-use Rattle.air_log.proofs.Elements.{not_in_none, contains_head, contains_tail, contains_cases, map_from, pairs_head, pairs_tail}
+use Rattle.air_log.proofs.Elements.{map_from, filtered}
 use Rattle.air_log.proofs.InTurn.{heard_in_turn}
 use Rattle.air_log.proofs.KeptByEvents.{in_end}
-use Rattle.air_log.proofs.NextDue.{none_passes}
 use Rattle.air_log.specs.DeviceStates.{DeviceState}
 use Rattle.lwb_world.specs.Fields.{FieldState, ids_of, id_of, setup_of as setup_in}
 use Rattle.lwb_world.specs.FieldSteps.{EndsSending, Sends, hearing_at}
@@ -35,95 +35,32 @@ use Rattle.air_log.proofs.OwnSendings.{IsOwn, SendsOwn, own_heard, kept_own}
 use Rattle.lwb_world.proofs.KeptDrops.{HeardOn}
 use Rattle.lwb_world.proofs.TrailsGoOn.{OnTrails, ids_apart, some_same}
 use Rattle.lwb_world.proofs.TrailsAtEnds.{IsHeardAt, reception}
-
--- what passes a filter
-pub filter_holds : {X : Type 0} (p : X → Bool) (xs : List X) (x : X) → Contains (filter p xs) x → Contains xs x × (p x ≡ true)
-filter_holds p [] x there = absurd (not_in_none x there)
-filter_holds {X} p (y ∷ ys) x there = by (p y) refl (filter_holds p ys x) there
-  where
-    by : (b : Bool) → p y ≡ b → (Contains (filter p ys) x → Contains ys x × (p x ≡ true)) → Contains (cond b (y ∷ filter p ys) (filter p ys)) x → Contains (y ∷ ys) x × (p x ≡ true)
-    by true passes rest at = elim (contains_cases y (filter p ys) x at) [
-      | inl is ↦ (subst (λ (z : X). Contains (y ∷ ys) z) is (contains_head y ys), ap p (sym is) ∙ passes)
-      | inr later ↦ (let w = rest later in (contains_tail y ys x w.0, w.1))
-    ]
-    by false fails rest at = let w = rest at in (contains_tail y ys x w.0, w.1)
-
-pub filter_yes : {X : Type 0} (p : X → Bool) (x : X) (xs : List X) → p x ≡ true → filter p (x ∷ xs) ≡ x ∷ filter p xs
-filter_yes p x xs is = rw is refl
-
-pub filter_no : {X : Type 0} (p : X → Bool) (x : X) (xs : List X) → p x ≡ false → filter p (x ∷ xs) ≡ filter p xs
-filter_no p x xs is = rw is refl
-
--- pairs in two lists, one behind the other
-all_from : {X : Type 0} (P : X → Type 0) (xs : List X) → ((x : X) → Contains xs x → P x) → All P xs
-all_from P xs each = λ k d less. each (get_or xs k d) (Contains-get_or xs k d less)
-
-pairs_append : {X : Type 0} (R : X → X → Type 0) (xs ys : List X) → AllPairs R xs → AllPairs R ys → ((x y : X) → Contains xs x → Contains ys y → R x y) → AllPairs R (xs ++ ys)
-pairs_append R [] ys first second across = second
-pairs_append R (x ∷ xs) ys first second across =
-    AllPairs-cons R x (xs ++ ys)
-    (all_from (R x) (xs ++ ys) (λ y there. elim (Contains-append_cases xs ys y there) [ inl left ↦ pairs_head R x xs first y left | inr right ↦ across x y (contains_head x xs) right ]))
-    (pairs_append R xs ys (pairs_tail R x xs first) second (λ a b at_a at_b. across a b (contains_tail x xs a at_a) at_b))
-
--- one hearing of a list is that of v, or none is
-module _ (id : ℕ → ℕ) (x : Sending) (v : ℕ) where
-  abbrev hearing : ℕ → Hearing
-  hearing q = record { node = id q; sending = x }
-
-  abbrev of : Hearing → Bool
-  of h = h.node == v
-
-  none_of : (qs : List ℕ) → ((q : ℕ) → Contains qs q → id q ≡ v → ⊥) → filter of (map hearing qs) ≡ []
-  none_of qs none =
-      none_passes of (map hearing qs) (λ h there is.
-      let q = map_from hearing qs h there in
-      none q.0 q.1 (ap (λ (g : Hearing). g.node) q.2 ∙ eqb-true h.node v is))
-
-  one_of : (qs : List ℕ) (q : ℕ) → AllPairs (λ a b. a < b) qs → ((y z : ℕ) → Contains qs y → Contains qs z → id y ≡ id z → y ≡ z) → Contains qs q → id q ≡ v → filter of (map hearing qs) ≡ hearing q ∷ []
-  one_of [] q up apart there is = absurd (not_in_none q there)
-  one_of (y ∷ ys) q up apart there is = by (contains_cases y ys q there) (one_of ys q (pairs_tail (λ a b. a < b) y ys up) (λ b c at_b at_c. apart b c (contains_tail y ys b at_b) (contains_tail y ys c at_c)))
-    where
-      below : (z : ℕ) → Contains ys z → id y ≡ id z → ⊥
-      below z at same = omega (arith, pairs_head (λ a b. a < b) y ys up z at, apart y z (contains_head y ys) (contains_tail y ys z at) same)
-
-      by : (y ≡ q) ⊎ Contains ys q → (Contains ys q → id q ≡ v → filter of (map hearing ys) ≡ hearing q ∷ []) → filter of (map hearing (y ∷ ys)) ≡ hearing q ∷ []
-      by (inl same) rest =
-          let mine : id y ≡ v = ap id same ∙ is in
-          filter_yes of (hearing y) (map hearing ys) (eq-eqb (id y) v mine)
-          ∙ ap (λ (hs : List Hearing). hearing y ∷ hs) (none_of ys (λ z at other. below z at (mine ∙ sym other)))
-          ∙ ap (λ (z : ℕ). hearing z ∷ []) same
-      by (inr later) rest =
-          filter_no of (hearing y) (map hearing ys) (ne_eqb (id y) v (λ mine. below q later (mine ∙ sym is)))
-          ∙ rest later is
-
-  search_id : (qs : List ℕ) → ((q : ℕ) × Contains qs q × (id q ≡ v)) ⊎ ((q : ℕ) → Contains qs q → id q ≡ v → ⊥)
-  search_id [] = inr (λ q there is. not_in_none q there)
-  search_id (y ∷ ys) = by (cases_eq (id y) v) (search_id ys)
-    where
-      by : (id y ≡ v) ⊎ (id y ≢ v) → ((q : ℕ) × Contains ys q × (id q ≡ v)) ⊎ ((q : ℕ) → Contains ys q → id q ≡ v → ⊥) → ((q : ℕ) × Contains (y ∷ ys) q × (id q ≡ v)) ⊎ ((q : ℕ) → Contains (y ∷ ys) q → id q ≡ v → ⊥)
-      by (inl is) rest = inl (y, contains_head y ys, is)
-      by (inr other) (inl (q, there, is)) = inl (q, contains_tail y ys q there, is)
-      by (inr other) (inr none) = inr (λ q there is. elim (contains_cases y ys q there) [ inl same ↦ other (ap id same ∙ is) | inr later ↦ none q later is ])
+use Rattle.lwb_world.proofs.OneHearing.{all_from, pairs_append, hearing, of, none_of, one_of, search_id}
 
 -- the ids of a field are those of the nodes at their places
-pub id_at : (s : ScenarioParts) (w : FieldState) (due : List Due) → HasPlaces s w due → (q : ℕ) (n : NodeLine) → slice_get s.nodes q ≡ Some n → slice_index_or (ids_of w) q 0 ≡ n.node
+pub id_at : (s : ScenarioParts) (w : FieldState) (due : List Due) → HasPlaces s w due → (q : ℕ) (n : NodeLine) → slice_get s.nodes q ≡ Some n
+    → slice_index_or (ids_of w) q 0 ≡ n.node
 id_at s w due places q n there =
     get_or_from_slice_get (ids_of w) q n.node 0
     (slice_get-map id_of w.devices q
     ∙ by_setup (slice_get w.devices q)
-    ∙ ap (option_map (λ (x : Setup). x.id)) (sym (slice_get-map setup_in w.devices q) ∙ ap (λ (xs : List Setup). slice_get xs q) places.setups ∙ slice_get-map (setup_by s) s.nodes q ∙ ap (option_map (setup_by s)) there))
+    ∙ ap (option_map (λ (x : Setup). x.id))
+    (sym (slice_get-map setup_in w.devices q) ∙ ap (λ (xs : List Setup). slice_get xs q) places.setups ∙ slice_get-map (setup_by s) s.nodes q
+    ∙ ap (option_map (setup_by s)) there))
   where
     by_setup : (o : Option DeviceState) → option_map id_of o ≡ option_map (λ (x : Setup). x.id) (option_map setup_in o)
     by_setup None = refl
     by_setup (Some d) = refl
 
-pub node_within : (s : ScenarioParts) (w : FieldState) (due : List Due) → HasPlaces s w due → (q : ℕ) → q < length w.devices → (n : NodeLine) × (slice_get s.nodes q ≡ Some n)
+pub node_within : (s : ScenarioParts) (w : FieldState) (due : List Due) → HasPlaces s w due → (q : ℕ) → q < length w.devices
+    → (n : NodeLine) × (slice_get s.nodes q ≡ Some n)
 node_within s w due places q within = by ((slice_get_cases s.nodes q).1)
   where
     long : length w.devices ≡ length s.nodes
     long = sym (length-map w.devices setup_in) ∙ ap length places.setups ∙ length-map s.nodes (setup_by s)
 
-    by : ((n : NodeLine) × (q < length s.nodes) × (slice_get s.nodes q ≡ Some n) × (get_or s.nodes q n ≡ n)) ⊎ ((length s.nodes ≤ q) × (slice_get s.nodes q ≡ None)) → (n : NodeLine) × (slice_get s.nodes q ≡ Some n)
+    by : ((n : NodeLine) × (q < length s.nodes) × (slice_get s.nodes q ≡ Some n) × (get_or s.nodes q n ≡ n))
+        ⊎ ((length s.nodes ≤ q) × (slice_get s.nodes q ≡ None)) → (n : NodeLine) × (slice_get s.nodes q ≡ Some n)
     by (inl is) = (is.0, is.2)
     by (inr past) = absurd (omega (arith, past.0, within, long))
 
@@ -167,15 +104,18 @@ turn_once g h before =
       | inr tied ↦ (let both = and_parts _ _ tied in inr (eqb-true a.sending.end b.sending.end both.0, ltb-true a.sending.node b.sending.node both.1))
     ]
 
-    by : (g.sending.end < h.sending.end) ⊎ ((g.sending.end ≡ h.sending.end) × (g.sending.node < h.sending.node)) → (h.sending.end < g.sending.end) ⊎ ((h.sending.end ≡ g.sending.end) × (h.sending.node < g.sending.node)) → ⊥
+    by : (g.sending.end < h.sending.end) ⊎ ((g.sending.end ≡ h.sending.end) × (g.sending.node < h.sending.node))
+        → (h.sending.end < g.sending.end) ⊎ ((h.sending.end ≡ g.sending.end) × (h.sending.node < g.sending.node)) → ⊥
     by (inl a) (inl b) = omega (arith, a, b)
     by (inl a) (inr b) = omega (arith, a, b.0)
     by (inr a) (inl b) = omega (arith, a.0, b)
     by (inr a) (inr b) = omega (arith, a.1, b.1)
 
-module _ (s : ScenarioParts) (clocks : ℕ → ℕ → ℕ) (sound : IsSoundScenario s) (lines : Lines) (by_trace : lines ≡ s.trace) (at_places : ℕ → ℕ → ℕ) (t p : ℕ) (x : Sending) (now : x.end ≡ t) (hearers : List ℕ)
+module _ (s : ScenarioParts) (clocks : ℕ → ℕ → ℕ) (sound : IsSoundScenario s) (lines : Lines) (by_trace : lines ≡ s.trace) (at_places : ℕ → ℕ → ℕ)
+    (t p : ℕ) (x : Sending) (now : x.end ≡ t) (hearers : List ℕ)
     (old : FieldState) (old_due : List Due) (new : FieldState) (new_due : List Due) (ends : EndsSending lines at_places t p x hearers old old_due new new_due)
-    (places : HasPlaces s old old_due) (trails : OnTrails s clocks t (At SendingEnd) old old_due) (sends : Sends t old old_due p x) (sender : NodeLine) (here : slice_get s.nodes p ≡ Some sender)
+    (places : HasPlaces s old old_due) (trails : OnTrails s clocks t (At SendingEnd) old old_due) (sends : Sends t old old_due p x) (sender : NodeLine)
+    (here : slice_get s.nodes p ≡ Some sender)
     (a : Scene) (holds : HoldsScene s t old old_due a) (over : ℕ) (has : HasHearings over t old a) where
   -- the sender
   abbrev own : Device
@@ -187,13 +127,14 @@ module _ (s : ScenarioParts) (clocks : ℕ → ℕ → ℕ) (sound : IsSoundScen
       let shows = trail.shows in
       let same : own.made.sent ≡ sent_by old.air sender.node = ap (λ (e : Device). e.made.sent) (sym shows.is) ∙ shows.logged.sent in
       subst (λ (ys : List Sending). Contains ys x) same
-      (own_here own.sending own.made.sent x (sends (setup_of s sender.node) own shows) (own_sent s sender.node (clocks sender.node) (heard_by old.air sender.node) t own trail.at))
+      (own_here own.sending own.made.sent x (sends (setup_of s sender.node) own shows)
+      (own_sent s sender.node (clocks sender.node) (heard_by old.air sender.node) t own trail.at))
 
   in_log : Contains (sendings_of old.air) x
-  in_log = (filter_holds (λ (y : Sending). y.node == sender.node) (sendings_of old.air) x sent_own).0
+  in_log = (filtered (λ (y : Sending). y.node == sender.node) (sendings_of old.air) x sent_own).0
 
   pub sent_by_sender : x.node ≡ sender.node
-  sent_by_sender = eqb-true x.node sender.node (filter_holds (λ (y : Sending). y.node == sender.node) (sendings_of old.air) x sent_own).1
+  sent_by_sender = eqb-true x.node sender.node (filtered (λ (y : Sending). y.node == sender.node) (sendings_of old.air) x sent_own).1
 
   hears : (q : ℕ) (n : NodeLine) → slice_get s.nodes q ≡ Some n → Contains hearers q → Hears (as_it_stands old.medium t a) n.node x
   hears q n there is =
@@ -201,17 +142,21 @@ module _ (s : ScenarioParts) (clocks : ℕ → ℕ → ℕ) (sound : IsSoundScen
       (ends.heard a holds.held (holds.lines ∙ sym by_trace) q (setup_of s n.node) trail.device trail.shows).0 is
 
   -- who hears x has sent nothing that ends with it
-  pub none_with : (q : ℕ) (n : NodeLine) → slice_get s.nodes q ≡ Some n → Contains hearers q → (y : Sending) → Contains (sent_by old.air n.node) y → y.end ≡ x.end → ⊥
+  pub none_with : (q : ℕ) (n : NodeLine) → slice_get s.nodes q ≡ Some n → Contains hearers q → (y : Sending) → Contains (sent_by old.air n.node) y
+      → y.end ≡ x.end → ⊥
   none_with q n there is y sent tied =
-      let both = filter_holds (λ (z : Sending). z.node == n.node) (sendings_of old.air) y sent in
+      let both = filtered (λ (z : Sending). z.node == n.node) (sendings_of old.air) y sent in
       let of_y = holds.begun y both.0 in
       let of_x = holds.begun x in_log in
-      (hears q n there is).silent y ((holds.sendings y).1 both.0) (eqb-true y.node n.node both.1) (record { before = omega (arith, of_x.0, tied); after = omega (arith, of_y.0, tied) })
+      (hears q n there is).silent y ((holds.sendings y).1 both.0) (eqb-true y.node n.node both.1) (record {
+        before = omega (arith, of_x.0, tied);
+        after = omega (arith, of_y.0, tied);
+      })
 
   pub not_own : Contains hearers p → ⊥
   not_own is = none_with p sender here is x sent_own refl
 
-  abbrev id : ℕ → ℕ
+  abbrev pub id : ℕ → ℕ
   id q = slice_index_or (ids_of old) q 0
 
   hearer_node : (q : ℕ) → Contains hearers q → (n : NodeLine) × (slice_get s.nodes q ≡ Some n)
@@ -253,7 +198,8 @@ module _ (s : ScenarioParts) (clocks : ℕ → ℕ → ℕ) (sound : IsSoundScen
       all_same [] = λ i j d less within. absurd (omega (arith, within))
       all_same (q ∷ qs) =
           AllPairs-cons (λ g h. comes_before h g ≡ false) (hearing_at old x q) (map (hearing_at old x) qs)
-          (all_from (λ h. comes_before h (hearing_at old x q) ≡ false) (map (hearing_at old x) qs) (λ h there. same_turn (hearing_at old x q) h (sym (of_x qs h there))))
+          (all_from (λ h. comes_before h (hearing_at old x q) ≡ false) (map (hearing_at old x) qs)
+          (λ h there. same_turn (hearing_at old x q) h (sym (of_x qs h there))))
           (all_same qs)
 
       across : (g h : Hearing) → Contains (hearings_of old.air) g → Contains (map (hearing_at old x) hearers) h → comes_before h g ≡ false
@@ -261,13 +207,16 @@ module _ (s : ScenarioParts) (clocks : ℕ → ℕ → ℕ) (sound : IsSoundScen
           let later : comes_before g (record { node = x.node; sending = x }) ≡ true = has.next g x before runs in
           turn_once g h (subst (λ (y : Sending). comes_before g (record { node = h.node; sending = y }) ≡ true) (sym (of_x hearers h there)) later)
 
-  heard_with : (v : ℕ) (hs : List Hearing) → filter (of id x v) (map (hearing_at old x) hearers) ≡ hs → heard_by new.air v ≡ heard_by old.air v ++ map reception_of hs
+  heard_with : (v : ℕ) (hs : List Hearing) → filter (of id x v) (map (hearing_at old x) hearers) ≡ hs
+      → heard_by new.air v ≡ heard_by old.air v ++ map reception_of hs
   heard_with v hs is =
       let of_v : Hearing → Bool = λ h. h.node == v in
       let turn_old : AreInTurn (hearings_by old.air v) = AllPairs-filter (λ g h. comes_before h g ≡ false) of_v (hearings_of old.air) has.in_turn in
       let turn_new : AreInTurn (hearings_by new.air v) = AllPairs-filter (λ g h. comes_before h g ≡ false) of_v (hearings_of new.air) in_turn_after in
       heard_in_turn new.air v turn_new
-      ∙ ap (map reception_of) (ap (filter of_v) ends.hearings ∙ filter-append of_v (hearings_of old.air) (map (hearing_at old x) hearers) ∙ ap (λ (l : List Hearing). hearings_by old.air v ++ l) is)
+      ∙ ap (map reception_of)
+      (ap (filter of_v) ends.hearings ∙ filter-append of_v (hearings_of old.air) (map (hearing_at old x) hearers)
+      ∙ ap (λ (l : List Hearing). hearings_by old.air v ++ l) is)
       ∙ map-append reception_of (hearings_by old.air v) hs
       ∙ ap (λ (l : List Reception). l ++ map reception_of hs) (sym (heard_in_turn old.air v turn_old))
 

@@ -1,5 +1,6 @@
 -- The places of those who hear.
-use Rattle.std.proofs.Common.{◌≡◌, ℕ, zero, suc, ◌<◌, List, [], ◌∷◌, ◌++◌, map, take, length, get_or, Some, refl, sym, ◌∙◌, ap, subst, arith, Contains, inl, inr}
+use Rattle.std.proofs.Common.{◌≡◌, ℕ, zero, suc, ◌<◌, List, [], ◌∷◌, ◌++◌, map, take, length, get_or, Some, refl, sym, ◌∙◌, ap, subst, arith, Contains, inl}
+use Rattle.std.proofs.Common.{inr}
 use Rattle.std.specs.Prelude.{AllPairs, slice_get, ◌⊎◌}
 use Rattle.std.proofs.lemmas.Bool.{cases_eq, cases_lt}
 use Rattle.std.proofs.lemmas.List.{map-append, length-map, get_or-map, get_or-take, length-take-le}
@@ -27,10 +28,12 @@ pub no_places : (ids : List ℕ) → ArePlaces ids [] []
 no_places ids = record { within = All-nil (λ (q : ℕ). q < length ids); stand = refl }
 
 -- the next node stands at its place
-pub places_more : (ids nodes places : List ℕ) (p v : ℕ) → ArePlaces ids nodes places → slice_get ids p ≡ Some v → ArePlaces ids (nodes ++ v ∷ []) (places ++ p ∷ [])
+pub places_more : (ids nodes places : List ℕ) (p v : ℕ) → ArePlaces ids nodes places → slice_get ids p ≡ Some v
+    → ArePlaces ids (nodes ++ v ∷ []) (places ++ p ∷ [])
 places_more ids nodes places p v are there = record {
   within = All-push (λ (q : ℕ). q < length ids) places p are.within (slice_get_within ids p v there);
-  stand = map-append (id_at ids) places (p ∷ []) ∙ ap (λ (l : List ℕ). l ++ id_at ids p ∷ []) are.stand ∙ ap (λ (n : ℕ). nodes ++ n ∷ []) (get_or_from_slice_get ids p v 0 there);
+  stand = map-append (id_at ids) places (p ∷ []) ∙ ap (λ (l : List ℕ). l ++ id_at ids p ∷ []) are.stand
+      ∙ ap (λ (n : ℕ). nodes ++ n ∷ []) (get_or_from_slice_get ids p v 0 there);
 }
 
 module _ (ids nodes places : List ℕ) (are : ArePlaces ids nodes places) where
@@ -47,8 +50,10 @@ module _ (ids nodes places : List ℕ) (are : ArePlaces ids nodes places) where
   pub places_ascend : AllPairs (λ a b. a < b) ids → AllPairs (λ a b. a < b) nodes → AllPairs (λ a b. a < b) places
   places_ascend ascend up i j d less below =
       let long : length places ≡ length nodes = sym (length-map places (id_at ids)) ∙ ap length are.stand in
-      let at : (k : ℕ) → k < length places → get_or nodes k 0 ≡ id_at ids (get_or places k d) = λ k within. ap (λ (l : List ℕ). get_or l k 0) (sym are.stand) ∙ get_or-map (id_at ids) places k d 0 within in
-      let ids_less : id_at ids (get_or places i d) < id_at ids (get_or places j d) = let p = at i (omega arith) in let q = at j below in let l = up i j 0 less (omega (arith, long)) in omega (arith, p, q, l) in
+      let at : (k : ℕ) → k < length places → get_or nodes k 0 ≡ id_at ids (get_or places k d) = λ k within. ap (λ (l : List ℕ). get_or l k 0)
+      (sym are.stand) ∙ get_or-map (id_at ids) places k d 0 within in
+      let ids_less : id_at ids (get_or places i d) < id_at ids (get_or places j d) = let p = at i (omega arith) in let q = at j below in
+      let l = up i j 0 less (omega (arith, long)) in omega (arith, p, q, l) in
       let last = are.within i d (omega arith) in
       by_order (get_or places i d) (get_or places j d) ids_less last
     where
@@ -79,7 +84,8 @@ same_there (q ∷ qs) zero a b less = refl
 same_there (q ∷ qs) (suc k) a b less = same_there qs k a b (omega arith)
 
 -- who comes next was not there before
-pub new_node : (ps : List (ℕ × ℕ)) (i : ℕ) (d : ℕ × ℕ) → AllPairs (λ p q. p.0 < q.0) ps → i < length ps → Contains (map (λ (p : ℕ × ℕ). p.0) (take i ps)) (get_or ps i d).0 → ⊥
+pub new_node : (ps : List (ℕ × ℕ)) (i : ℕ) (d : ℕ × ℕ) → AllPairs (λ p q. p.0 < q.0) ps → i < length ps
+    → Contains (map (λ (p : ℕ × ℕ). p.0) (take i ps)) (get_or ps i d).0 → ⊥
 new_node ps i d ascend below there =
     let w = map_from (λ (p : ℕ × ℕ). p.0) (take i ps) (get_or ps i d).0 there in
     at_place w.0 w.1 w.2

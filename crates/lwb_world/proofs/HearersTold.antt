@@ -31,7 +31,8 @@ id_there w p st at = get_or-map id_of w.devices p st 0 (slice_get_within w.devic
 abbrev pub logged : ℕ → Sending → FieldState → FieldState
 logged u x w = record { medium = w.medium; devices = w.devices; air = w.air ++ heard_entry u x ∷ []; deliveries = w.deliveries; drops = w.drops; sums = w.sums }
 
-pub shown_when_logged : (t q u : ℕ) (x : Sending) (w : FieldState) (due : List Due) (s : Setup) (d : Device) → Shows s t w due q d → Shows s t (logged u x w) due q d
+pub shown_when_logged : (t q u : ℕ) (x : Sending) (w : FieldState) (due : List Due) (s : Setup) (d : Device) → Shows s t w due q d
+    → Shows s t (logged u x w) due q d
 shown_when_logged t q u x w due s d shows =
     still_shown t q w due (logged u x w) due s d (record {
       device = refl;
@@ -44,7 +45,11 @@ shown_when_logged t q u x w due s d shows =
     }) shows
 
 pub is_shown_when_logged : (t q u : ℕ) (x : Sending) (w : FieldState) (due : List Due) → IsShown t w due q → IsShown t (logged u x w) due q
-is_shown_when_logged t q u x w due shown = record { setup = shown.setup; device = shown.device; shows = shown_when_logged t q u x w due shown.setup shown.device shown.shows }
+is_shown_when_logged t q u x w due shown = record {
+  setup = shown.setup;
+  device = shown.device;
+  shows = shown_when_logged t q u x w due shown.setup shown.device shown.shows;
+}
 
 -- the device at a place hears x
 pub heard_there : (clock : ℕ → ℕ) (p u : ℕ) (x : Sending) (w : FieldState) (due : List Due) (st : DeviceState) (new : FieldState) (new_due : List Due)
@@ -54,7 +59,8 @@ heard_there clock p u x w due st new new_due at id acts = record {
   hearer = λ q there s d shows.
       subst (λ (k : ℕ). Shows s x.end new new_due k (told_of_hearing clock x.end x s d)) (only q there)
       (acts.own s d (shown_when_logged x.end p u x w due s d (subst (λ (k : ℕ). Shows s x.end w due k d) (sym (only q there)) shows)));
-  others = λ q not s d shows. acts.others q (λ is. not (subst (λ (k : ℕ). Contains (p ∷ []) k) (sym is) (contains_head p []))) s d (shown_when_logged x.end q u x w due s d shows);
+  others = λ q not s d shows. acts.others q (λ is. not (subst (λ (k : ℕ). Contains (p ∷ []) k) (sym is) (contains_head p []))) s d
+      (shown_when_logged x.end q u x w due s d shows);
   hearings = acts.hearings ∙ hearings_heard w.air u x ∙ ap (λ (v : ℕ). hearings_of w.air ++ heard v ∷ []) (id ∙ sym (id_there w p st at));
   sendings = acts.sendings ∙ append-nil (sendings_of (logged u x w).air) ∙ sendings_heard w.air u x;
   drops = acts.drops ∙ append-nil w.drops;
@@ -62,7 +68,8 @@ heard_there clock p u x w due st new new_due at id acts = record {
   same = same_then w (logged u x w) new due due new_due (record {
     setups = refl;
     places = refl;
-    entries = entry_more w.air (ids_of w) (heard_entry u x) (subst (λ (v : ℕ). Contains (ids_of w) v) (sym id) (map_contains id_of w.devices st (is_there w.devices p st at)));
+    entries = entry_more w.air (ids_of w) (heard_entry u x)
+        (subst (λ (v : ℕ). Contains (ids_of w) v) (sym id) (map_contains id_of w.devices st (is_there w.devices p st at)));
     deliverers = λ d there. inl there;
   }) acts.same;
 }
@@ -94,7 +101,8 @@ module _ (clocks : ℕ → ℕ → ℕ) (clock : ℕ → ℕ) (t : ℕ) (x : Sen
   hears : (q : ℕ) → Contains (ps ++ p ∷ []) q → (s : Setup) (d : Device) → Shows s t u a q d → Shows s t w c q (told_of_hearing (clocks q) t x s d)
   hears q there s d shows =
       elim (Contains-push_cases ps p q there) [
-        | inl before ↦ then.others q (other q (λ is. new (subst (λ (k : ℕ). Contains ps k) is before))) s (told_of_hearing (clocks q) t x s d) (first.hearer q before s d shows)
+        | inl before ↦ then.others q (other q (λ is. new (subst (λ (k : ℕ). Contains ps k) is before))) s (told_of_hearing (clocks q) t x s d)
+            (first.hearer q before s d shows)
         | inr is ↦
             let at : Shows s t u a p d = subst (λ (k : ℕ). Shows s t u a k d) (sym is) shows in
             let now : Shows s t w c p (told_of_hearing (clocks p) t x s d) =
@@ -126,9 +134,14 @@ module _ (clocks : ℕ → ℕ → ℕ) (clock : ℕ → ℕ) (t : ℕ) (x : Sen
       heard_in l = record { node = get_or l p 0; sending = x }
 
 -- each device is shown still
-pub still_shown_to : (clocks : ℕ → ℕ → ℕ) (t : ℕ) (x : Sending) (ps : List ℕ) (q : ℕ) (u v : FieldState) (a b : List Due) → AllHear clocks t x ps u a v b → IsShown t u a q → IsShown t v b q
+pub still_shown_to : (clocks : ℕ → ℕ → ℕ) (t : ℕ) (x : Sending) (ps : List ℕ) (q : ℕ) (u v : FieldState) (a b : List Due)
+    → AllHear clocks t x ps u a v b → IsShown t u a q → IsShown t v b q
 still_shown_to clocks t x ps q u v a b all shown =
     elim (among_or_not ps q) [
-      | inl there ↦ record { setup = shown.setup; device = told_of_hearing (clocks q) t x shown.setup shown.device; shows = all.hearer q there shown.setup shown.device shown.shows }
+      | inl there ↦ record {
+        setup = shown.setup;
+        device = told_of_hearing (clocks q) t x shown.setup shown.device;
+        shows = all.hearer q there shown.setup shown.device shown.shows;
+      }
       | inr not ↦ record { setup = shown.setup; device = shown.device; shows = all.others q not shown.setup shown.device shown.shows }
     ]

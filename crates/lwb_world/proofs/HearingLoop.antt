@@ -22,7 +22,8 @@ first p = p.0
 pub some_there : (hs : List (ℕ × ℕ)) (i : ℕ) (o : Option (ℕ × ℕ)) → o ≡ slice_get hs i → i < length hs → IsSome o
 some_there hs i o is below = subst (λ (p : Option (ℕ × ℕ)). IsSome p) (sym (is ∙ slice_get-get_or hs i (0, 0) below)) refl
 
-module _ (clocks : ℕ → ℕ → ℕ) (x : Sending) (hs : List (ℕ × ℕ)) (i : ℕ) (h : ℕ × ℕ) (here : slice_get hs i ≡ Some h) (old now : FieldState) (old_due now_due : List Due)
+module _ (clocks : ℕ → ℕ → ℕ) (x : Sending) (hs : List (ℕ × ℕ)) (i : ℕ) (h : ℕ × ℕ) (here : slice_get hs i ≡ Some h) (old now : FieldState)
+    (old_due now_due : List Due)
     (heard : HeardBy clocks x (map first (take i hs)) old old_due now now_due) where
   ids : ids_of now ≡ ids_of old
   ids = same_ids old now old_due now_due heard.2.same
@@ -46,15 +47,19 @@ module _ (clocks : ℕ → ℕ → ℕ) (x : Sending) (hs : List (ℕ × ℕ)) (
     not_yet ascend there =
         let at = get_or_from_slice_get hs i h h here in
         let id : id_at (ids_of old) p ≡ (get_or hs i h).0 = get_or_from_slice_get (ids_of old) p h.0 0 in_old ∙ ap first (sym at) in
-        new_node hs i h ascend (slice_get_within hs i h here) (subst (λ (n : ℕ). Contains (map first (take i hs)) n) id (node_there (ids_of old) (map first (take i hs)) heard.0 heard.1 p there))
+        new_node hs i h ascend (slice_get_within hs i h here)
+        (subst (λ (n : ℕ). Contains (map first (take i hs)) n) id (node_there (ids_of old) (map first (take i hs)) heard.0 heard.1 p there))
 
-    pub heard_next : AllPairs (λ p q. p.0 < q.0) hs → (clock : ℕ → ℕ) → clock ≡ clocks p → (new : FieldState) (new_due : List Due) → AllHear (λ q. clock) x.end x (p ∷ []) now now_due new new_due
+    pub heard_next : AllPairs (λ p q. p.0 < q.0) hs → (clock : ℕ → ℕ) → clock ≡ clocks p → (new : FieldState) (new_due : List Due)
+        → AllHear (λ q. clock) x.end x (p ∷ []) now now_due new new_due
         → HeardBy clocks x (map first (take (i + 1) hs)) old old_due new new_due
     heard_next ascend clock reads new new_due hears =
         let at = get_or_from_slice_get hs i h h here in
-        let more : map first (take (i + 1) hs) ≡ map first (take i hs) ++ h.0 ∷ [] = map_more first hs i h (slice_get_within hs i h here) ∙ ap (λ (p : ℕ × ℕ). map first (take i hs) ++ p.0 ∷ []) at in (
+        let more : map first (take (i + 1) hs) ≡ map first (take i hs) ++ h.0 ∷ [] = map_more first hs i h (slice_get_within hs i h here)
+        ∙ ap (λ (p : ℕ × ℕ). map first (take i hs) ++ p.0 ∷ []) at in (
           heard.0 ++ p ∷ [],
-          subst (λ (l : List ℕ). ArePlaces (ids_of old) l (heard.0 ++ p ∷ [])) (sym more) (places_more (ids_of old) (map first (take i hs)) heard.0 p h.0 heard.1 in_old),
+          subst (λ (l : List ℕ). ArePlaces (ids_of old) l (heard.0 ++ p ∷ [])) (sym more)
+              (places_more (ids_of old) (map first (take i hs)) heard.0 p h.0 heard.1 in_old),
           one_more_hears clocks clock x.end x heard.0 p old now new old_due now_due new_due heard.2 hears (not_yet ascend) reads,
         )
 

@@ -1,5 +1,6 @@
 -- The order of hearings, by the ends and the senders of what is heard, and the order of ids.
-use Rattle.std.proofs.Common.{◌≡◌, ◌≢◌, ℕ, ◌<◌, ◌⊎◌, inl, inr, List, [], ◌∷◌, ◌++◌, true, false, nat_lt, ◌==◌, slice_get, Some, arith, Contains, AllPairs, lt-ltb, ltb-true, eqb-true, eq-eqb}
+use Rattle.std.proofs.Common.{◌≡◌, ℕ, ◌<◌, ◌⊎◌, inl, inr, List, [], ◌∷◌, ◌++◌, true, false, nat_lt, ◌==◌, slice_get, Some, arith, Contains, AllPairs, lt-ltb}
+use Rattle.std.proofs.Common.{ltb-true, eqb-true, eq-eqb}
 use Rattle.std.proofs.lemmas.Bool.{cases_order, or_left, or_right, or_cases, and_parts, and_from, false_from_ne_true}
 use Rattle.std.proofs.lemmas.List.Elements.{Contains-append_cases}
 use Rattle.std.proofs.lemmas.Option.{slice_get_within, get_or_from_slice_get}
@@ -25,7 +26,9 @@ pub comes_if : (g h : Hearing) → IsEarlier g.sending h.sending → comes_befor
 comes_if g h is =
     elim is [
       | inl less ↦ or_left (nat_lt g.sending.end h.sending.end) _ (lt-ltb g.sending.end h.sending.end less)
-      | inr both ↦ or_right (nat_lt g.sending.end h.sending.end) _ (and_from (g.sending.end == h.sending.end) (nat_lt g.sending.node h.sending.node) (eq-eqb g.sending.end h.sending.end both.0) (lt-ltb g.sending.node h.sending.node both.1))
+      | inr both ↦ or_right (nat_lt g.sending.end h.sending.end) _
+          (and_from (g.sending.end == h.sending.end) (nat_lt g.sending.node h.sending.node) (eq-eqb g.sending.end h.sending.end both.0)
+          (lt-ltb g.sending.node h.sending.node both.1))
     ]
 
 pub not_both : (x y : Sending) → IsEarlier x y → IsEarlier y x → ⊥
@@ -38,11 +41,15 @@ pub not_before : (g h : Hearing) → (IsEarlier g.sending h.sending → ⊥) →
 not_before g h never = false_from_ne_true (comes_before g h) (λ is. never (earlier g h is))
 
 -- pairs of two lists, one behind the other
-pub pairs_append : {X : Type 0} (R : X → X → Type 0) (xs ys : List X) → AllPairs R xs → AllPairs R ys → ((x y : X) → Contains xs x → Contains ys y → R x y) → AllPairs R (xs ++ ys)
+pub pairs_append : {X : Type 0} (R : X → X → Type 0) (xs ys : List X) → AllPairs R xs → AllPairs R ys
+    → ((x y : X) → Contains xs x → Contains ys y → R x y) → AllPairs R (xs ++ ys)
 pairs_append R [] ys first second across = second
 pairs_append R (x ∷ xs) ys first second across =
     pairs_cons R x (xs ++ ys)
-    (λ y there. elim (Contains-append_cases xs ys y there) [ inl in_first ↦ pairs_head R x xs first y in_first | inr in_second ↦ across x y (in_head xs x) in_second ])
+    (λ y there. elim (Contains-append_cases xs ys y there) [
+      | inl in_first ↦ pairs_head R x xs first y in_first
+      | inr in_second ↦ across x y (in_head xs x) in_second
+    ])
     (pairs_append R xs ys (pairs_tail R x xs first) second (λ z y in_first in_second. across z y (in_tail xs x z in_first) in_second))
 
 -- of ascending ids

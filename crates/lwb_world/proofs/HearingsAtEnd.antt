@@ -1,14 +1,12 @@
 -- At the end of a run its log follows the rule of hearing.
-use Rattle.std.proofs.Common.{◌≡◌, ◌≢◌, ℕ, ◌<◌, ◌↔◌, inl, inr, List, [], ◌∷◌, ◌++◌, Bool, true, ◌==◌, filter, reverse, Some, None, refl, sym, ◌∙◌, ap, subst, arith, Contains, AllPairs, eq-eqb, eqb-true}
-use Rattle.std.proofs.lemmas.Bool.{cond_both, cond-true}
-use Rattle.std.proofs.lemmas.List.{reverse-append}
-use Rattle.std.proofs.lemmas.List.Elements.{Contains-append_left, Contains-push, Contains-push_cases}
+use Rattle.std.proofs.Common.{◌≡◌, ◌≢◌, ℕ, ◌<◌, ◌↔◌, inl, inr, List, ◌==◌, reverse, Some, None, refl, sym, ◌∙◌, ap, subst, arith, Contains, AllPairs, eq-eqb}
+use Rattle.std.proofs.Common.{eqb-true}
 use Rattle.std.proofs.lemmas.Option.{same_Some}
 use Rattle.radio_model.specs.declared.sending.Sending.{Sending}
 use Rattle.radio_model.specs.OnAir.{Hearing, Tuning}
 use Rattle.radio_model.specs.Hearing.{Scene, IsTuned, TunedThrough, Rival, Hears}
 use Rattle.radio_model.specs.Holding.{Agree, as_it_stands}
-use Rattle.radio_model.proofs.Members.{not_in_none, in_head, in_tail, in_either, from_filter}
+use Rattle.radio_model.proofs.Members.{from_filter}
 use Rattle.radio_model.proofs.OneCall.{lit_moves}
 use Rattle.radio_model.proofs.Settled.{settled}
 use Rattle.scenario_text.specs.ScenarioParts.{ScenarioParts}
@@ -21,14 +19,13 @@ use Rattle.air_log.specs.Devices.{Device, silenced}
 use Rattle.air_log.specs.HearsAir.{HearsAir, scene_of}
 use Rattle.air_log.specs.Lawful.{FollowsHearing, tuned_by}
 use Rattle.air_log.specs.Trails.{run_end}
-use Rattle.air_log.proofs.Elements.{in_filtered, in_reverse, from_reverse}
+use Rattle.air_log.proofs.Elements.{in_filtered, in_reverse, from_reverse, filtered}
 use Rattle.lwb_world.specs.Fields.{FieldState, Shows, ids_of}
 use Rattle.lwb_world.specs.FieldSteps.{IsClosed}
 use Rattle.lwb_world.specs.Running.{Runs, HoldsScene, HasHearings, IsOnAir}
 use Rattle.air_log.proofs.TunedBefore.{TunedAt, silenced_stays}
-use Rattle.lwb_world.proofs.ShownTunings.{AreTuned, shown_id, place_in}
 use Rattle.lwb_world.proofs.ScenesGoOn.{sending_at}
-use Rattle.lwb_world.proofs.SendingEnds.{filtered}
+use Rattle.lwb_world.proofs.ShownTunings.{AreTuned, shown_id, place_in}
 
 -- of the tunings of a scene those of the hearer alone matter
 module _ (a : Scene) (ts : List Tuning) (v : ℕ) (x : Sending) where
@@ -80,7 +77,8 @@ module _ (s : ScenarioParts) (w : FieldState) (due : List Due) (end : FieldState
     in_log is =
         elim is [
           | inl e ↦
-              let found = filtered (λ (t : Tuning). t.node == q.id) (tunings_of end.air) e.0 (from_reverse (tuned_by end.air q.id) e.0 (subst (λ (l : List Tuning). Contains l e.0) of_log e.1)) in
+              let found = filtered (λ (t : Tuning). t.node == q.id) (tunings_of end.air) e.0
+              (from_reverse (tuned_by end.air q.id) e.0 (subst (λ (l : List Tuning). Contains l e.0) of_log e.1)) in
               record { tuning = e.0; there = found.0; node = eqb-true e.0.node q.id found.1; rank = e.2.rank; since = e.2.since; until = e.2.until }
           | inr none ↦ absurd none
         ]
@@ -130,11 +128,13 @@ module _ (s : ScenarioParts) (w : FieldState) (due : List Due) (end : FieldState
     hears_on : Hears stands v x → HearsAir s.profile s.trace end.air v x
     hears_on hears =
         let on = (settled stands between v x lasts (agree x.end)).0 hears in
-        hears_with between (tunings_of end.air) v x (λ k from until. (tuned_alike v there x.rank k (omega (arith, until, over))).0 (hears.tuned k from until)) on
+        hears_with between (tunings_of end.air) v x
+        (λ k from until. (tuned_alike v there x.rank k (omega (arith, until, over))).0 (hears.tuned k from until)) on
 
     hears_back : HearsAir s.profile s.trace end.air v x → Hears stands v x
     hears_back hears =
-        let tuned : TunedThrough between v x = λ k from until. lit_moves stands between v x.rank k refl ((tuned_alike v there x.rank k (omega (arith, until, over))).1 (hears.tuned k from until)) in
+        let tuned : TunedThrough between v x = λ k from until. lit_moves stands between v x.rank k refl
+        ((tuned_alike v there x.rank k (omega (arith, until, over))).1 (hears.tuned k from until)) in
         (settled stands between v x lasts (agree x.end)).1 (hears_with logged stands.tunings v x tuned hears)
 
   -- a node that is tuned by the log is one of the field
@@ -167,5 +167,6 @@ module _ (s : ScenarioParts) (w : FieldState) (due : List Due) (end : FieldState
     once = subst (λ (l : List Hearing). AllPairs (λ g k. g ≢ k) l) (sym closed.hearings) has.once;
   }
 
-pub run_follows_hearing : (s : ScenarioParts) (w : FieldState) (due : List Due) (end : FieldState) → IsOnAir s (run_end s) (run_end s) w due → IsClosed (run_end s) w due end → AreTuned (run_end s) w due → FollowsHearing s end.air
+pub run_follows_hearing : (s : ScenarioParts) (w : FieldState) (due : List Due) (end : FieldState) → IsOnAir s (run_end s) (run_end s) w due
+    → IsClosed (run_end s) w due end → AreTuned (run_end s) w due → FollowsHearing s end.air
 run_follows_hearing s w due end is closed all = hearing_at_end s w due end closed all is.scene is.holds is.has

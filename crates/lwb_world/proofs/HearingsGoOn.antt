@@ -1,5 +1,6 @@
 -- What is on the air of a run after a step at one device.
-use Rattle.std.proofs.Common.{◌≡◌, ◌≢◌, ℕ, suc, ◌<◌, ◌≤◌, ◌↔◌, ◌⊎◌, inl, inr, List, [], ◌∷◌, ◌++◌, length, true, Some, refl, sym, ◌∙◌, ap, subst, arith, Contains, AllPairs, lt-ltb}
+use Rattle.std.proofs.Common.{◌≡◌, ◌≢◌, ℕ, suc, ◌<◌, ◌≤◌, ◌↔◌, ◌⊎◌, inl, inr, List, [], ◌∷◌, ◌++◌, length, true, Some, refl, sym, ◌∙◌, ap, subst, arith}
+use Rattle.std.proofs.Common.{Contains, AllPairs, lt-ltb}
 use Rattle.std.proofs.lemmas.Bool.{cases_eq, or_left}
 use Rattle.std.proofs.lemmas.List.Elements.{Contains-append_cases, Contains-append_left, All-contains}
 use Rattle.std.proofs.lemmas.Option.{none-some, same_Some, slice_get_within, get_or_from_slice_get}
@@ -65,13 +66,15 @@ module _ (s : ScenarioParts) (over t : ℕ) (begun : List Sending) (old : FieldS
         | inr fresh ↦ (let later = (runs.fresh x fresh).2 in let before = has.ended x there stopped in omega (arith, later, before, now))
       ]
 
-  alike_by : (v : ℕ) (x : Sending) → Contains (sendings_of old.air) x → (Runs old.medium x → ⊥) → Hears (as_it_stands old.medium t a) v x ↔ Hears (as_it_stands new.medium t b) v x
+  alike_by : (v : ℕ) (x : Sending) → Contains (sendings_of old.air) x → (Runs old.medium x → ⊥) → Hears (as_it_stands old.medium t a) v x
+      ↔ Hears (as_it_stands new.medium t b) v x
   alike_by v x there stopped = let before = has.ended x there stopped in heard_alike s t old old_due a _ _ h agree v x there (omega (arith, before, now))
 
   heard_was : (g : Hearing) → Contains (hearings_of new.air) g → Contains (hearings_of old.air) g
   heard_was g there = subst (λ (l : List Hearing). Contains l g) hearings there
 
-  heard_by_rule : (v : ℕ) (x : Sending) → IsHeard new.air v x ↔ (Contains (sendings_of new.air) x × (Runs new.medium x → ⊥) × Contains (ids_of new) v × Hears (as_it_stands new.medium t b) v x)
+  heard_by_rule : (v : ℕ) (x : Sending) → IsHeard new.air v x
+      ↔ (Contains (sendings_of new.air) x × (Runs new.medium x → ⊥) × Contains (ids_of new) v × Hears (as_it_stands new.medium t b) v x)
   heard_by_rule v x = (
     λ there.
         let all = (has.heard v x).0 (heard_was _ there) in
@@ -83,7 +86,8 @@ module _ (s : ScenarioParts) (over t : ℕ) (begun : List Sending) (old : FieldS
   )
 
   -- a sending that begins ends after what was heard
-  fresh_later : (g : Hearing) (y : Sending) → Contains (hearings_of old.air) g → Contains begun y → comes_before g (record { node = y.node; sending = y }) ≡ true
+  fresh_later : (g : Hearing) (y : Sending) → Contains (hearings_of old.air) g → Contains begun y
+      → comes_before g (record { node = y.node; sending = y }) ≡ true
   fresh_later g y there fresh =
       let all = (has.heard g.node g.sending).0 there in
       let before = has.ended g.sending all.0 all.1 in
@@ -103,9 +107,11 @@ module _ (s : ScenarioParts) (over t : ℕ) (begun : List Sending) (old : FieldS
   }
 
 -- at a place, what a device sends is what runs
-pub runs_at : (q : Setup) (t : ℕ) (w : FieldState) (due : List Due) (p : ℕ) (d : Device) → Shows q t w due p d → (x : Sending) → q.id ≡ x.node → Runs w.medium x ↔ (d.sending ≡ Some x)
+pub runs_at : (q : Setup) (t : ℕ) (w : FieldState) (due : List Due) (p : ℕ) (d : Device) → Shows q t w due p d → (x : Sending) → q.id ≡ x.node
+    → Runs w.medium x ↔ (d.sending ≡ Some x)
 runs_at q t w due p d shows x node =
-    let same : sending_of (station_of w.medium x.node) ≡ d.sending = ap (λ (v : ℕ). sending_of (station_of w.medium v)) (sym node) ∙ shown_sending q t w due p d shows in
+    let same : sending_of (station_of w.medium x.node) ≡ d.sending = ap (λ (v : ℕ). sending_of (station_of w.medium v)) (sym node)
+    ∙ shown_sending q t w due p d shows in
     (λ is. sym same ∙ is, λ is. same ∙ is)
 
 -- what a change at a place does to the tuning and the sending of the device
@@ -117,7 +123,8 @@ goes_on : (q : Setup) (t : ℕ) (d : Device) (begun : List Sending) (e : Device)
 goes_on q t d [] e x begins is = begins ∙ is
 goes_on q t d (y ∷ ys) e x begins is = absurd (none-some x (sym begins.0 ∙ is))
 
-came_from : (q : Setup) (t : ℕ) (d : Device) (begun : List Sending) (e : Device) (x : Sending) → Begins q t d begun e → e.sending ≡ Some x → (d.sending ≡ Some x) ⊎ Contains begun x
+came_from : (q : Setup) (t : ℕ) (d : Device) (begun : List Sending) (e : Device) (x : Sending) → Begins q t d begun e → e.sending ≡ Some x
+    → (d.sending ≡ Some x) ⊎ Contains begun x
 came_from q t d [] e x begins is = inl (sym begins ∙ is)
 came_from q t d (y ∷ ys) e x begins is = inr (subst (Contains (y ∷ ys)) (same_Some y x (sym begins.1 ∙ is)) (in_head ys y))
 
@@ -135,8 +142,10 @@ is_fresh q t d (y ∷ ys) e x begins there =
       | inr rest ↦ absurd (not_in_none x (subst (λ (l : List Sending). Contains l x) begins.2 rest))
     ]
 
-module _ (t p : ℕ) (change : Setup → Device → Device) (begun : List Sending) (lost : List DropLine) (old : FieldState) (old_due : List Due) (new : FieldState) (new_due : List Due)
-    (acts : Acts t p change begun lost old old_due new new_due) (within : p < length old.devices) (field : IsField old) (all : AreTuned t old old_due) (does : Does t p change begun old old_due) where
+module _ (t p : ℕ) (change : Setup → Device → Device) (begun : List Sending) (lost : List DropLine) (old : FieldState) (old_due : List Due)
+    (new : FieldState) (new_due : List Due)
+    (acts : Acts t p change begun lost old old_due new new_due) (within : p < length old.devices) (field : IsField old) (all : AreTuned t old old_due)
+    (does : Does t p change begun old old_due) where
   -- at each place
   pub record ActsAt (r : ℕ) : Type 0 where
     pub moved : IsMoved t old old_due new new_due r
@@ -146,7 +155,14 @@ module _ (t p : ℕ) (change : Setup → Device → Device) (begun : List Sendin
   at_place =
       let at = all p within in
       record {
-        moved = record { setup = at.setup; before = at.device; after = change at.setup at.device; was = at.shows; is = acts.own at.setup at.device at.shows; stays = does.tuned at.setup at.device at.shows at.by };
+        moved = record {
+          setup = at.setup;
+          before = at.device;
+          after = change at.setup at.device;
+          was = at.shows;
+          is = acts.own at.setup at.device at.shows;
+          stays = does.tuned at.setup at.device at.shows at.by;
+        };
         fate = inl (refl, does.sending at.setup at.device at.shows);
       }
 
@@ -157,7 +173,14 @@ module _ (t p : ℕ) (change : Setup → Device → Device) (begun : List Sendin
         | inr other ↦
             let at = all r inside in
             record {
-              moved = record { setup = at.setup; before = at.device; after = at.device; was = at.shows; is = acts.others r other at.setup at.device at.shows; stays = stays_same t at.device.made.tuned at.device.listening at.by };
+              moved = record {
+                setup = at.setup;
+                before = at.device;
+                after = at.device;
+                was = at.shows;
+                is = acts.others r other at.setup at.device at.shows;
+                stays = stays_same t at.device.made.tuned at.device.listening at.by;
+              };
               fate = inr (other, refl);
             }
       ]
@@ -175,7 +198,11 @@ module _ (t p : ℕ) (change : Setup → Device → Device) (begun : List Sendin
   sends_at x there =
       let place = place_in old x.node there in
       let at = acts_at place.place place.within in
-      record { place = place.place; at = at; node = same_Some at.moved.setup.id x.node (sym (shown_id at.moved.setup t old old_due place.place at.moved.before at.moved.was) ∙ place.id) }
+      record {
+        place = place.place;
+        at = at;
+        node = same_Some at.moved.setup.id x.node (sym (shown_id at.moved.setup t old old_due place.place at.moved.before at.moved.was) ∙ place.id);
+      }
 
   pub runs_on : RunsOn t begun old new
   runs_on = record {
@@ -218,17 +245,21 @@ module _ (t p : ℕ) (change : Setup → Device → Device) (begun : List Sendin
     step_on_air = record {
       scene = next s t begun old old_due new new_due is.scene is.holds acts.air acts.same acts.sendings starts moves;
       holds = scene_after s t begun old old_due new new_due is.scene is.holds acts.air acts.same acts.sendings starts moves;
-      has = hearings_after s over t begun old old_due new new_due is.scene _ is.holds (is_next s t begun old old_due new new_due is.scene is.holds acts.air acts.same acts.sendings starts moves).before ids acts.sendings acts.hearings runs_on now is.has;
+      has = hearings_after s over t begun old old_due new new_due is.scene _ is.holds
+          (is_next s t begun old old_due new new_due is.scene is.holds acts.air acts.same acts.sendings starts moves).before ids acts.sendings
+          acts.hearings runs_on now is.has;
     }
 
 -- the changes that occur
 pub does_quietly : (t p : ℕ) (change : Setup → Device → Device) (old : FieldState) (old_due : List Due)
-    → ((q : Setup) (d : Device) → HasTunedBy t d → IsTunedAs t d (change q d)) → ((q : Setup) (d : Device) → (change q d).sending ≡ d.sending) → Does t p change [] old old_due
+    → ((q : Setup) (d : Device) → HasTunedBy t d → IsTunedAs t d (change q d)) → ((q : Setup) (d : Device) → (change q d).sending ≡ d.sending)
+    → Does t p change [] old old_due
 does_quietly t p change old old_due tuned sending = record { tuned = λ q d shows by. tuned q d by; sending = λ q d shows. sending q d }
 
 module _ (clock : ℕ → ℕ) (t p : ℕ) (old : FieldState) (old_due : List Due) where
   pub line_does : (line : ScriptLine) → Does t p (λ s d. after_line clock s t d line) [] old old_due
-  line_does line = does_quietly t p (λ s d. after_line clock s t d line) old old_due (λ q d by. line_stays clock q t d by line) (λ q d. line_sending clock q t d line)
+  line_does line = does_quietly t p (λ s d. after_line clock s t d line) old old_due (λ q d by. line_stays clock q t d by line)
+      (λ q d. line_sending clock q t d line)
 
   pub alarmed_does : Does t p (λ s d. alarmed clock s t d) [] old old_due
   alarmed_does = does_quietly t p (λ s d. alarmed clock s t d) old old_due (λ q d by. alarmed_stays clock q t d by) (λ q d. alarmed_sending clock q t d)
@@ -238,7 +269,9 @@ pub shown_lasts : (q : Setup) (t : ℕ) (w : FieldState) (due : List Due) (p : �
 shown_lasts q t w due p d field shows = profile_lasts q.profile (subst IsProfile (sym numbers) field.medium.profile)
   where
     numbers : q.profile ≡ w.medium.numbers
-    numbers = ap (λ (x : Setup). x.profile) (sym shows.setup) ∙ All-contains (λ (x : DeviceState). x.setup.profile ≡ w.medium.numbers) w.devices shows.state field.numbers (p, within, get_or_from_slice_get w.devices p shows.state shows.state shows.there)
+    numbers = ap (λ (x : Setup). x.profile) (sym shows.setup)
+        ∙ All-contains (λ (x : DeviceState). x.setup.profile ≡ w.medium.numbers) w.devices shows.state field.numbers
+        (p, within, get_or_from_slice_get w.devices p shows.state shows.state shows.there)
       where
         within : p < length w.devices
         within = slice_get_within w.devices p shows.state shows.there
@@ -247,5 +280,6 @@ pub begun_does : (t p : ℕ) (begun : List Sending) (old : FieldState) (old_due 
     → ((q : Setup) (d : Device) → Shows q t old old_due p d → begun ≡ starting q t d) → Does t p (λ s d. begun_at s t d) begun old old_due
 begun_does t p begun old old_due field is = record {
   tuned = λ q d shows by. begun_stays q t d by;
-  sending = λ q d shows. subst (λ (l : List Sending). Begins q t d l (begun_at q t d)) (sym (is q d shows)) (begun_sending q (shown_lasts q t old old_due p d field shows) t d);
+  sending = λ q d shows. subst (λ (l : List Sending). Begins q t d l (begun_at q t d)) (sym (is q d shows))
+      (begun_sending q (shown_lasts q t old old_due p d field shows) t d);
 }

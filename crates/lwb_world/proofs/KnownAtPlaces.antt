@@ -1,7 +1,7 @@
 -- What a step asks of the devices at their places.
-use Rattle.std.proofs.Common.{◌≡◌, ℕ, ◌+◌, ◌<◌, ◌≤◌, List, [], ◌∷◌, ◌++◌, ◌==◌, Bool, true, false, if◌then◌else◌, cond, length, find, Some, None, Option, option_map, option_to_list, Contains, refl, sym, ◌∙◌, ap, subst, arith}
+use Rattle.std.proofs.Common.{◌≡◌, ℕ, ◌<◌, List, [], ◌∷◌, ◌++◌, Bool, true, false, cond, length, find, Some, None, Option, option_map, option_to_list, Contains}
+use Rattle.std.proofs.Common.{refl, sym, ◌∙◌, ap, subst}
 use Rattle.std.specs.Prelude.{slice_get}
-use Rattle.std.proofs.lemmas.Bool.{eq-eqb, cond_both}
 use Rattle.std.proofs.lemmas.List.Elements.{All-contains, Contains-append_right}
 use Rattle.event_calendar.specs.declared.class.Class.TheVariants.{SendingEnd}
 use Rattle.event_calendar.specs.Orders.{Due, at}
@@ -10,10 +10,9 @@ use Rattle.radio_model.specs.Hearing.{Scene}
 use Rattle.radio_model.specs.Holding.{Holds}
 use Rattle.radio_model.specs.Stations.{Ends, is_of, station_of, sending_of}
 use Rattle.scenario_text.specs.ScenarioParts.{ScenarioParts}
-use Rattle.scenario_text.specs.ScenarioFacts.{IsSoundScenario, IsScriptLine, IsAct, turned, turned_by}
+use Rattle.scenario_text.specs.ScenarioFacts.{IsSoundScenario, IsScriptLine, IsAct, turned}
 use Rattle.scenario_text.specs.declared.lines.NodeLine.{NodeLine}
-use Rattle.scenario_text.specs.declared.script.Act.{Act}
-use Rattle.scenario_text.specs.declared.script.Act.TheVariants.{On, Off, Declare, Leave, Put}
+use Rattle.scenario_text.specs.declared.script.Act.TheVariants.{On}
 use Rattle.scenario_text.specs.declared.script.ScriptLine.{ScriptLine}
 use Rattle.bus_rules.specs.Cores.{Setup}
 use Rattle.air_log.specs.Devices.{Device, Power, PowerOff, PowerOn, seen_power}
@@ -21,11 +20,10 @@ use Rattle.air_log.specs.Trails.{setup_of}
 use Rattle.air_log.proofs.Elements.{contains_head, contains_tail}
 use Rattle.air_log.proofs.KeptPower.{few_before}
 use Rattle.air_log.specs.DeviceStates.{CanBoot}
-use Rattle.lwb_world.specs.Fields.{FieldState, Shows, IsShown}
+use Rattle.lwb_world.specs.Fields.{FieldState, Shows, IsShown, end_of}
 use Rattle.lwb_world.specs.FieldSteps.{Sends}
 use Rattle.lwb_world.specs.Moments.{Moment}
 use Rattle.lwb_world.specs.Running.{HasPlaces, IsTold}
-use Rattle.lwb_world.specs.Runs.{end_of}
 use Rattle.lwb_world.proofs.ShownDevices.{node_there, same_sending, stands_at}
 use Rattle.lwb_world.proofs.TrailsGoOn.{OnTrails, some_same}
 use Rattle.lwb_world.proofs.HeardAtEnds.{node_within}
@@ -42,7 +40,8 @@ found {X} p (y ∷ ys) x is = by (p y) (found p ys x) is
     by true rest at = subst (λ (z : X). Contains (y ∷ ys) z) (some_same y x at) (contains_head y ys)
     by false rest at = contains_tail y ys x (rest at)
 
-module _ (s : ScenarioParts) (clocks : ℕ → ℕ → ℕ) (t : ℕ) (m : Moment) (w : FieldState) (due : List Due) (places : HasPlaces s w due) (trails : OnTrails s clocks t m w due) where
+module _ (s : ScenarioParts) (clocks : ℕ → ℕ → ℕ) (t : ℕ) (m : Moment) (w : FieldState) (due : List Due) (places : HasPlaces s w due)
+    (trails : OnTrails s clocks t m w due) where
   pub shown_within : (p : ℕ) → p < length w.devices → IsShown t w due p
   shown_within p within =
       let n = node_within s w due places p within in
@@ -87,12 +86,14 @@ ends_at_place t w due p a holds x now sends q d shows =
     let runs : known.station.sending ≡ Some x = known.sending ∙ ap (λ (e : Device). e.sending) shows.is ∙ sends q d shows in
     let station : station_of w.medium q.id ≡ Some known.station = ap (λ (y : Setup). station_of w.medium y.id) (sym shows.setup) ∙ known.there in
     let orderly = holds.orderly known.station (found (is_of q.id) w.medium.stations known.station station) in
-    let last : Contains (option_to_list known.station.sending) x = subst (λ (o : Option Sending). Contains (option_to_list o) x) (sym runs) (contains_head x []) in
+    let last : Contains (option_to_list known.station.sending) x =
+    subst (λ (o : Option Sending). Contains (option_to_list o) x) (sym runs) (contains_head x []) in
     let own = orderly.own x (Contains-append_right known.station.ended.items (option_to_list known.station.sending) x last) in
     record { sending = x; runs = ap sending_of station ∙ runs; until = now; lasts = sym now ∙ own.lasts }
 
 -- a node that a line switches on can boot
-pub can_boot : (s : ScenarioParts) (clocks : ℕ → ℕ → ℕ) (sound : IsSoundScenario s) (told rest : List ScriptLine) (l : ScriptLine) → s.script ≡ told ++ l ∷ rest → (t : ℕ) (w : FieldState) (due : List Due) → IsTold s clocks told t w due
+pub can_boot : (s : ScenarioParts) (clocks : ℕ → ℕ → ℕ) (sound : IsSoundScenario s) (told rest : List ScriptLine) (l : ScriptLine)
+    → s.script ≡ told ++ l ∷ rest → (t : ℕ) (w : FieldState) (due : List Due) → IsTold s clocks told t w due
     → (p : ℕ) (q : Setup) (d : Device) → Shows q t w due p d → l.node ≡ q.id → l.act ≡ On → CanBoot d.power
 can_boot s clocks sound told rest l is t w due told_so p q d shows own on = by d.power (told_so.power q p d shows)
   where

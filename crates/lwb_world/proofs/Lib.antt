@@ -4,6 +4,7 @@ mod AirInTime
 mod AlarmsAtPlaces
 mod AlarmsTaken
 mod BegunDevices
+mod NothingBegun
 mod BegunSendings
 mod ChargesOver
 mod ClocksAtPlaces
@@ -19,12 +20,14 @@ mod DevicesOfNodes
 mod DropsOver
 mod DueSteps
 mod EndedSendings
+mod EndsInCode
 mod EndsOfSendings
 mod EventsInCode
 mod FieldClosing
 mod FirstField
 mod FramesInCode
 mod GoesOn
+mod OneHearing
 mod HeardAtEnds
 mod HearersAtPlaces
 mod HearersTold
@@ -34,6 +37,7 @@ mod HearingsAtEnd
 mod HearingsGoOn
 mod KeptDrops
 mod KnownAtPlaces
+mod LineChanges
 mod LineSteps
 mod LinesInCode
 mod LinesTold
@@ -55,6 +59,7 @@ mod RunsGoOn
 mod RunsOnAir
 mod ScenesGoOn
 mod ScriptCuts
+mod PlacesAtEnds
 mod SendingEnds
 mod SendingsRun
 mod ShownDevices

@@ -59,7 +59,8 @@ module _ {C : Type 0} (R : C → ℕ → ℕ) (s : ScenarioParts) (sound : IsSou
     (t : ℕ) (line : ScriptLine) (told : List ScriptLine) (next : IsNextLine s t told line)
     (old : FieldState) (old_due : List Due) (run : IsRunning s (clocks_by R s.nodes cs) told t (InLines told) old old_due) where
   in_script : Contains s.script line
-  in_script = subst (λ (ls : List ScriptLine). Contains ls line) (sym next.is) (Contains-append_right told (line ∷ next.rest) line (contains_head line next.rest))
+  in_script = subst (λ (ls : List ScriptLine). Contains ls line) (sym next.is)
+      (Contains-append_right told (line ∷ next.rest) line (contains_head line next.rest))
 
   is_line : IsScriptLine s line
   is_line = All-contains (IsScriptLine s) s.script line sound.script in_script
@@ -100,8 +101,10 @@ module _ {C : Type 0} (R : C → ℕ → ℕ) (s : ScenarioParts) (sound : IsSou
     boots q d shows = can_boot s (clocks_by R s.nodes cs) sound told next.rest line next.is t old old_due run.script p q d shows (to_node q d shows)
 
     pub line_done : (c : C) → slice_get cs p ≡ Some c → (new : FieldState) (new_due : List Due) → IsTold (R c) line t p line.act old old_due new new_due
-        → IsRunning s (clocks_by R s.nodes cs) (told ++ line ∷ []) t (InLines (told ++ line ∷ [])) new new_due × TrailsStay s (clocks_by R s.nodes cs) t old.air new.air
+        → IsRunning s (clocks_by R s.nodes cs) (told ++ line ∷ []) t (InLines (told ++ line ∷ [])) new new_due
+        × TrailsStay s (clocks_by R s.nodes cs) t old.air new.air
     line_done c clock new new_due all = (
-      line_goes_on s (clocks_by R s.nodes cs) sound told t p node.0 node.1 old old_due new new_due (R c) (own_clock R s sound cs count p c clock) line own next.now all.0 all.1 all.2 run,
+      line_goes_on s (clocks_by R s.nodes cs) sound told t p node.0 node.1 old old_due new new_due (R c)
+          (own_clock R s sound cs count p c clock) line own next.now all.0 all.1 all.2 run,
       acts_stay s (clocks_by R s.nodes cs) t p (λ x d. after_act (R c) x t line.frame d line.act d.power) [] all.0 old old_due new new_due all.1,
     )

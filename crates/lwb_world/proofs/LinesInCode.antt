@@ -1,5 +1,6 @@
 -- The script lines of a frame, told one after another.
-use Rattle.std.proofs.Common.{◌≡◌, ◌≢◌, ℕ, suc, ◌+◌, ◌*◌, ◌<◌, ◌≤◌, List, [], ◌∷◌, ◌++◌, take, drop, length, get_or, nat_lt, true, false, Some, None, refl, sym, ap, subst, ◌∙◌, arith}
+use Rattle.std.proofs.Common.{◌≡◌, ◌≢◌, ℕ, suc, ◌+◌, ◌*◌, ◌<◌, ◌≤◌, List, [], ◌∷◌, ◌++◌, take, drop, length, get_or, nat_lt, true, false, Some, None, refl, sym}
+use Rattle.std.proofs.Common.{ap, subst, ◌∙◌, arith}
 use Rattle.std.specs.Prelude.{Contains, slice_get}
 use Rattle.std.proofs.lemmas.Bool.{ltb-true, ltb-false}
 use Rattle.std.proofs.lemmas.List.{take-append-drop, length-drop, get_or-drop}
@@ -35,7 +36,8 @@ pub tick_of : (s : ScenarioParts) (f i j : ℕ) (p : Numbers) → i ≡ f → j 
 tick_of s f i j p frame ticks profile = ap (λ (n : ℕ). n * j) frame ∙ ap (λ (n : ℕ). f * n) (ticks ∙ ap (λ (q : Numbers). q.frame) profile)
 
 -- what is read at an index of a list stands there
-pub read_line : (script read : List ScriptLine) (k : ℕ) (l : ScriptLine) → read ≡ script → true ≡ nat_lt k (length read) → l ≡ get_or read k l → slice_get script k ≡ Some l
+pub read_line : (script read : List ScriptLine) (k : ℕ) (l : ScriptLine) → read ≡ script → true ≡ nat_lt k (length read) → l ≡ get_or read k l
+    → slice_get script k ≡ Some l
 read_line script read k l same within is =
     ap (λ (ls : List ScriptLine). slice_get ls k) (sym same) ∙ slice_get_read read (length read) k l refl (ltb-true k (length read) (sym within)) is
 
@@ -57,7 +59,8 @@ module _ (s : ScenarioParts) (clocks : ℕ → ℕ → ℕ) (sound : IsSoundScen
     within = cut.within;
     before = λ i l at less. (let early = cut.before i l at less in omega (arith, early));
     behind = cut.behind;
-    run = subst (λ (told : List ScriptLine). IsRunning s clocks told (frame_start s f) (InLines told) w due) (told_at_cut s k f cut) (lines_begin s clocks sound drifts f w due run);
+    run = subst (λ (told : List ScriptLine). IsRunning s clocks told (frame_start s f) (InLines told) w due) (told_at_cut s k f cut)
+        (lines_begin s clocks sound drifts f w due run);
     stay = stay_same s clocks (frame_start s f) w.air;
   }
 
@@ -74,7 +77,8 @@ module _ (s : ScenarioParts) (clocks : ℕ → ℕ → ℕ) (sound : IsSoundScen
       next_told = (take k s.script, is_next, runs)
 
       pub one_more_told : k < length s.script → (new : FieldState) (new_due : List Due)
-          → ((told : List ScriptLine) → IsNextLine s t told l → IsRunning s clocks told t (InLines told) w due → IsRunning s clocks (told ++ l ∷ []) t (InLines (told ++ l ∷ [])) new new_due × TrailsStay s clocks t w.air new.air)
+          → ((told : List ScriptLine) → IsNextLine s t told l → IsRunning s clocks told t (InLines told) w due
+          → IsRunning s clocks (told ++ l ∷ []) t (InLines (told ++ l ∷ [])) new new_due × TrailsStay s clocks t w.air new.air)
           → AreTold first s clocks f (k + 1) new new_due
       one_more_told below new new_due done =
           let after = done (take k s.script) is_next runs in
@@ -98,7 +102,8 @@ module _ (s : ScenarioParts) (clocks : ℕ → ℕ → ℕ) (sound : IsSoundScen
     no_line = cut_end s sound.script_ascends k f so_far.within so_far.before so_far.behind
 
     pub lines_told : IsCut s k (f + 1) → IsRunning s clocks (told_before s (f + 1)) (frame_start s f) (InLines (told_before s (f + 1))) w due
-    lines_told cut = subst (λ (told : List ScriptLine). IsRunning s clocks told (frame_start s f) (InLines told) w due) (sym (told_at_cut s k (f + 1) cut)) so_far.run
+    lines_told cut = subst (λ (told : List ScriptLine). IsRunning s clocks told (frame_start s f) (InLines told) w due)
+        (sym (told_at_cut s k (f + 1) cut)) so_far.run
 
     pub all_told : IsCut s k (f + 1) → IsRunning s clocks (told_before s (f + 1)) (frame_start s f) (At SendingEnd) w due
     all_told cut =

@@ -23,7 +23,8 @@ module _ (air : List Entry) (x : Sending) (v : ℕ) where
   sent_own is = split ∙ ap (λ (l : List Sending). sent_by air v ++ l) (cond-true (x.node == v) (x ∷ []) [] (eq-eqb x.node v is))
 
   pub sent_other : x.node ≢ v → sent_by (air ++ sent_entry x ∷ []) v ≡ sent_by air v
-  sent_other not = split ∙ ap (λ (l : List Sending). sent_by air v ++ l) (cond-false (x.node == v) (x ∷ []) [] (ne_eqb x.node v not)) ∙ append-nil (sent_by air v)
+  sent_other not = split ∙ ap (λ (l : List Sending). sent_by air v ++ l) (cond-false (x.node == v) (x ∷ []) [] (ne_eqb x.node v not))
+      ∙ append-nil (sent_by air v)
 
   pub tuned_beside_sent : tuned_by (air ++ sent_entry x ∷ []) v ≡ tuned_by air v
   tuned_beside_sent = ap (filter (λ (k : Tuning). k.node == v)) (tunings_sent air x)
@@ -37,6 +38,7 @@ module _ (air : List Entry) (u : ℕ) (x : Sending) (v : ℕ) where
   tuned_beside_heard = ap (filter (λ (k : Tuning). k.node == v)) (tunings_heard air u x)
 
 -- an entry more is of its node
-pub entry_more : (air : List Entry) (ids : List ℕ) (new : Entry) → Contains ids (node_of new) → (e : Entry) → Contains (air ++ new ∷ []) e → Contains air e ⊎ Contains ids (node_of e)
+pub entry_more : (air : List Entry) (ids : List ℕ) (new : Entry) → Contains ids (node_of new) → (e : Entry) → Contains (air ++ new ∷ []) e
+    → Contains air e ⊎ Contains ids (node_of e)
 entry_more air ids new there e in_it =
     elim (Contains-push_cases air new e in_it) [ inl old ↦ inl old | inr is ↦ inr (subst (λ (d : Entry). Contains ids (node_of d)) is there) ]

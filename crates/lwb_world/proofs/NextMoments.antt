@@ -63,24 +63,32 @@ starts_apart s sound f g less =
 
 module _ (s : ScenarioParts) (clocks : ℕ → ℕ → ℕ) (t : ℕ) (w : FieldState) (due : List Due) where
   -- the lines of a frame begin: none of those told so far is of it
-  pub lines_begin_trails : (told : List ScriptLine) → ((l : ScriptLine) → Contains told l → frame_start s l.frame ≡ t → ⊥) → OnTrails s clocks t Before w due → OnTrails s clocks t (InLines told) w due
+  pub lines_begin_trails : (told : List ScriptLine) → ((l : ScriptLine) → Contains told l → frame_start s l.frame ≡ t → ⊥)
+      → OnTrails s clocks t Before w due → OnTrails s clocks t (InLines told) w due
   lines_begin_trails told none trails p n there =
       let trail = trails p n there in
-      record { device = trail.device; shows = trail.shows; at = lines_begin s n.node (clocks n.node) (heard_by w.air n.node) t told trail.device (λ l in_told own is. none l in_told is) trail.at }
+      record {
+        device = trail.device;
+        shows = trail.shows;
+        at = lines_begin s n.node (clocks n.node) (heard_by w.air n.node) t told trail.device (λ l in_told own is. none l in_told is) trail.at;
+      }
 
   -- and end: none of the others is of it
-  pub lines_end_trails : (told rest : List ScriptLine) → s.script ≡ told ++ rest → ((l : ScriptLine) → Contains rest l → frame_start s l.frame ≡ t → ⊥) → ((v : ℕ) → HeardBefore (heard_by w.air v) t)
+  pub lines_end_trails : (told rest : List ScriptLine) → s.script ≡ told ++ rest → ((l : ScriptLine) → Contains rest l → frame_start s l.frame ≡ t → ⊥)
+      → ((v : ℕ) → HeardBefore (heard_by w.air v) t)
       → OnTrails s clocks t (InLines told) w due → OnTrails s clocks t (At SendingEnd) w due
   lines_end_trails told rest is none over trails p n there =
       let trail = trails p n there in
       record {
         device = trail.device;
         shows = trail.shows;
-        at = lines_end s n.node (clocks n.node) (heard_by w.air n.node) t told rest trail.device is (λ l in_rest own at. none l in_rest at) (λ h heard at. omega (arith, over n.node h heard, at)) trail.at;
+        at = lines_end s n.node (clocks n.node) (heard_by w.air n.node) t told rest trail.device is (λ l in_rest own at. none l in_rest at)
+            (λ h heard at. omega (arith, over n.node h heard, at)) trail.at;
       }
 
   module _ (c : Class) (trails : OnTrails s clocks t (At c) w due) where
-    module _ (sound : IsSoundScenario s) (drifts : AreClocks clocks) (within : t < run_end s) (x : Order) (stands : Stands due x) (n : NodeLine) (there : slice_get s.nodes x.2 ≡ Some n) where
+    module _ (sound : IsSoundScenario s) (drifts : AreClocks clocks) (within : t < run_end s) (x : Order) (stands : Stands due x) (n : NodeLine)
+        (there : slice_get s.nodes x.2 ≡ Some n) where
       at_device : tick_of x.1 (standing (trails x.2 n there).device) ≡ Some x.0
       at_device = let trail = trails x.2 n there in sym (stands_at (setup_of s n.node) t w due x.2 trail.device trail.shows x.1) ∙ stands
 
@@ -89,14 +97,20 @@ module _ (s : ScenarioParts) (clocks : ℕ → ℕ → ℕ) (t : ℕ) (w : Field
       order_not_past = by (cases_lt x.0 t)
         where
           by : (x.0 < t) ⊎ (t ≤ x.0) → t ≤ x.0
-          by (inl less) = let trail = trails x.2 n there in absurd (not_yet x.1 t x.0 trail.device less (ahead_at s n.node (clocks n.node) (heard_by w.air n.node) t sound (drifts n.node) within c trail.device trail.at) at_device)
+          by (inl less) =
+              let trail = trails x.2 n there in
+              absurd (not_yet x.1 t x.0 trail.device less
+              (ahead_at s n.node (clocks n.node) (heard_by w.air n.node) t sound (drifts n.node) within c trail.device trail.at) at_device)
           by (inr from) = from
 
       pub order_not_earlier : x.0 ≡ t → rank c ≤ rank x.1
       order_not_earlier now = by (cases_lt (rank x.1) (rank c))
         where
           by : (rank x.1 < rank c) ⊎ (rank c ≤ rank x.1) → rank c ≤ rank x.1
-          by (inl less) = let trail = trails x.2 n there in absurd (earlier_over s n.node (clocks n.node) (heard_by w.air n.node) t sound (drifts n.node) within c x.1 trail.device less trail.at (at_device ∙ ap (λ (u : ℕ). Some u) now))
+          by (inl less) =
+              let trail = trails x.2 n there in
+              absurd (earlier_over s n.node (clocks n.node) (heard_by w.air n.node) t sound (drifts n.node) within c x.1 trail.device less trail.at
+              (at_device ∙ ap (λ (u : ℕ). Some u) now))
           by (inr from) = from
 
     -- to the next order, at the same tick or at a later one
@@ -118,7 +132,8 @@ module _ (s : ScenarioParts) (clocks : ℕ → ℕ → ℕ) (t : ℕ) (w : Field
           record {
             device = trail.device;
             shows = shows_later (setup_of s v) t x.0 w due p trail.device (omega (arith, later)) trail.shows;
-            at = from_class_into s v (clocks v) (heard_by w.air v) t x.0 later (over v) c x.1 trail.device (λ l told own from below. none l told from below) trail.at
+            at = from_class_into s v (clocks v) (heard_by w.air v) t x.0 later (over v) c x.1 trail.device
+                (λ l told own from below. none l told from below) trail.at
                 (ahead_by (setup_of s v) t w due p trail.device trail.shows x.0 (none_before_next due x next p))
                 (over_by_next (setup_of s v) t w due p trail.device trail.shows x next);
           }

@@ -14,25 +14,24 @@ use Rattle.air_log.specs.DeviceStates.{IsTimely}
 use Rattle.lwb_world.specs.Fields.{FieldState, IsShown}
 use Rattle.lwb_world.specs.FieldSteps.{Acts}
 use Rattle.lwb_world.proofs.ActsInTurn.{acts_nothing, acts_then, acts_as}
+use Rattle.air_log.proofs.Elements.{first_of, none_in}
 
 -- a device is shown at the place still
-pub shown_still : (t p : ℕ) (change : Setup → Device → Device) (old new : FieldState) (old_due new_due : List Due) → Acts t p change [] [] old old_due new new_due → IsShown t old old_due p → IsShown t new new_due p
-shown_still t p change old new old_due new_due acts shown = record { setup = shown.setup; device = change shown.setup shown.device; shows = acts.own shown.setup shown.device shown.shows }
+pub shown_still : (t p : ℕ) (change : Setup → Device → Device) (old new : FieldState) (old_due new_due : List Due)
+    → Acts t p change [] [] old old_due new new_due → IsShown t old old_due p → IsShown t new new_due p
+shown_still t p change old new old_due new_due acts shown = record {
+  setup = shown.setup;
+  device = change shown.setup shown.device;
+  shows = acts.own shown.setup shown.device shown.shows;
+}
 
 -- of these orders a front has been obeyed, and the rest is left
-pub record AreObeyed (clock : ℕ → ℕ) (t p : ℕ) (all rest : List Order) (old : FieldState) (old_due : List Due) (new : FieldState) (new_due : List Due) : Type 0 where
+pub record AreObeyed (clock : ℕ → ℕ) (t p : ℕ) (all rest : List Order) (old : FieldState) (old_due : List Due) (new : FieldState)
+    (new_due : List Due) : Type 0 where
   pub front : List Order
   pub split : front ++ rest ≡ all
   pub timely : All IsTimely rest
   pub acts : Acts t p (λ s d. fold (obeyed clock s.id t) d front) [] [] old old_due new new_due
-
-first_of : {X : Type 0} (xs : List X) (x : X) → slice_get xs 0 ≡ Some x → xs ≡ x ∷ drop 1 xs
-first_of [] x is = cc
-first_of (y ∷ xs) x is = let same : y ≡ x = cc in ap (λ (z : _). z ∷ xs) same
-
-none_in : {X : Type 0} (xs : List X) → slice_get xs 0 ≡ None → xs ≡ []
-none_in [] is = refl
-none_in (x ∷ xs) is = cc
 
 module _ (clock : ℕ → ℕ) (t p : ℕ) (all : List Order) where
   pub none_obeyed : (w : FieldState) (due : List Due) → IsTime w.medium t → All IsTimely all → AreObeyed clock t p all all w due w due
@@ -41,18 +40,21 @@ module _ (clock : ℕ → ℕ) (t p : ℕ) (all : List Order) where
   pub next_is_timely : (rest : List Order) (order : Order) → slice_get rest 0 ≡ Some order → All IsTimely rest → IsTimely order
   next_is_timely rest order is timely = All-head IsTimely order (drop 1 rest) (subst (λ (l : List Order). All IsTimely l) (first_of rest order is) timely)
 
-  pub one_more_obeyed : (rest : List Order) (order : Order) (v w x : FieldState) (dv dw dx : List Due) → slice_get rest 0 ≡ Some order → AreObeyed clock t p all rest v dv w dw
+  pub one_more_obeyed : (rest : List Order) (order : Order) (v w x : FieldState) (dv dw dx : List Due) → slice_get rest 0 ≡ Some order
+      → AreObeyed clock t p all rest v dv w dw
       → Acts t p (λ s d. obeyed clock s.id t d order) [] [] w dw x dx → AreObeyed clock t p all (drop 1 rest) v dv x dx
   one_more_obeyed rest order v w x dv dw dx is so acts = record {
     front = so.front ++ order ∷ [];
     split = append_assoc so.front (order ∷ []) (drop 1 rest) ∙ ap (λ (l : List Order). so.front ++ l) (sym (first_of rest order is)) ∙ so.split;
     timely = All-tail IsTimely order (drop 1 rest) (subst (λ (l : List Order). All IsTimely l) (first_of rest order is) so.timely);
-    acts = acts_as t p (λ s d. obeyed clock s.id t (fold (obeyed clock s.id t) d so.front) order) (λ s d. fold (obeyed clock s.id t) d (so.front ++ order ∷ [])) [] [] v x dv dx
+    acts = acts_as t p (λ s d. obeyed clock s.id t (fold (obeyed clock s.id t) d so.front) order)
+        (λ s d. fold (obeyed clock s.id t) d (so.front ++ order ∷ [])) [] [] v x dv dx
         (λ s d shows. sym (fold-append (obeyed clock s.id t) d so.front (order ∷ [])))
         (acts_then t p (λ s d. fold (obeyed clock s.id t) d so.front) (λ s d. obeyed clock s.id t d order) [] [] [] [] v w x dv dw dx so.acts acts);
   }
 
-  pub all_obeyed : (rest : List Order) (v w : FieldState) (dv dw : List Due) → slice_get rest 0 ≡ None → AreObeyed clock t p all rest v dv w dw → Acts t p (λ s d. fold (obeyed clock s.id t) d all) [] [] v dv w dw
+  pub all_obeyed : (rest : List Order) (v w : FieldState) (dv dw : List Due) → slice_get rest 0 ≡ None → AreObeyed clock t p all rest v dv w dw
+      → Acts t p (λ s d. fold (obeyed clock s.id t) d all) [] [] v dv w dw
   all_obeyed rest v w dv dw is so =
       acts_as t p (λ s d. fold (obeyed clock s.id t) d so.front) (λ s d. fold (obeyed clock s.id t) d all) [] [] v w dv dw
       (λ s d shows. ap (fold (obeyed clock s.id t) d) (sym (append-nil so.front) ∙ ap (λ (l : List Order). so.front ++ l) (sym (none_in rest is)) ∙ so.split))

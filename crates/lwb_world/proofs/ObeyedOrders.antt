@@ -22,7 +22,8 @@ use Rattle.lwb_world.proofs.DeviceSteps.{IsStepAt, GoesOnMaking}
 use Rattle.lwb_world.proofs.DeviceRetuned.{retuned_goes_on, retuned_station, retuned_others}
 
 -- a tick of the queue that is changed at a place
-pub due_changed : (due : List Due) (p : ℕ) (class : Class) (tick : Option ℕ) (d : Due) → slice_get due p ≡ Some d → slice_get (changed due p class tick) p ≡ Some (with_tick class tick d)
+pub due_changed : (due : List Due) (p : ℕ) (class : Class) (tick : Option ℕ) (d : Due) → slice_get due p ≡ Some d
+    → slice_get (changed due p class tick) p ≡ Some (with_tick class tick d)
 due_changed due p class tick d there =
     at_set due p (with_tick class tick (due_at due p)) (slice_get_within due p d there)
     ∙ ap (λ (x : Due). Some (with_tick class tick x)) (get_or_from_slice_get due p d _ there)
@@ -69,7 +70,8 @@ module _ (t p : ℕ) (state after : DeviceState) (closed : Option TunedEntry) (r
     own_tuning = r.own;
     own_delivery = tt;
     medium = retuned_goes_on t state.setup.id rank old.medium new.medium r.medium r.field.medium.nodes r.time r.holds;
-    station = retuned_station t state.setup.id rank old.medium new.medium r.medium after r.known.station (ap (λ (s : Setup). s.id) r.node.setup) r.known.there (r.known.sending ∙ sym r.set_sending) r.channel;
+    station = retuned_station t state.setup.id rank old.medium new.medium r.medium after r.known.station
+        (ap (λ (s : Setup). s.id) r.node.setup) r.known.there (r.known.sending ∙ sym r.set_sending) r.channel;
     stations = retuned_others t state.setup.id rank old.medium new.medium r.medium;
     due = r.known.set ∙ ap (λ (d : Due). Some d) (same_due state after r.set_sending r.set_alarm r.set_ordered);
     dues = λ q other. refl;

@@ -14,7 +14,8 @@ use Rattle.lwb_world.proofs.NodePlaces.{same_some}
 use Rattle.lwb_world.proofs.TrailsOver.{at_place}
 
 -- a list that has at each place what a map gives
-pub each_place : {X Y : Type 0} (f : X → Y) (xs : List X) (ys : List Y) → length ys ≡ length xs → ((p : ℕ) (x : X) → slice_get xs p ≡ Some x → slice_get ys p ≡ Some (f x)) → ys ≡ map f xs
+pub each_place : {X Y : Type 0} (f : X → Y) (xs : List X) (ys : List Y) → length ys ≡ length xs
+    → ((p : ℕ) (x : X) → slice_get xs p ≡ Some x → slice_get ys p ≡ Some (f x)) → ys ≡ map f xs
 each_place f [] [] long each = refl
 each_place f [] (y ∷ ys) long each = absurd (omega arith)
 each_place f (x ∷ xs) [] long each = absurd (omega arith)
@@ -22,7 +23,8 @@ each_place f (x ∷ xs) (y ∷ ys) long each =
     ap (λ (z : _). z ∷ ys) (same_some y (f x) (each zero x refl))
     ∙ ap (λ (l : List _). f x ∷ l) (each_place f xs ys (omega arith) (λ p z at. each (suc p) z at))
 
-module _ (s : ScenarioParts) (clocks : ℕ → ℕ → ℕ) (w : FieldState) (due : List Due) (closed : FieldState) (running : IsRunning s clocks s.script (run_end s) Before w due) (over : IsClosed (run_end s) w due closed) where
+module _ (s : ScenarioParts) (clocks : ℕ → ℕ → ℕ) (w : FieldState) (due : List Due) (closed : FieldState)
+    (running : IsRunning s clocks s.script (run_end s) Before w due) (over : IsClosed (run_end s) w due closed) where
   left_at : (p : ℕ) (n : NodeLine) → slice_get s.nodes p ≡ Some n → slice_get due p ≡ Some (standing_at s clocks closed.air n)
   left_at p n there =
       let end = at_place s clocks w due closed running over p n there in

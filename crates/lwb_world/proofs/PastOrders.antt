@@ -17,24 +17,21 @@ use Rattle.bus_rules.specs.declared.delivery.DropLine.{DropLine}
 use Rattle.air_log.specs.Devices.{Device, Listening, Ordered}
 use Rattle.air_log.specs.AlarmRuns.{IsAlarmRun}
 use Rattle.air_log.specs.Trails.{setup_of, run_end, alarmed, begun, begun_by, starts, is_due}
-use Rattle.lwb_world.specs.Fields.{FieldState, Shows}
+use Rattle.lwb_world.specs.Fields.{FieldState, Shows, end_of}
 use Rattle.lwb_world.specs.FieldSteps.{Acts, EndsSending, told_of_end, told_of_hearing}
-use Rattle.lwb_world.specs.Frames.{key, IsPast}
+use Rattle.lwb_world.specs.Frames.{order_key, IsPast}
 use Rattle.lwb_world.specs.Moments.{At}
 use Rattle.lwb_world.specs.Running.{IsRunning}
-use Rattle.lwb_world.specs.Runs.{standing, end_of, tick_of as start_of}
+use Rattle.lwb_world.specs.Runs.{standing}
 use Rattle.lwb_world.proofs.NextMoments.{order_not_past, order_not_earlier}
 use Rattle.lwb_world.proofs.PlacedNodes.{node_of_place}
+use Rattle.lwb_world.proofs.QueueKeys.{small_rank}
 use Rattle.lwb_world.proofs.RunPlaces.{place_of_order}
 use Rattle.lwb_world.proofs.ToldDevices.{told_of_hearing_sending, told_of_end_sending}
 use Rattle.lwb_world.proofs.ShownDevices.{stands_at}
 use Rattle.lwb_world.proofs.TrailsAtEnds.{is_in}
 use Rattle.lwb_world.proofs.TrailsGoOn.{AreClocks}
-
-small_rank : (c : Class) → rank c ≤ 2
-small_rank SendingEnd = omega arith
-small_rank Alarm = omega arith
-small_rank SendingStart = omega arith
+use Rattle.air_log.specs.Courses.{tick_of as start_of}
 
 same_class : (c k : Class) → rank c ≡ rank k → c ≡ k
 same_class SendingEnd SendingEnd is = refl
@@ -51,7 +48,8 @@ same_class SendingStart SendingStart is = refl
 abbrev pub LaterPlaces : ℕ → Class → ℕ → List Due → Type 0
 LaterPlaces t c p due = (q : ℕ) → at due q c ≡ Some t → p < q
 
-module _ (s : ScenarioParts) (clocks : ℕ → ℕ → ℕ) (sound : IsSoundScenario s) (drifts : AreClocks clocks) (told : List ScriptLine) (t : ℕ) (within : t < run_end s) (c : Class) (p : ℕ) (few : p < 64)
+module _ (s : ScenarioParts) (clocks : ℕ → ℕ → ℕ) (sound : IsSoundScenario s) (drifts : AreClocks clocks) (told : List ScriptLine) (t : ℕ)
+    (within : t < run_end s) (c : Class) (p : ℕ) (few : p < 64)
     (w : FieldState) (due : List Due) (run : IsRunning s clocks told t (At c) w due) where
   pub past : LaterPlaces t c p due → IsPast t c p due
   past later y stands = by_time (cases_lt t y.0)
@@ -65,7 +63,7 @@ module _ (s : ScenarioParts) (clocks : ℕ → ℕ → ℕ) (sound : IsSoundScen
       small : rank c ≤ 2
       small = small_rank c
 
-      by_class : y.0 ≡ t → (rank c < rank y.1) ⊎ (rank y.1 ≤ rank c) → key t c p < key y.0 y.1 y.2
+      by_class : y.0 ≡ t → (rank c < rank y.1) ⊎ (rank y.1 ≤ rank c) → order_key t c p < order_key y.0 y.1 y.2
       by_class now (inl more) = omega (arith, now, more, few)
       by_class now (inr le) =
           let up = order_not_earlier s clocks t w due c run.trails sound drifts within y stands node.0 node.1 now in
@@ -74,7 +72,7 @@ module _ (s : ScenarioParts) (clocks : ℕ → ℕ → ℕ) (sound : IsSoundScen
           let here : at due y.2 c ≡ Some t = ap (at due y.2) class ∙ stands ∙ ap (λ (u : ℕ). Some u) now in
           omega (arith, now, same, later y.2 here)
 
-      by_time : (t < y.0) ⊎ (y.0 ≤ t) → key t c p < key y.0 y.1 y.2
+      by_time : (t < y.0) ⊎ (y.0 ≤ t) → order_key t c p < order_key y.0 y.1 y.2
       by_time (inl less) = omega (arith, less, few, small)
       by_time (inr le) = by_class (omega (arith, le, from)) (cases_lt (rank c) (rank y.1))
 
@@ -90,7 +88,8 @@ module _ (t : ℕ) (c : Class) (p : ℕ) (old_due new_due : List Due) (next : Is
       by_place (inl less) le other = less
       by_place (inr more) le other = absurd (other (omega (arith, le, more)))
 
-module _ (s : ScenarioParts) (clocks : ℕ → ℕ → ℕ) (told : List ScriptLine) (t p : ℕ) (c : Class) (old : FieldState) (old_due : List Due) (new : FieldState) (new_due : List Due)
+module _ (s : ScenarioParts) (clocks : ℕ → ℕ → ℕ) (told : List ScriptLine) (t p : ℕ) (c : Class) (old : FieldState) (old_due : List Due)
+    (new : FieldState) (new_due : List Due)
     (before : IsRunning s clocks told t (At c) old old_due) (after : IsRunning s clocks told t (At c) new new_due) where
   -- the node at a place at which something stands
   node : (q u : ℕ) → at new_due q c ≡ Some u → (n : NodeLine) × (slice_get s.nodes q ≡ Some n)
@@ -114,11 +113,15 @@ module _ (s : ScenarioParts) (clocks : ℕ → ℕ → ℕ) (told : List ScriptL
           absurd (gone x trail.device shown (sym (stands_at x t new new_due p (change x trail.device) (acts.own x trail.device shown) c) ∙ here))
       by (inr other) =
           let trail = before.trails q n.0 n.1 in
-          let x = setup_of s n.0.node in
-          (other, stands_at x t old old_due q trail.device trail.shows c ∙ sym (stands_at x t new new_due q trail.device (acts.others q other x trail.device trail.shows) c) ∙ stands)
+          let x = setup_of s n.0.node in (
+            other,
+            stands_at x t old old_due q trail.device trail.shows c
+                ∙ sym (stands_at x t new new_due q trail.device (acts.others q other x trail.device trail.shows) c) ∙ stands,
+          )
 
   -- the end of a sending
-  pub were_at_end : (lines : Lines) (at_places : ℕ → ℕ → ℕ) (x : Sending) (hearers : List ℕ) → EndsSending lines at_places t p x hearers old old_due new new_due → (Contains hearers p → ⊥) → c ≡ SendingEnd
+  pub were_at_end : (lines : Lines) (at_places : ℕ → ℕ → ℕ) (x : Sending) (hearers : List ℕ)
+      → EndsSending lines at_places t p x hearers old old_due new new_due → (Contains hearers p → ⊥) → c ≡ SendingEnd
       → (q : ℕ) → at new_due q c ≡ Some t → (q ≢ p) × (at old_due q c ≡ Some t)
   were_at_end lines at_places x hearers ends deaf is_end q stands = by (cases_eq q p) (is_in hearers q)
     where
@@ -142,7 +145,8 @@ module _ (s : ScenarioParts) (clocks : ℕ → ℕ → ℕ) (told : List ScriptL
           let shown : Shows u t old old_due p trail.device = subst (λ (r : ℕ). Shows u t old old_due r trail.device) is trail.shows in
           let e = told_of_end (at_places p) t x u trail.device in
           let here : at new_due p SendingEnd ≡ Some t = subst (λ (r : ℕ). at new_due r SendingEnd ≡ Some t) is end_now in
-          absurd (no_end e.sending (told_of_end_sending (at_places p) u t x trail.device) (sym (stands_at u t new new_due p e (ends.sender deaf u trail.device shown) SendingEnd) ∙ here))
+          absurd (no_end e.sending (told_of_end_sending (at_places p) u t x trail.device)
+          (sym (stands_at u t new new_due p e (ends.sender deaf u trail.device shown) SendingEnd) ∙ here))
       by (inr other) (inl hears) =
           let trail = before.trails q n.0 n.1 in
           let u = setup_of s n.0.node in
@@ -171,7 +175,8 @@ alarm_over t (Some tick) none is = true≢false (sym (eq-eqb tick t (same tick i
     same : (k : ℕ) → Some k ≡ Some t → k ≡ t
     same k is = cc
 
-pub alarm_gone : (clock : ℕ → ℕ) (s : Setup) (t : ℕ) (d : Device) → IsAlarmRun clock s t d (alarmed clock s t d) → tick_of Alarm (standing (alarmed clock s t d)) ≡ Some t → ⊥
+pub alarm_gone : (clock : ℕ → ℕ) (s : Setup) (t : ℕ) (d : Device) → IsAlarmRun clock s t d (alarmed clock s t d)
+    → tick_of Alarm (standing (alarmed clock s t d)) ≡ Some t → ⊥
 alarm_gone clock s t d run = alarm_over t (alarmed clock s t d).alarm run.over
 
 -- nor does what was to start

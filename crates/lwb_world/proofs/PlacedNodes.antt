@@ -25,7 +25,8 @@ behind m ns p n ascend at =
     subst (λ (x : NodeLine). m.node < x.node) (get_or_from_slice_get ns p n n at) (ascend 0 (suc p) n (omega arith) (omega (arith, slice_get_within ns p n at)))
 
 -- the clock of the node at a place
-pub clock_at : {C : Type 0} (R : C → ℕ → ℕ) (ns : List NodeLine) (cs : List C) (p : ℕ) (n : NodeLine) (c : C) → Ascend ns → slice_get ns p ≡ Some n → slice_get cs p ≡ Some c → clocks_by R ns cs n.node ≡ R c
+pub clock_at : {C : Type 0} (R : C → ℕ → ℕ) (ns : List NodeLine) (cs : List C) (p : ℕ) (n : NodeLine) (c : C) → Ascend ns → slice_get ns p ≡ Some n
+    → slice_get cs p ≡ Some c → clocks_by R ns cs n.node ≡ R c
 clock_at R [] cs p n c ascend at_n at_c = absurd (none-some _ at_n)
 clock_at R (m ∷ ns) [] p n c ascend at_n at_c = absurd (none-some _ at_c)
 clock_at {C} R (m ∷ ns) (b ∷ cs) zero n c ascend at_n at_c =

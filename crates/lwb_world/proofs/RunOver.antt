@@ -25,7 +25,8 @@ use Rattle.lwb_world.proofs.OrdersOver.{orders_over}
 -- where the log follows the rule of hearing
 pub run_over : (s : ScenarioParts) (clocks : ℕ → ℕ → ℕ) (w : FieldState) (due : List Due) (closed : FieldState) → IsSoundScenario s
     → AreClocks clocks → IsRunning s clocks s.script (run_end s) Before w due → IsClosed (run_end s) w due closed → FollowsHearing s closed.air
-    → IsRun s clocks closed.air (in_order comes_before closed.deliveries) closed.drops (core_of (map core_in closed.devices)) × (due ≡ orders_left s clocks closed.air)
+    → IsRun s clocks closed.air (in_order comes_before closed.deliveries) closed.drops (core_of (map core_in closed.devices))
+    × (due ≡ orders_left s clocks closed.air)
 run_over s clocks w due closed sound drifts running over hearing =
     let lawful : Lawful s clocks closed.air = record { trails = trails_over s clocks w due closed running over; hearing = hearing } in
     let bus = bus_run s clocks closed.air (record { sound = sound; drift = λ v known. drifts v; lawful = lawful }) in (

@@ -1,5 +1,6 @@
 -- What holds of a run holds at first.
-use Rattle.std.proofs.Common.{◌≡◌, ℕ, zero, suc, ◌+◌, ◌<◌, List, [], ◌∷◌, map, length, replicate, false, Some, refl, sym, ap, subst, ◌∙◌, arith, find, ◌==◌, eq-eqb}
+use Rattle.std.proofs.Common.{◌≡◌, ℕ, zero, suc, ◌+◌, ◌<◌, List, [], ◌∷◌, map, length, replicate, false, Some, refl, sym, ap, subst, ◌∙◌, arith, find, ◌==◌}
+use Rattle.std.proofs.Common.{eq-eqb}
 use Rattle.std.specs.Prelude.{slice_get, AllPairs, reverse, filter}
 use Rattle.std.specs.Option.{option_map}
 use Rattle.std.proofs.lemmas.Bool.{cond-true, cond-false, ne_eqb}
@@ -58,7 +59,8 @@ first_setups : (s : ScenarioParts) (ns : List NodeLine) → map setup_of (map (f
 first_setups s [] = refl
 first_setups s (n ∷ ns) = ap (λ (l : List Setup). setup_in s n.node ∷ l) (first_setups s ns)
 
-module _ (s : ScenarioParts) (clocks : ℕ → ℕ → ℕ) (sound : IsSoundScenario s) (w : FieldState) (due : List Due) (first : IsFirst s w) (none : due ≡ replicate (length s.nodes) nothing_due) where
+module _ (s : ScenarioParts) (clocks : ℕ → ℕ → ℕ) (sound : IsSoundScenario s) (w : FieldState) (due : List Due) (first : IsFirst s w)
+    (none : due ≡ replicate (length s.nodes) nothing_due) where
   field : IsField w
   field = first_field s sound w first.medium first.devices
 
@@ -68,7 +70,8 @@ module _ (s : ScenarioParts) (clocks : ℕ → ℕ → ℕ) (sound : IsSoundScen
   station_at : (p : ℕ) (n : NodeLine) → slice_get s.nodes p ≡ Some n → station_of w.medium n.node ≡ Some (fresh n.node p)
   station_at p n at =
       ap (λ (m : MediumState). station_of m n.node) first.medium
-      ∙ fresh_at 0 (map node_id s.nodes) p n.node (subst (λ (l : List ℕ). AllPairs (λ a b. a < b) l) ids field.medium.nodes.ascending) (slice_get-map node_id s.nodes p ∙ ap (option_map node_id) at)
+      ∙ fresh_at 0 (map node_id s.nodes) p n.node (subst (λ (l : List ℕ). AllPairs (λ a b. a < b) l) ids field.medium.nodes.ascending)
+      (slice_get-map node_id s.nodes p ∙ ap (option_map node_id) at)
       ∙ ap (λ (j : ℕ). Some (fresh n.node j)) (omega arith)
     where
       ids : nodes_of w.medium ≡ map node_id s.nodes
@@ -110,7 +113,8 @@ module _ (s : ScenarioParts) (clocks : ℕ → ℕ → ℕ) (sound : IsSoundScen
 
   power_first : (q : Setup) (p : ℕ) (d : Device) → Shows q 0 w due p d → seen_power d.power ≡ (false, 0)
   power_first q p d shows =
-      let there : slice_get (map (first_device s) s.nodes) p ≡ Some shows.state = ap (λ (l : List DeviceState). slice_get l p) (sym first.devices) ∙ shows.there in
+      let there : slice_get (map (first_device s) s.nodes) p ≡ Some shows.state = ap (λ (l : List DeviceState). slice_get l p) (sym first.devices)
+      ∙ shows.there in
       ap seen_power (ap (λ (x : Device). x.power) (sym shows.is)) ∙ off s.nodes p shows.state there
     where
       off : (ns : List NodeLine) (i : ℕ) (x : DeviceState) → slice_get (map (first_device s) ns) i ≡ Some x → seen_power x.power ≡ (false, 0)

@@ -23,22 +23,23 @@ use Rattle.air_log.specs.Lawful.{AreInTurn, comes_before, reception_of, hearings
 use Rattle.air_log.specs.Trails.{Reception, run_end, frame_start}
 use Rattle.air_log.proofs.InTurn.{heard_in_turn}
 use Rattle.air_log.proofs.AlarmLoop.{early_in_run}
-use Rattle.air_log.proofs.Elements.{map_contains, map_from}
+use Rattle.air_log.proofs.Elements.{map_contains, map_from, filtered}
 use Rattle.lwb_world.specs.Fields.{FieldState, ids_of, due_of, end_of}
 use Rattle.lwb_world.specs.Moments.{Moment, Before, InLines, At, over_by}
 use Rattle.lwb_world.specs.Running.{IsRunning, IsOnAir, IsTold}
 use Rattle.lwb_world.specs.Frames.{told_before}
-use Rattle.lwb_world.proofs.NextMoments.{NoneBefore, none_before_next, within_frame, starts_up, starts_apart, lines_begin_trails, lines_end_trails, order_not_past, order_not_earlier, same_tick_trails, later_tick_trails, to_frame_trails}
-use Rattle.lwb_world.proofs.TimePasses.{HeardBefore}
-use Rattle.lwb_world.proofs.TrailsGoOn.{AreClocks}
-use Rattle.lwb_world.proofs.ToldSoFar.{told_later}
-use Rattle.lwb_world.proofs.ShownTunings.{AreTuned, trails_tuned, place_in, shown_id}
 use Rattle.lwb_world.proofs.AirInTime.{time_passes, more_is_over}
-use Rattle.lwb_world.proofs.SendingEnds.{filtered}
-use Rattle.lwb_world.proofs.RunPlaces.{place_of_order}
+use Rattle.lwb_world.proofs.NextMoments.{NoneBefore, none_before_next, within_frame, starts_up, starts_apart, lines_begin_trails, lines_end_trails}
+use Rattle.lwb_world.proofs.NextMoments.{order_not_past, order_not_earlier, same_tick_trails, later_tick_trails, to_frame_trails}
 use Rattle.lwb_world.proofs.PlacedNodes.{node_of_place}
+use Rattle.lwb_world.proofs.RunPlaces.{place_of_order}
+use Rattle.lwb_world.proofs.ShownTunings.{AreTuned, trails_tuned, place_in, shown_id}
+use Rattle.lwb_world.proofs.TimePasses.{HeardBefore}
+use Rattle.lwb_world.proofs.ToldSoFar.{told_later}
+use Rattle.lwb_world.proofs.TrailsGoOn.{AreClocks}
 
-module _ (s : ScenarioParts) (clocks : ℕ → ℕ → ℕ) (told : List ScriptLine) (t : ℕ) (m : Moment) (w : FieldState) (due : List Due) (run : IsRunning s clocks told t m w due) where
+module _ (s : ScenarioParts) (clocks : ℕ → ℕ → ℕ) (told : List ScriptLine) (t : ℕ) (m : Moment) (w : FieldState) (due : List Due)
+    (run : IsRunning s clocks told t m w due) where
   pub tuned_so_far : AreTuned t w due
   tuned_so_far = trails_tuned s clocks t m w due run.places run.trails
 
@@ -53,16 +54,19 @@ module _ (s : ScenarioParts) (clocks : ℕ → ℕ → ℕ) (told : List ScriptL
       ends_later : (st : Station) (y : Sending) → Contains w.medium.stations st → st.sending ≡ Some y → u ≤ y.end
       ends_later st y there sends =
           let field = run.places.field in
-          let id : Contains (ids_of w) st.node = subst (λ (l : List ℕ). Contains l st.node) (sym field.nodes) (map_contains node_of w.medium.stations st there) in
+          let id : Contains (ids_of w) st.node = subst (λ (l : List ℕ). Contains l st.node) (sym field.nodes)
+          (map_contains node_of w.medium.stations st there) in
           let place = place_in w st.node id in
           let tuned = tuned_so_far place.place place.within in
           let shows = tuned.shows in
           let same_id : tuned.setup.id ≡ st.node = same_Some _ _ (sym (shown_id tuned.setup t w due place.place tuned.device shows) ∙ place.id) in
-          let here : station_of w.medium st.node ≡ Some shows.known.station = ap (station_of w.medium) (sym same_id) ∙ ap (λ (x : Setup). station_of w.medium x.id) (sym shows.setup) ∙ shows.known.there in
+          let here : station_of w.medium st.node ≡ Some shows.known.station = ap (station_of w.medium) (sym same_id)
+          ∙ ap (λ (x : Setup). station_of w.medium x.id) (sym shows.setup) ∙ shows.known.there in
           let same : shows.known.station ≡ st = same_Some _ _ (sym here ∙ found_member w.medium.stations st field.medium.nodes.ascending there) in
           let runs : shows.state.sending ≡ Some y = sym shows.known.sending ∙ ap (λ (z : Station). z.sending) same ∙ sends in
           let set : at due place.place SendingEnd ≡ Some y.end =
-          ap (λ (d : Due). d.sending_end) (get_or_from_slice_get due place.place (due_of shows.state) nothing_due shows.known.set) ∙ ap (option_map end_of) runs in
+          ap (λ (d : Due). d.sending_end) (get_or_from_slice_get due place.place (due_of shows.state) nothing_due shows.known.set)
+          ∙ ap (option_map end_of) runs in
           none place.place SendingEnd y.end set
 
   -- all that was heard is over
@@ -87,7 +91,8 @@ module _ (s : ScenarioParts) (clocks : ℕ → ℕ → ℕ) (sound : IsSoundScen
   small_time u within = let early = early_in_run s u sound within in omega (arith, early)
 
   -- the lines of a frame begin
-  pub lines_begin : (f : ℕ) (w : FieldState) (due : List Due) → IsRunning s clocks (told_before s f) (frame_start s f) Before w due → IsRunning s clocks (told_before s f) (frame_start s f) (InLines (told_before s f)) w due
+  pub lines_begin : (f : ℕ) (w : FieldState) (due : List Due) → IsRunning s clocks (told_before s f) (frame_start s f) Before w due
+      → IsRunning s clocks (told_before s f) (frame_start s f) (InLines (told_before s f)) w due
   lines_begin f w due run = record {
     places = run.places;
     trails = lines_begin_trails s clocks (frame_start s f) w due (told_before s f) none_now run.trails;
@@ -101,19 +106,22 @@ module _ (s : ScenarioParts) (clocks : ℕ → ℕ → ℕ) (sound : IsSoundScen
           omega (arith, starts_apart s sound l.frame f early, same)
 
   -- and end
-  pub lines_over : (f : ℕ) (told rest : List ScriptLine) (w : FieldState) (due : List Due) → s.script ≡ told ++ rest → ((l : ScriptLine) → Contains rest l → f < l.frame)
+  pub lines_over : (f : ℕ) (told rest : List ScriptLine) (w : FieldState) (due : List Due) → s.script ≡ told ++ rest
+      → ((l : ScriptLine) → Contains rest l → f < l.frame)
       → IsRunning s clocks told (frame_start s f) (InLines told) w due → IsRunning s clocks told (frame_start s f) (At SendingEnd) w due
   lines_over f told rest w due is later run =
       let t = frame_start s f in
       record {
         places = run.places;
-        trails = lines_end_trails s clocks t w due told rest is (λ l there same. omega (arith, starts_apart s sound f l.frame (later l there), same)) (heard_so_far s clocks told t (InLines told) w due run) run.trails;
+        trails = lines_end_trails s clocks t w due told rest is (λ l there same. omega (arith, starts_apart s sound f l.frame (later l there), same))
+            (heard_so_far s clocks told t (InLines told) w due run) run.trails;
         air = more_is_over s t (suc t) t w due (omega arith) run.air;
         script = run.script;
       }
 
   -- the next order is at this tick and of this class or a later one, or at a later tick
-  pub comes_next : (f : ℕ) (told : List ScriptLine) (t : ℕ) (c : Class) (x : Order) (w : FieldState) (due : List Due) → f < s.frames → frame_start s f ≤ t → t < frame_start s (suc f) → x.0 < frame_start s (suc f) → IsNext due (Some x)
+  pub comes_next : (f : ℕ) (told : List ScriptLine) (t : ℕ) (c : Class) (x : Order) (w : FieldState) (due : List Due) → f < s.frames
+      → frame_start s f ≤ t → t < frame_start s (suc f) → x.0 < frame_start s (suc f) → IsNext due (Some x)
       → IsRunning s clocks told t (At c) w due → IsRunning s clocks told x.0 (At x.1) w due × (t ≤ x.0)
   comes_next f told t c x w due frame from until before next run = by_time (cases_lt t x.0)
     where
@@ -131,7 +139,9 @@ module _ (s : ScenarioParts) (clocks : ℕ → ℕ → ℕ) (sound : IsSoundScen
 
       later_air : (over : ℕ) → suc t ≤ over → IsOnAir s over x.0 w due
       later_air over grows =
-          time_passes s (suc t) over t x.0 w due not_past (omega arith) grows (time_until s clocks told t (At c) w due run x.0 not_past small (none_before_next due x next)) run.places.field (tuned_so_far s clocks told t (At c) w due run) run.air
+          time_passes s (suc t) over t x.0 w due not_past (omega arith) grows
+          (time_until s clocks told t (At c) w due run x.0 not_past small (none_before_next due x next)) run.places.field
+          (tuned_so_far s clocks told t (At c) w due run) run.air
 
       later_script : IsTold s clocks told x.0 w due
       later_script = told_later s clocks told t (At c) w due run.trails run.script x.0 not_past run.places
@@ -140,7 +150,8 @@ module _ (s : ScenarioParts) (clocks : ℕ → ℕ → ℕ) (sound : IsSoundScen
       by_time (inl later) = (
         record {
           places = run.places;
-          trails = later_tick_trails s clocks t w due c run.trails (heard_so_far s clocks told t (At c) w due run) x next later (within_frame s f (suc t) (suc x.0) (omega (arith, from)) (omega (arith, before)));
+          trails = later_tick_trails s clocks t w due c run.trails (heard_so_far s clocks told t (At c) w due run) x next later
+              (within_frame s f (suc t) (suc x.0) (omega (arith, from)) (omega (arith, before)));
           air = later_air (suc x.0) (omega (arith, later));
           script = later_script;
         },
@@ -150,7 +161,8 @@ module _ (s : ScenarioParts) (clocks : ℕ → ℕ → ℕ) (sound : IsSoundScen
           let same : x.0 ≡ t = omega (arith, now, not_past) in (
             record {
               places = run.places;
-              trails = same_tick_trails s clocks t w due c run.trails x next same (order_not_earlier s clocks t w due c run.trails sound drifts within x next.0 node.0 node.1 same);
+              trails = same_tick_trails s clocks t w due c run.trails x next same
+                  (order_not_earlier s clocks t w due c run.trails sound drifts within x next.0 node.0 node.1 same);
               air = later_air (suc x.0) (omega (arith, not_past));
               script = later_script;
             },
@@ -158,14 +170,18 @@ module _ (s : ScenarioParts) (clocks : ℕ → ℕ → ℕ) (sound : IsSoundScen
           )
 
   -- nothing more is due in the frame
-  pub frame_over : (f : ℕ) (told : List ScriptLine) (t : ℕ) (c : Class) (w : FieldState) (due : List Due) → f < s.frames → frame_start s f ≤ t → t < frame_start s (suc f) → NoneBefore due (frame_start s (suc f))
+  pub frame_over : (f : ℕ) (told : List ScriptLine) (t : ℕ) (c : Class) (w : FieldState) (due : List Due) → f < s.frames → frame_start s f ≤ t
+      → t < frame_start s (suc f) → NoneBefore due (frame_start s (suc f))
       → IsRunning s clocks told t (At c) w due → IsRunning s clocks told (frame_start s (suc f)) Before w due
   frame_over f told t c w due frame from until none run =
       let u = frame_start s (suc f) in
       let small = small_time u (small_start (suc f) (omega (arith, frame))) in
       record {
         places = run.places;
-        trails = to_frame_trails s clocks t w due c run.trails (heard_so_far s clocks told t (At c) w due run) u none until (within_frame s f (suc t) u (omega (arith, from)) (omega arith));
-        air = time_passes s (suc t) u t u w due (omega (arith, until)) (omega arith) (omega (arith, until)) (time_until s clocks told t (At c) w due run u (omega (arith, until)) small none) run.places.field (tuned_so_far s clocks told t (At c) w due run) run.air;
+        trails = to_frame_trails s clocks t w due c run.trails (heard_so_far s clocks told t (At c) w due run) u none until
+            (within_frame s f (suc t) u (omega (arith, from)) (omega arith));
+        air = time_passes s (suc t) u t u w due (omega (arith, until)) (omega arith) (omega (arith, until))
+            (time_until s clocks told t (At c) w due run u (omega (arith, until)) small none) run.places.field
+            (tuned_so_far s clocks told t (At c) w due run) run.air;
         script = told_later s clocks told t (At c) w due run.trails run.script u (omega (arith, until)) run.places;
       }

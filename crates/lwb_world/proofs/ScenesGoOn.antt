@@ -1,5 +1,6 @@
 -- The scene of a run after a step: it is that of the log and the devices again.
-use Rattle.std.proofs.Common.{◌≡◌, ℕ, ◌<◌, ◌≤◌, ◌↔◌, ◌⊎◌, inl, inr, List, [], ◌∷◌, ◌++◌, map, length, find, ◌==◌, Some, None, Option, refl, sym, ◌∙◌, ap, subst, arith, Contains, eq-eqb}
+use Rattle.std.proofs.Common.{◌≡◌, ℕ, ◌<◌, ◌≤◌, ◌↔◌, ◌⊎◌, inl, inr, List, [], ◌∷◌, ◌++◌, map, length, find, ◌==◌, Some, None, Option, refl, sym, ◌∙◌, ap, subst}
+use Rattle.std.proofs.Common.{arith, Contains, eq-eqb}
 use Rattle.std.proofs.lemmas.Bool.{cond-true, cond-false, cases_eq, ne_eqb}
 use Rattle.std.proofs.lemmas.List.{length-map}
 use Rattle.std.proofs.lemmas.List.Elements.{Contains-append_cases, Contains-append_left, Contains-append_right}
@@ -69,7 +70,8 @@ on_air_there st x sends = Contains-append_right st.ended.items _ x (of_option st
 pub runs_node : (w : FieldState) → ids_of w ≡ nodes_of w.medium → (x : Sending) → Runs w.medium x → Contains (ids_of w) x.node
 runs_node w same x runs =
     let at = sending_at w.medium x.node x runs in
-    subst (λ (l : List ℕ). Contains l x.node) (sym same) (subst (Contains (nodes_of w.medium)) at.node (in_map station_node w.medium.stations at.station at.there))
+    subst (λ (l : List ℕ). Contains l x.node) (sym same)
+    (subst (Contains (nodes_of w.medium)) at.node (in_map station_node w.medium.stations at.station at.there))
 
 -- what is in the log is of a device of the field
 sent_node : (e : Entry) (x : Sending) → sending_in e ≡ Some x → node_of e ≡ x.node
@@ -110,10 +112,11 @@ module _ (s : ScenarioParts) (t : ℕ) (begun : List Sending) (old : FieldState)
 
   sent_both : (x : Sending) → Contains next.sendings x ↔ Contains (sendings_of new.air) x
   sent_both x = (
-    λ there. subst (λ (l : List Sending). Contains l x) (sym sends) (elim (Contains-append_cases a.sendings begun x (subst (λ (l : List Sending). Contains l x) is_next.sendings there)) [
-      | inl was ↦ Contains-append_left (sendings_of old.air) begun x ((h.sendings x).0 was)
-      | inr now ↦ Contains-append_right (sendings_of old.air) begun x now
-    ]),
+    λ there. subst (λ (l : List Sending). Contains l x) (sym sends)
+        (elim (Contains-append_cases a.sendings begun x (subst (λ (l : List Sending). Contains l x) is_next.sendings there)) [
+          | inl was ↦ Contains-append_left (sendings_of old.air) begun x ((h.sendings x).0 was)
+          | inr now ↦ Contains-append_right (sendings_of old.air) begun x now
+        ]),
     λ there. subst (λ (l : List Sending). Contains l x) (sym is_next.sendings) (elim (sent_cases x there) [
       | inl was ↦ Contains-append_left a.sendings begun x ((h.sendings x).1 was)
       | inr now ↦ Contains-append_right a.sendings begun x now
@@ -121,7 +124,8 @@ module _ (s : ScenarioParts) (t : ℕ) (begun : List Sending) (old : FieldState)
   )
 
   -- who was tuned before the tick
-  tuned_both : (q : Setup) (p : ℕ) (d : Device) → Shows q t new new_due p d → (r k : ℕ) → k < t → IsTuned (as_it_stands new.medium t next) q.id r k ↔ WasTuned d r k
+  tuned_both : (q : Setup) (p : ℕ) (d : Device) → Shows q t new new_due p d → (r k : ℕ) → k < t → IsTuned (as_it_stands new.medium t next) q.id r k
+      ↔ WasTuned d r k
   tuned_both q p d shows r k early =
       let m = moved p (omega (arith, shown_within q t new new_due p d shows, same_length old new same.setups)) in
       let like = alike m.setup q t t new new_due p m.after d m.is shows in
@@ -129,8 +133,10 @@ module _ (s : ScenarioParts) (t : ℕ) (begun : List Sending) (old : FieldState)
       let told = h.tuned m.setup p m.before m.was r k early in
       let stays = m.stays.same r k early in
       let back = alike_back m.setup q m.after d like in (
-        λ is. tuned_alike m.setup q m.after d like r k (stays.1 (told.0 (scene.1 (subst (λ (u : Setup). IsTuned (as_it_stands new.medium t next) u.id r k) back.setup is)))),
-        λ is. subst (λ (u : Setup). IsTuned (as_it_stands new.medium t next) u.id r k) like.setup (scene.0 (told.1 (stays.0 (tuned_alike q m.setup d m.after back r k is)))),
+        λ is. tuned_alike m.setup q m.after d like r k
+            (stays.1 (told.0 (scene.1 (subst (λ (u : Setup). IsTuned (as_it_stands new.medium t next) u.id r k) back.setup is)))),
+        λ is. subst (λ (u : Setup). IsTuned (as_it_stands new.medium t next) u.id r k) like.setup
+            (scene.0 (told.1 (stays.0 (tuned_alike q m.setup d m.after back r k is)))),
       )
 
   pub scene_after : HoldsScene s t new new_due next
@@ -143,5 +149,8 @@ module _ (s : ScenarioParts) (t : ℕ) (begun : List Sending) (old : FieldState)
     begun = λ x there. elim (sent_cases x there) [ inl was ↦ h.begun x was | inr now ↦ starts x now ];
     tuned = tuned_both;
     known = λ e there. subst (λ (l : List ℕ). Contains l (node_of e)) (sym ids) (elim (same.entries e there) [ inl was ↦ h.known e was | inr own ↦ own ]);
-    deliverers = λ d there. subst (λ (l : List ℕ). Contains l d.node) (sym ids) (elim (same.deliverers d there) [ inl was ↦ h.deliverers d was | inr own ↦ own ]);
+    deliverers = λ d there. subst (λ (l : List ℕ). Contains l d.node) (sym ids) (elim (same.deliverers d there) [
+      | inl was ↦ h.deliverers d was
+      | inr own ↦ own
+    ]);
   }

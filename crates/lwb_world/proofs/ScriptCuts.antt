@@ -1,5 +1,6 @@
 -- How far the script has been told at the beginning of a frame.
-use Rattle.std.proofs.Common.{◌≡◌, ◌≢◌, ℕ, zero, suc, ◌+◌, ◌<◌, ◌≤◌, List, [], ◌∷◌, ◌++◌, take, drop, length, filter, Bool, true, false, nat_lt, Some, None, refl, sym, ap, ◌∙◌, arith, ltb-true, lt-ltb}
+use Rattle.std.proofs.Common.{◌≡◌, ◌≢◌, ℕ, zero, suc, ◌+◌, ◌<◌, ◌≤◌, List, [], ◌∷◌, ◌++◌, take, drop, length, filter, Bool, true, false, nat_lt, Some, None}
+use Rattle.std.proofs.Common.{refl, sym, ap, ◌∙◌, arith, ltb-true, lt-ltb}
 use Rattle.std.specs.Prelude.{slice_get, AllPairs}
 use Rattle.std.proofs.lemmas.Bool.{cond-true, cond-false, ltb-false}
 use Rattle.std.proofs.lemmas.Option.{slice_get_within, get_or_from_slice_get, same_Some, none-some}
@@ -18,7 +19,8 @@ abbrev is_early : ℕ → ScriptLine → Bool
 is_early f l = nat_lt l.frame f
 
 -- the early lines of a list are its first k
-cut_is : (xs : List ScriptLine) (k f : ℕ) → k ≤ length xs → ((i : ℕ) (l : ScriptLine) → slice_get xs i ≡ Some l → i < k → l.frame < f) → ((i : ℕ) (l : ScriptLine) → slice_get xs i ≡ Some l → k ≤ i → f ≤ l.frame)
+cut_is : (xs : List ScriptLine) (k f : ℕ) → k ≤ length xs → ((i : ℕ) (l : ScriptLine) → slice_get xs i ≡ Some l → i < k → l.frame < f)
+    → ((i : ℕ) (l : ScriptLine) → slice_get xs i ≡ Some l → k ≤ i → f ≤ l.frame)
     → filter (is_early f) xs ≡ take k xs
 cut_is [] zero f within before behind = refl
 cut_is [] (suc k) f within before behind = absurd (omega (arith, within))
@@ -27,7 +29,9 @@ cut_is (x ∷ xs) zero f within before behind =
     ∙ cut_is xs 0 f (omega arith) (λ i l at less. absurd (omega (arith, less))) (λ i l at le. behind (suc i) l at (omega arith))
 cut_is (x ∷ xs) (suc k) f within before behind =
     cond-true (is_early f x) (x ∷ filter (is_early f) xs) (filter (is_early f) xs) (lt-ltb x.frame f (before 0 x refl (omega arith)))
-    ∙ ap (λ (l : List ScriptLine). x ∷ l) (cut_is xs k f (omega (arith, within)) (λ i l at less. before (suc i) l at (omega (arith, less))) (λ i l at le. behind (suc i) l at (omega (arith, le))))
+    ∙ ap (λ (l : List ScriptLine). x ∷ l)
+    (cut_is xs k f (omega (arith, within)) (λ i l at less. before (suc i) l at (omega (arith, less)))
+    (λ i l at le. behind (suc i) l at (omega (arith, le))))
 
 pub told_at_cut : (s : ScenarioParts) (k f : ℕ) → IsCut s k f → told_before s f ≡ take k s.script
 told_at_cut s k f cut = cut_is s.script k f cut.within cut.before cut.behind
@@ -47,7 +51,8 @@ one_more [] k l at = absurd (none-some _ at)
 one_more (x ∷ xs) zero l at = ap (λ (y : ScriptLine). y ∷ []) (sym (same_Some _ _ at))
 one_more (x ∷ xs) (suc k) l at = ap (λ (ys : List ScriptLine). x ∷ ys) (one_more xs k l at)
 
-module _ (s : ScenarioParts) (ascends : AllPairs (λ a b. a.frame ≤ b.frame) s.script) (k f : ℕ) (within : k ≤ length s.script) (before : (i : ℕ) (l : ScriptLine) → slice_get s.script i ≡ Some l → i < k → l.frame < f + 1)
+module _ (s : ScenarioParts) (ascends : AllPairs (λ a b. a.frame ≤ b.frame) s.script) (k f : ℕ) (within : k ≤ length s.script)
+    (before : (i : ℕ) (l : ScriptLine) → slice_get s.script i ≡ Some l → i < k → l.frame < f + 1)
     (behind : (i : ℕ) (l : ScriptLine) → slice_get s.script i ≡ Some l → k ≤ i → f ≤ l.frame) where
   -- the next line is of a later frame
   pub cut_at : (l : ScriptLine) → slice_get s.script k ≡ Some l → l.frame ≢ f → IsCut s k (f + 1)
@@ -97,7 +102,8 @@ module _ (s : ScenarioParts) (ascends : AllPairs (λ a b. a.frame ≤ b.frame) s
       past (x ∷ xs) (suc j) is (suc i) m at_i le = past xs j is i m at_i (omega (arith, le))
 
   -- a line of the frame more
-  pub more_before : (l : ScriptLine) → slice_get s.script k ≡ Some l → l.frame ≡ f → (i : ℕ) (m : ScriptLine) → slice_get s.script i ≡ Some m → i < k + 1 → m.frame < f + 1
+  pub more_before : (l : ScriptLine) → slice_get s.script k ≡ Some l → l.frame ≡ f → (i : ℕ) (m : ScriptLine) → slice_get s.script i ≡ Some m
+      → i < k + 1 → m.frame < f + 1
   more_before l at same i m at_i less = by (nat_lt i k) refl
     where
       by : (b : Bool) → nat_lt i k ≡ b → m.frame < f + 1

@@ -10,11 +10,12 @@ use Rattle.air_log.specs.Trails.{Reception, setup_of, scripted, hears, heard, en
 use Rattle.air_log.proofs.HearingMore.{earlier_stays, heard_now}
 use Rattle.lwb_world.specs.FieldSteps.{told_of_end}
 use Rattle.lwb_world.specs.Moments.{At, IsAt, point}
-use Rattle.lwb_world.specs.Runs.{end_of}
 use Rattle.air_log.proofs.OwnSendings.{IsOwn, own_heard, still_sent, none_ends}
 use Rattle.lwb_world.proofs.TickPoints.{IsOver, ends_nothing, end_at}
+use Rattle.lwb_world.specs.Fields.{end_of}
 
-told_as_ended : (clock : ℕ → ℕ) (s : Setup) (t : ℕ) (d : Device) (x : Sending) (y : Option Sending) → y ≡ Some x → x.end ≡ t → ended_by clock s t d y ≡ told_of_end clock t x s d
+told_as_ended : (clock : ℕ → ℕ) (s : Setup) (t : ℕ) (d : Device) (x : Sending) (y : Option Sending) → y ≡ Some x → x.end ≡ t
+    → ended_by clock s t d y ≡ told_of_end clock t x s d
 told_as_ended clock s t d x y is now = ap (ended_by clock s t d) is ∙ rw (eq-eqb x.end t now) refl
 
 same_sending : (x y : Sending) → Some x ≡ Some y → x ≡ y
@@ -25,14 +26,17 @@ module _ (s : ScenarioParts) (v : ℕ) (clock : ℕ → ℕ) (hs : List Receptio
   heard_all = point s v clock hs t SendingEnd
 
   -- the sender is told of the end
-  pub end_told : (d : Device) (x : Sending) → d.sending ≡ Some x → x.end ≡ t → IsAt s clock hs v t (At SendingEnd) d → IsAt s clock hs v t (At SendingEnd) (told_of_end clock t x (setup_of s v) d)
+  pub end_told : (d : Device) (x : Sending) → d.sending ≡ Some x → x.end ≡ t → IsAt s clock hs v t (At SendingEnd) d
+      → IsAt s clock hs v t (At SendingEnd) (told_of_end clock t x (setup_of s v) d)
   end_told d x runs now (inl at) = inr (sym (told_as_ended clock (setup_of s v) t d x d.sending runs now) ∙ ap (ended clock (setup_of s v) t) at)
   end_told d x runs now (inr at) =
       let runs_at : (ended clock (setup_of s v) t heard_all).sending ≡ Some x = ap (λ (e : Device). e.sending) (sym at) ∙ runs in
-      absurd (end_at t (ended clock (setup_of s v) t heard_all).sending (none_ends clock (setup_of s v) t heard_all) (ap (option_map end_of) runs_at ∙ ap (λ (n : ℕ). Some n) now))
+      absurd (end_at t (ended clock (setup_of s v) t heard_all).sending (none_ends clock (setup_of s v) t heard_all)
+      (ap (option_map end_of) runs_at ∙ ap (λ (n : ℕ). Some n) now))
 
   -- where no own sending ends at the tick
-  none_over : (d : Device) → d ≡ ended clock (setup_of s v) t heard_all → ((y : Sending) → Contains d.made.sent y → y.end ≡ t → ⊥) → IsOver SendingEnd t heard_all
+  none_over : (d : Device) → d ≡ ended clock (setup_of s v) t heard_all → ((y : Sending) → Contains d.made.sent y → y.end ≡ t → ⊥)
+      → IsOver SendingEnd t heard_all
   none_over d at none = by heard_all.sending refl (own_heard s v clock hs t)
     where
       by : (x : Option Sending) → heard_all.sending ≡ x → IsOwn x heard_all.made.sent → option_map end_of x ≡ Some t → ⊥

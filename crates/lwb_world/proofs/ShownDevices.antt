@@ -45,7 +45,10 @@ shows_later q t u w due p d up shows = record {
   known = shows.known;
   counted = shows.counted;
   ended = ended_earlier t u shows.made.tuned up shows.ended;
-  happened = record { closed = closed_by t u shows.state.closed up shows.happened.closed; listening = listening_by t u shows.state.listening up shows.happened.listening };
+  happened = record {
+    closed = closed_by t u shows.state.closed up shows.happened.closed;
+    listening = listening_by t u shows.state.listening up shows.happened.listening;
+  };
   taken = shows.taken;
 }
 
@@ -77,7 +80,8 @@ node_there s q t w due p d places shows =
     ∙ ap (option_map setup_in) shows.there
     ∙ ap (λ (x : Setup). Some x) shows.setup)
   where
-    by : (o : Option NodeLine) → slice_get s.nodes p ≡ o → option_map (setup_by s) o ≡ Some q → (n : NodeLine) × (slice_get s.nodes p ≡ Some n) × (q ≡ setup_of s n.node)
+    by : (o : Option NodeLine) → slice_get s.nodes p ≡ o → option_map (setup_by s) o ≡ Some q
+        → (n : NodeLine) × (slice_get s.nodes p ≡ Some n) × (q ≡ setup_of s n.node)
     by None is same = absurd (none_some same)
       where
         none_some : None ≡ Some q → ⊥
@@ -99,8 +103,10 @@ module _ (q : Setup) (t : ℕ) (w : FieldState) (due : List Due) (p : ℕ) (d : 
   pub ahead_by : (u : ℕ) → ((c : Class) (tick : ℕ) → at due p c ≡ Some tick → u ≤ tick) → IsAhead u d
   ahead_by u none = record {
     alarm = if_some (λ (tick : ℕ). u ≤ tick) d.alarm (λ tick is. none Alarm tick (stands_at Alarm ∙ is));
-    ordered = if_some (λ (o : Ordered). u ≤ o.tick) d.ordered (λ o is. none SendingStart o.tick (stands_at SendingStart ∙ ap (λ (z : Option Ordered). option_map (λ (o : Ordered). o.tick) z) is));
-    sending = if_some (λ (x : Sending). u ≤ x.end) d.sending (λ x is. none SendingEnd x.end (stands_at SendingEnd ∙ ap (λ (z : Option Sending). option_map (λ (x : Sending). x.end) z) is));
+    ordered = if_some (λ (o : Ordered). u ≤ o.tick) d.ordered
+        (λ o is. none SendingStart o.tick (stands_at SendingStart ∙ ap (λ (z : Option Ordered). option_map (λ (o : Ordered). o.tick) z) is));
+    sending = if_some (λ (x : Sending). u ≤ x.end) d.sending
+        (λ x is. none SendingEnd x.end (stands_at SendingEnd ∙ ap (λ (z : Option Sending). option_map (λ (x : Sending). x.end) z) is));
   }
 
   -- the next order is at that tick, and of that class

@@ -1,5 +1,6 @@
 -- What a field shows at a place, where it has changed elsewhere.
-use Rattle.std.proofs.Common.{reverse, ◌≡◌, ◌≢◌, ℕ, zero, suc, List, [], ◌∷◌, map, set, get_or, length, Some, None, Option, filter, ◌==◌, refl, sym, ◌∙◌, ap, subst, Contains}
+use Rattle.std.proofs.Common.{reverse, ◌≡◌, ◌≢◌, ℕ, zero, suc, List, [], ◌∷◌, map, set, get_or, length, Some, None, Option, filter, ◌==◌, refl, sym, ◌∙◌, ap}
+use Rattle.std.proofs.Common.{subst, Contains}
 use Rattle.std.specs.Prelude.{All, slice_get}
 use Rattle.std.proofs.lemmas.List.Elements.{All-set, All-contains}
 use Rattle.std.proofs.lemmas.Option.{slice_get_within, get_or_from_slice_get, slice_get_read}
@@ -42,11 +43,13 @@ pub still_field : (w : FieldState) (m : MediumState) (p : ℕ) (old new : Device
     → IsField w → IsMedium m → nodes_of m ≡ nodes_of w.medium → m.numbers ≡ w.medium.numbers → slice_get w.devices p ≡ Some old → new.setup ≡ old.setup
     → IsField (record { medium = m; devices = set w.devices p new; air = air; deliveries = deliveries; drops = drops; sums = w.sums })
 still_field w m p old new air deliveries drops is medium nodes numbers at same =
-    let own : new.setup.profile ≡ m.numbers = ap (λ (s : Setup). s.profile) same ∙ All-contains (λ (d : DeviceState). d.setup.profile ≡ w.medium.numbers) w.devices old is.numbers (is_there w.devices p old at) ∙ sym numbers in
+    let own : new.setup.profile ≡ m.numbers = ap (λ (s : Setup). s.profile) same
+    ∙ All-contains (λ (d : DeviceState). d.setup.profile ≡ w.medium.numbers) w.devices old is.numbers (is_there w.devices p old at) ∙ sym numbers in
     record {
       medium = medium;
       nodes = same_marks id_of w.devices p old new at (ap (λ (s : Setup). s.id) same) ∙ is.nodes ∙ sym nodes;
-      numbers = All-set (λ (d : DeviceState). d.setup.profile ≡ m.numbers) w.devices p new own (subst (λ n. All (λ (d : DeviceState). d.setup.profile ≡ n) w.devices) (sym numbers) is.numbers);
+      numbers = All-set (λ (d : DeviceState). d.setup.profile ≡ m.numbers) w.devices p new own
+          (subst (λ n. All (λ (d : DeviceState). d.setup.profile ≡ n) w.devices) (sym numbers) is.numbers);
     }
 
 -- what there is of a node and its place has stayed
@@ -60,7 +63,8 @@ pub record HasStayed (v q : ℕ) (old : FieldState) (old_due : List Due) (new : 
   pub sums : slice_get new.sums q ≡ slice_get old.sums q
 
 -- and with it what its windows count
-pub counted_still : (old new : List WindowSum) (q : ℕ) (s : Setup) (logs : List WindowLog) → slice_get new q ≡ slice_get old q → HasCounted old q s logs → HasCounted new q s logs
+pub counted_still : (old new : List WindowSum) (q : ℕ) (s : Setup) (logs : List WindowLog) → slice_get new q ≡ slice_get old q
+    → HasCounted old q s logs → HasCounted new q s logs
 counted_still old new q s logs same is = record { sum = is.sum; there = same ∙ is.there; is = is.is; few = is.few }
 
 pub still_shown : (t q : ℕ) (old : FieldState) (old_due : List Due) (new : FieldState) (new_due : List Due) (s : Setup) (d : Device)
@@ -71,10 +75,15 @@ still_shown t q old old_due new new_due s d stays is = record {
   setup = is.setup;
   made = is.made;
   is = is.is;
-  logged = record { sent = is.logged.sent ∙ sym stays.sent; tuned = is.logged.tuned ∙ ap reverse (sym stays.tuned); deliveries = is.logged.deliveries ∙ sym stays.deliveries };
+  logged = record {
+    sent = is.logged.sent ∙ sym stays.sent;
+    tuned = is.logged.tuned ∙ ap reverse (sym stays.tuned);
+    deliveries = is.logged.deliveries ∙ sym stays.deliveries;
+  };
   known = record {
     station = is.known.station;
-    there = ap (λ (u : Setup). station_of new.medium u.id) is.setup ∙ stays.station ∙ ap (λ (u : Setup). station_of old.medium u.id) (sym is.setup) ∙ is.known.there;
+    there = ap (λ (u : Setup). station_of new.medium u.id) is.setup ∙ stays.station ∙ ap (λ (u : Setup). station_of old.medium u.id) (sym is.setup)
+        ∙ is.known.there;
     tuned = is.known.tuned;
     sending = is.known.sending;
     set = stays.due ∙ is.known.set;
@@ -86,14 +95,16 @@ still_shown t q old old_due new new_due s d stays is = record {
 }
 
 -- the device that is shown is the one that stands there
-pub same_state : (s : Setup) (t : ℕ) (w : FieldState) (due : List Due) (p : ℕ) (d : Device) (shows : Shows s t w due p d) (st : DeviceState) → slice_get w.devices p ≡ Some st → shows.state ≡ st
+pub same_state : (s : Setup) (t : ℕ) (w : FieldState) (due : List Due) (p : ℕ) (d : Device) (shows : Shows s t w due p d) (st : DeviceState)
+    → slice_get w.devices p ≡ Some st → shows.state ≡ st
 same_state s t w due p d shows st at = of_some (sym shows.there ∙ at)
   where
     of_some : {x y : DeviceState} → (let o : Option DeviceState = Some x in o ≡ Some y) → x ≡ y
     of_some is = cc
 
 -- so it can be shown as that one
-abbrev pub shown_as : (s : Setup) (t : ℕ) (w : FieldState) (due : List Due) (p : ℕ) (d : Device) (st : DeviceState) → slice_get w.devices p ≡ Some st → Shows s t w due p d → Shows s t w due p d
+abbrev pub shown_as : (s : Setup) (t : ℕ) (w : FieldState) (due : List Due) (p : ℕ) (d : Device) (st : DeviceState) → slice_get w.devices p ≡ Some st
+    → Shows s t w due p d → Shows s t w due p d
 shown_as s t w due p d st at shows =
     let same = same_state s t w due p d shows st at in
     record {
@@ -111,5 +122,6 @@ shown_as s t w due p d st at shows =
     }
 
 -- what is read at a place that is shown
-pub read_there : (t : ℕ) (w : FieldState) (due : List Due) (p : ℕ) (st : DeviceState) → IsShown t w due p → st ≡ get_or w.devices p st → slice_get w.devices p ≡ Some st
+pub read_there : (t : ℕ) (w : FieldState) (due : List Due) (p : ℕ) (st : DeviceState) → IsShown t w due p → st ≡ get_or w.devices p st
+    → slice_get w.devices p ≡ Some st
 read_there t w due p st shown is = slice_get_read w.devices (length w.devices) p st refl (slice_get_within w.devices p shown.shows.state shown.shows.there) is

@@ -1,5 +1,6 @@
 -- The devices that a field shows at its places.
-use Rattle.std.proofs.Common.{option_map, ◌≡◌, ℕ, zero, suc, ◌<◌, ◌≤◌, List, [], ◌∷◌, map, reverse, length, get_or, slice_get, Some, None, Option, refl, sym, ◌∙◌, ap, subst, arith, Contains, IfSome}
+use Rattle.std.proofs.Common.{option_map, ◌≡◌, ℕ, zero, suc, ◌<◌, ◌≤◌, List, [], ◌∷◌, map, reverse, length, get_or, slice_get, Some, None, Option, refl, sym}
+use Rattle.std.proofs.Common.{◌∙◌, ap, subst, arith, Contains, IfSome}
 use Rattle.std.proofs.lemmas.Option.{same_Some, slice_get_within, slice_get-get_or, get_or_from_slice_get}
 use Rattle.std.proofs.lemmas.List.{length-map}
 use Rattle.radio_model.specs.declared.sending.Sending.{Sending}
@@ -20,6 +21,7 @@ use Rattle.lwb_world.specs.Running.{HasPlaces, IsOnTrail, setup_by}
 use Rattle.air_log.specs.TunedTimes.{WasTuned}
 use Rattle.air_log.proofs.TunedBefore.{TunedAt, HasTunedBy, by_later}
 use Rattle.lwb_world.proofs.TunedMoments.{moment_by}
+use Rattle.lwb_world.proofs.ShownDevices.{shows_later}
 
 pub mapped : {X Y : Type 0} (f : X → Y) (xs : List X) (p : ℕ) (x : X) → slice_get xs p ≡ Some x → slice_get (map f xs) p ≡ Some (f x)
 mapped f [] p x is = cc
@@ -34,24 +36,6 @@ ended_later t u (e ∷ es) order all = omega (arith, all)
 if_later : {X : Type 0} (o : Option X) (P Q : X → Type 0) → ((x : X) → P x → Q x) → IfSome o P → IfSome o Q
 if_later None P Q on is = tt
 if_later (Some x) P Q on is = on x is
-
-pub shows_later : (q : Setup) (t u : ℕ) (w : FieldState) (due : List Due) (p : ℕ) (d : Device) → t ≤ u → Shows q t w due p d → Shows q u w due p d
-shows_later q t u w due p d order is = record {
-  state = is.state;
-  there = is.there;
-  setup = is.setup;
-  made = is.made;
-  is = is.is;
-  logged = is.logged;
-  known = is.known;
-  counted = is.counted;
-  ended = ended_later t u is.made.tuned order is.ended;
-  happened = record {
-    closed = if_later is.state.closed _ _ (λ e by. omega (arith, by)) is.happened.closed;
-    listening = if_later is.state.listening _ _ (λ l by. omega (arith, by)) is.happened.listening;
-  };
-  taken = is.taken;
-}
 
 -- a device that is shown is one of the field's
 module _ (q : Setup) (t : ℕ) (w : FieldState) (due : List Due) (p : ℕ) (d : Device) (is : Shows q t w due p d) where
@@ -124,7 +108,12 @@ trails_tuned s clocks t m w due places trails p within = by_line s.nodes refl be
     at_line : (n : NodeLine) → slice_get s.nodes p ≡ Some n → IsTunedAt t w due p
     at_line n is =
         let on = trails p n is in
-        record { setup = setup_of s n.node; device = on.device; shows = on.shows; by = moment_by s n.node (clocks n.node) (heard_by w.air n.node) t m on.device on.at }
+        record {
+          setup = setup_of s n.node;
+          device = on.device;
+          shows = on.shows;
+          by = moment_by s n.node (clocks n.node) (heard_by w.air n.node) t m on.device on.at;
+        }
 
     by_line : (ns : List NodeLine) → ns ≡ s.nodes → p < length ns → IsTunedAt t w due p
     by_line [] is less = absurd (omega (arith, less))

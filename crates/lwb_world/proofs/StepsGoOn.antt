@@ -16,7 +16,7 @@ use Rattle.air_log.specs.Devices.{Device}
 use Rattle.air_log.specs.ScriptedDevices.{after_line}
 use Rattle.air_log.specs.Trails.{run_end, frame_start, alarmed, begun, starting}
 use Rattle.air_log.specs.Drops.{drop_by}
-use Rattle.lwb_world.specs.Fields.{FieldState, IsField, Shows}
+use Rattle.lwb_world.specs.Fields.{FieldState, Shows}
 use Rattle.lwb_world.proofs.GoesOn.{field_goes_on}
 use Rattle.lwb_world.specs.FieldSteps.{GoesOn, Acts, EndsSending, Sends, AreSame}
 use Rattle.lwb_world.specs.Moments.{Moment, InLines, At}
@@ -29,17 +29,21 @@ use Rattle.lwb_world.proofs.HeardAtEnds.{not_own, heard_at_end, heard_on_at_end}
 use Rattle.lwb_world.proofs.RunsOnAir.{air_after_line, air_after_alarm, air_after_begin, air_after_end}
 use Rattle.lwb_world.proofs.PlacedNodes.{as_many_devices}
 
-module _ (s : ScenarioParts) (clocks : ℕ → ℕ → ℕ) (sound : IsSoundScenario s) (told : List ScriptLine) (t p : ℕ) (n : NodeLine) (here : slice_get s.nodes p ≡ Some n)
+module _ (s : ScenarioParts) (clocks : ℕ → ℕ → ℕ) (sound : IsSoundScenario s) (told : List ScriptLine) (t p : ℕ) (n : NodeLine)
+    (here : slice_get s.nodes p ≡ Some n)
     (old : FieldState) (old_due : List Due) (new : FieldState) (new_due : List Due) where
   inside : (m : Moment) → IsRunning s clocks told t m old old_due → p < length old.devices
   inside m run = let long = as_many_devices s old old_due run.places in omega (arith, slice_get_within s.nodes p n here, long)
 
-  places_after : (m : Moment) (begun : List Sending) → IsRunning s clocks told t m old old_due → AreSame old old_due new new_due → GoesOn t old.medium new.medium begun → HasPlaces s new new_due
-  places_after m begun run same air = same_places s old new old_due new_due same (field_goes_on t begun old new old_due new_due same air run.places.field) run.places
+  places_after : (m : Moment) (begun : List Sending) → IsRunning s clocks told t m old old_due → AreSame old old_due new new_due
+      → GoesOn t old.medium new.medium begun → HasPlaces s new new_due
+  places_after m begun run same air = same_places s old new old_due new_due same
+      (field_goes_on t begun old new old_due new_due same air run.places.field) run.places
 
   -- a line of the script is told to its node
   pub line_goes_on : (clock : ℕ → ℕ) → IsClockAt s clocks p clock → (l : ScriptLine) → l.node ≡ n.node → frame_start s l.frame ≡ t → (lost : List DropLine)
-      → Acts t p (λ x d. after_line clock x t d l) [] lost old old_due new new_due → ((x : Setup) (d : Device) → Shows x t old old_due p d → lost ≡ option_to_list (drop_by l l.act d.power))
+      → Acts t p (λ x d. after_line clock x t d l) [] lost old old_due new new_due
+      → ((x : Setup) (d : Device) → Shows x t old old_due p d → lost ≡ option_to_list (drop_by l l.act d.power))
       → IsRunning s clocks told t (InLines told) old old_due → IsRunning s clocks (told ++ l ∷ []) t (InLines (told ++ l ∷ [])) new new_due
   line_goes_on clock own_clock l own now lost acts loses run =
       let places = places_after (InLines told) [] run acts.same acts.air in
@@ -60,7 +64,8 @@ module _ (s : ScenarioParts) (clocks : ℕ → ℕ → ℕ) (sound : IsSoundScen
           places = places;
           trails = alarm_trails s clocks t p clock own_clock old old_due new new_due sound drifts within [] [] acts run.trails;
           air = air_after_alarm s clocks told t (At Alarm) old old_due run run.places.field p (inside (At Alarm) run) clock new new_due acts;
-          script = acts_told s clocks told t (At Alarm) old old_due run.trails run.script new new_due places p (λ x d. alarmed clock x t d) [] acts (λ x d. alarmed_power clock x t d);
+          script = acts_told s clocks told t (At Alarm) old old_due run.trails run.script new new_due places p (λ x d. alarmed clock x t d) [] acts
+              (λ x d. alarmed_power clock x t d);
         }
 
     -- the start of what a node was to send
@@ -73,22 +78,32 @@ module _ (s : ScenarioParts) (clocks : ℕ → ℕ → ℕ) (sound : IsSoundScen
           places = places;
           trails = begin_trails s clocks t p clock own_clock old old_due new new_due sound drifts within starts [] acts run.trails;
           air = air_after_begin s clocks told t (At SendingStart) old old_due run run.places.field p (inside (At SendingStart) run) new new_due starts acts are;
-          script = acts_told s clocks told t (At SendingStart) old old_due run.trails run.script new new_due places p (λ x d. begun x t d) starts acts (λ x d. begun_power clock x t d);
+          script = acts_told s clocks told t (At SendingStart) old old_due run.trails run.script new new_due places p (λ x d. begun x t d) starts acts
+              (λ x d. begun_power clock x t d);
         }
 
   -- the end of a sending of the node
-  pub end_goes_on : (lines : Lines) → lines ≡ s.trace → (at_places : ℕ → ℕ → ℕ) → ((q : ℕ) → IsClockAt s clocks q (at_places q)) → (x : Sending) → x.end ≡ t → Sends t old old_due p x → IsNext old_due (Some (t, SendingEnd, p))
+  pub end_goes_on : (lines : Lines) → lines ≡ s.trace → (at_places : ℕ → ℕ → ℕ) → ((q : ℕ) → IsClockAt s clocks q (at_places q)) → (x : Sending)
+      → x.end ≡ t → Sends t old old_due p x → IsNext old_due (Some (t, SendingEnd, p))
       → (hearers : List ℕ) → EndsSending lines at_places t p x hearers old old_due new new_due
       → IsRunning s clocks told t (At SendingEnd) old old_due → IsRunning s clocks told t (At SendingEnd) new new_due
   end_goes_on lines by_trace at_places own_clocks x now sends next hearers ends run =
       let places = places_after (At SendingEnd) [] run ends.same ends.air in
       let air = run.air in
-      let deaf = not_own s clocks sound lines by_trace at_places t p x now hearers old old_due new new_due ends run.places run.trails sends n here air.scene air.holds (suc t) air.has in
-      let heard = heard_at_end s clocks sound lines by_trace at_places t p x now hearers old old_due new new_due ends run.places run.trails sends n here air.scene air.holds (suc t) air.has in
-      let heard_on = heard_on_at_end s clocks sound lines by_trace at_places t p x now hearers old old_due new new_due ends run.places run.trails sends n here air.scene air.holds (suc t) air.has in
+      let deaf =
+      not_own s clocks sound lines by_trace at_places t p x now hearers old old_due new new_due ends run.places run.trails sends n here air.scene air.holds
+      (suc t) air.has in
+      let heard =
+      heard_at_end s clocks sound lines by_trace at_places t p x now hearers old old_due new new_due ends run.places run.trails sends n here
+      air.scene air.holds (suc t) air.has in
+      let heard_on =
+      heard_on_at_end s clocks sound lines by_trace at_places t p x now hearers old old_due new new_due ends run.places run.trails sends n here
+      air.scene air.holds (suc t) air.has in
       record {
         places = places;
         trails = end_trails s clocks lines at_places own_clocks t p x now hearers old old_due new new_due ends sends deaf heard run.trails;
-        air = air_after_end s clocks told t old old_due run run.places.field lines by_trace at_places p (inside (At SendingEnd) run) next x now sends hearers new new_due ends;
-        script = end_told_of s clocks told t (At SendingEnd) old old_due run.trails run.script new new_due places lines at_places p x hearers ends deaf heard_on;
+        air = air_after_end s clocks told t old old_due run run.places.field lines by_trace at_places p
+            (inside (At SendingEnd) run) next x now sends hearers new new_due ends;
+        script = end_told_of s clocks told t
+            (At SendingEnd) old old_due run.trails run.script new new_due places lines at_places p x hearers ends deaf heard_on;
       }

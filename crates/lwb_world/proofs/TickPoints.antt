@@ -1,5 +1,6 @@
 -- From class to class within a tick.
-use Rattle.std.proofs.Common.{◌≡◌, ℕ, zero, suc, ◌+◌, ◌<◌, ◌≤◌, List, Bool, false, Some, None, Option, option_map, inl, inr, refl, sym, ◌∙◌, ap, subst, arith, true≢false}
+use Rattle.std.proofs.Common.{◌≡◌, ℕ, zero, suc, ◌+◌, ◌<◌, ◌≤◌, List, false, Some, None, Option, option_map, inl, inr, refl, sym, ◌∙◌, ap, subst, arith}
+use Rattle.std.proofs.Common.{true≢false}
 use Rattle.std.specs.Option.{IfSome}
 use Rattle.std.proofs.lemmas.Bool.{ne_eqb, eq-eqb}
 use Rattle.tick_clock.specs.Clocks.{IsClock}
@@ -11,7 +12,7 @@ use Rattle.scenario_text.specs.ScenarioParts.{ScenarioParts}
 use Rattle.scenario_text.specs.ScenarioFacts.{IsSoundScenario}
 use Rattle.bus_rules.specs.Cores.{Setup}
 use Rattle.air_log.specs.Devices.{Device, Ordered}
-use Rattle.air_log.specs.Trails.{Reception, setup_of, run_end, scripted, heard, ended, ended_by, is_due, alarms, alarmed, begun, begun_by, before_alarms, before_start, before_tick}
+use Rattle.air_log.specs.Trails.{Reception, setup_of, run_end, scripted, heard, ended, is_due, alarmed, begun, before_alarms, before_start, before_tick}
 use Rattle.air_log.specs.AlarmRuns.{IsAlarmRun}
 use Rattle.air_log.specs.QuietTicks.{ends_at, starts_at}
 use Rattle.air_log.specs.Ahead.{IsAhead}
@@ -19,8 +20,11 @@ use Rattle.air_log.proofs.AlarmLoop.{no_alarm_left}
 use Rattle.air_log.proofs.AlarmRuns.{alarms_are_run}
 use Rattle.air_log.proofs.NextDue.{is_ahead}
 use Rattle.lwb_world.specs.Moments.{At, IsAt, after_point}
-use Rattle.lwb_world.specs.Runs.{standing, end_of, tick_of as start_of}
+use Rattle.lwb_world.specs.Runs.{standing}
 use Rattle.air_log.proofs.OwnSendings.{none_ends, none_ends_later}
+use Rattle.air_log.proofs.QuietTicks.{no_end, no_start, no_alarm}
+use Rattle.lwb_world.specs.Fields.{end_of}
+use Rattle.air_log.specs.Courses.{tick_of as start_of}
 
 -- no order of the class stands at the tick
 abbrev pub IsOver : Class → ℕ → Device → Type 0
@@ -50,18 +54,6 @@ alarm_at t None none is = cc
 alarm_at t (Some tick) none is = true≢false (sym (eq-eqb tick t (same_tick tick t is)) ∙ none)
 
 -- where nothing is due, a phase changes nothing
-no_end : (clock : ℕ → ℕ) (s : Setup) (t : ℕ) (d : Device) (x : Option Sending) → ends_at t x ≡ false → ended_by clock s t d x ≡ d
-no_end clock s t d None none = refl
-no_end clock s t d (Some x) none = rw none refl
-
-no_start : (s : Setup) (t : ℕ) (d : Device) (o : Option Ordered) → starts_at t o ≡ false → begun_by s t d o ≡ d
-no_start s t d None none = refl
-no_start s t d (Some o) none = rw none refl
-
-no_alarm : (clock : ℕ → ℕ) (s : Setup) (t more : ℕ) (d : Device) (b : Bool) → b ≡ false → alarms clock s t b more d ≡ d
-unfolding alarms
-no_alarm clock s t more d b none = rw none refl
-
 pub ends_nothing : (clock : ℕ → ℕ) (s : Setup) (t : ℕ) (d : Device) → IsOver SendingEnd t d → ended clock s t d ≡ d
 ends_nothing clock s t d over = no_end clock s t d d.sending (no_end_at t d.sending over)
 
@@ -107,7 +99,8 @@ module _ (s : ScenarioParts) (v : ℕ) (clock : ℕ → ℕ) (hs : List Receptio
   passed_class SendingStart d (inr at) over = at
 
   -- to a later class
-  pub to_class : (c k : Class) (d : Device) → rank c ≤ rank k → IsAt s clock hs v t (At c) d → ((j : Class) → rank j < rank k → IsOver j t d) → IsAt s clock hs v t (At k) d
+  pub to_class : (c k : Class) (d : Device) → rank c ≤ rank k → IsAt s clock hs v t (At c) d → ((j : Class) → rank j < rank k → IsOver j t d)
+      → IsAt s clock hs v t (At k) d
   to_class SendingEnd SendingEnd d up at over = at
   to_class SendingEnd Alarm d up at over = inl (passed_class SendingEnd d at (over SendingEnd (omega arith)))
   to_class SendingEnd SendingStart d up at over =
@@ -138,15 +131,20 @@ module _ (s : ScenarioParts) (v : ℕ) (clock : ℕ → ℕ) (hs : List Receptio
     earlier_over SendingEnd SendingEnd d less at = absurd (omega (arith, less))
     earlier_over SendingEnd Alarm d less at = absurd (omega (arith, less))
     earlier_over SendingEnd SendingStart d less at = absurd (omega (arith, less))
-    earlier_over Alarm SendingEnd d less (inl at) = subst (IsOver SendingEnd t) (sym at) (end_at t _ (none_ends clock (setup_of s v) t (heard clock (setup_of s v) t hs (scripted s v clock t before))))
+    earlier_over Alarm SendingEnd d less (inl at) = subst (IsOver SendingEnd t) (sym at)
+        (end_at t _ (none_ends clock (setup_of s v) t (heard clock (setup_of s v) t hs (scripted s v clock t before))))
     earlier_over Alarm SendingEnd d less (inr at) =
         let e = before_alarms s v clock hs t before in
-        subst (IsOver SendingEnd t) (sym at) (end_at t _ (none_ends_later clock (setup_of s v) t e (none_ends clock (setup_of s v) t (heard clock (setup_of s v) t hs (scripted s v clock t before)))))
+        subst (IsOver SendingEnd t) (sym at)
+        (end_at t _ (none_ends_later clock (setup_of s v) t e
+        (none_ends clock (setup_of s v) t (heard clock (setup_of s v) t hs (scripted s v clock t before)))))
     earlier_over Alarm Alarm d less at = absurd (omega (arith, less))
     earlier_over Alarm SendingStart d less at = absurd (omega (arith, less))
     earlier_over SendingStart SendingEnd d less (inl at) =
         let e = before_alarms s v clock hs t before in
-        subst (IsOver SendingEnd t) (sym at) (end_at t _ (none_ends_later clock (setup_of s v) t e (none_ends clock (setup_of s v) t (heard clock (setup_of s v) t hs (scripted s v clock t before)))))
+        subst (IsOver SendingEnd t) (sym at)
+        (end_at t _ (none_ends_later clock (setup_of s v) t e
+        (none_ends clock (setup_of s v) t (heard clock (setup_of s v) t hs (scripted s v clock t before)))))
     earlier_over SendingStart Alarm d less (inl at) = subst (IsOver Alarm t) (sym at) (alarm_at t _ none_due)
     earlier_over SendingStart SendingStart d less at = absurd (omega (arith, less))
     earlier_over SendingStart SendingEnd d less (inr at) = subst (IsOver SendingEnd t) (sym at) (after_tick SendingEnd)
@@ -161,7 +159,12 @@ module _ (s : ScenarioParts) (v : ℕ) (clock : ℕ → ℕ) (hs : List Receptio
         let e = before_start s v clock hs t before in
         let none = none_due in
         subst (λ (e : Device). IsAlarmRun clock (setup_of s v) t e (alarmed clock (setup_of s v) t e)) (sym at)
-        (record { count = zero; is = alarms_nothing clock (setup_of s v) t e none; due = λ j less. absurd (omega (arith, less)); over = subst (λ (x : Device). is_due t x.alarm ≡ false) (sym (alarms_nothing clock (setup_of s v) t e none)) none })
+        (record {
+          count = zero;
+          is = alarms_nothing clock (setup_of s v) t e none;
+          due = λ j less. absurd (omega (arith, less));
+          over = subst (λ (x : Device). is_due t x.alarm ≡ false) (sym (alarms_nothing clock (setup_of s v) t e none)) none;
+        })
 
     pub alarmed_at : (d : Device) → IsAt s clock hs v t (At Alarm) d → IsAt s clock hs v t (At Alarm) (alarmed clock (setup_of s v) t d)
     alarmed_at d (inl at) = inr (ap (alarmed clock (setup_of s v) t) at)

@@ -67,7 +67,8 @@ module _ (s : ScenarioParts) (clocks : ℕ → ℕ → ℕ) (told : List ScriptL
     pub acts_told : (p : ℕ) (change : Setup → Device → Device) (starting : List Sending) → Acts t p change starting [] old old_due new new_due
         → ((x : Setup) (d : Device) → seen_power (change x d).power ≡ seen_power d.power) → IsTold s clocks told t new new_due
     acts_told p change starting acts kept = record {
-      drops = acts.drops ∙ append-nil old.drops ∙ is.drops ∙ sym (drops_stay s clocks t old.air new.air [] told is.lines (λ v. inl (heard_same s clocks t p change starting [] old old_due new new_due acts v)));
+      drops = acts.drops ∙ append-nil old.drops ∙ is.drops
+          ∙ sym (drops_stay s clocks t old.air new.air [] told is.lines (λ v. inl (heard_same s clocks t p change starting [] old old_due new new_due acts v)));
       power = power_told s told t new new_due places each;
       lines = is.lines;
     }
@@ -79,14 +80,20 @@ module _ (s : ScenarioParts) (clocks : ℕ → ℕ → ℕ) (told : List ScriptL
             by (inl same) =
                 let trail = trails q n there in
                 let x = setup_of s n.node in
-                let shown : Shows x t new new_due p (change x trail.device) = acts.own x trail.device (subst (λ (r : ℕ). Shows x t old old_due r trail.device) same trail.shows) in
-                record { device = change x trail.device; shows = subst (λ (r : ℕ). Shows x t new new_due r (change x trail.device)) (sym same) shown; power = kept x trail.device ∙ old_power q n there }
+                let shown : Shows x t new new_due p (change x trail.device) =
+                acts.own x trail.device (subst (λ (r : ℕ). Shows x t old old_due r trail.device) same trail.shows) in
+                record {
+                  device = change x trail.device;
+                  shows = subst (λ (r : ℕ). Shows x t new new_due r (change x trail.device)) (sym same) shown;
+                  power = kept x trail.device ∙ old_power q n there;
+                }
             by (inr other) =
                 let trail = trails q n there in
                 record { device = trail.device; shows = acts.others q other (setup_of s n.node) trail.device trail.shows; power = old_power q n there }
 
     -- the end of a sending
-    pub end_told_of : (lines : Lines) (at_places : ℕ → ℕ → ℕ) (p : ℕ) (x : Sending) (hearers : List ℕ) → EndsSending lines at_places t p x hearers old old_due new new_due
+    pub end_told_of : (lines : Lines) (at_places : ℕ → ℕ → ℕ) (p : ℕ) (x : Sending) (hearers : List ℕ)
+        → EndsSending lines at_places t p x hearers old old_due new new_due
         → (Contains hearers p → ⊥) → ((v : ℕ) → HeardOn t old.air new.air v) → IsTold s clocks told t new new_due
     end_told_of lines at_places p x hearers ends not_own heard = record {
       drops = ends.drops ∙ is.drops ∙ sym (drops_stay s clocks t old.air new.air [] told is.lines heard);
@@ -102,8 +109,13 @@ module _ (s : ScenarioParts) (clocks : ℕ → ℕ → ℕ) (told : List ScriptL
                 let trail = trails q n there in
                 let y = setup_of s n.node in
                 let e = told_of_end (at_places p) t x y trail.device in
-                let shown : Shows y t new new_due p e = ends.sender not_own y trail.device (subst (λ (r : ℕ). Shows y t old old_due r trail.device) same trail.shows) in
-                record { device = e; shows = subst (λ (r : ℕ). Shows y t new new_due r e) (sym same) shown; power = event_power (at_places p) y t Sent (Some x) (record (trail.device) { sending = None }) ∙ old_power q n there }
+                let shown : Shows y t new new_due p e = ends.sender not_own y trail.device
+                (subst (λ (r : ℕ). Shows y t old old_due r trail.device) same trail.shows) in
+                record {
+                  device = e;
+                  shows = subst (λ (r : ℕ). Shows y t new new_due r e) (sym same) shown;
+                  power = event_power (at_places p) y t Sent (Some x) (record (trail.device) { sending = None }) ∙ old_power q n there;
+                }
             by (inr other) (inl hears) =
                 let trail = trails q n there in
                 let y = setup_of s n.node in
@@ -117,7 +129,8 @@ module _ (s : ScenarioParts) (clocks : ℕ → ℕ → ℕ) (told : List ScriptL
                 record { device = trail.device; shows = ends.others q deaf other (setup_of s n.node) trail.device trail.shows; power = old_power q n there }
 
 -- a line is told at the place of its node
-module _ (s : ScenarioParts) (clocks : ℕ → ℕ → ℕ) (told : List ScriptLine) (t p : ℕ) (clock : ℕ → ℕ) (own_clock : IsClockAt s clocks p clock) (old : FieldState) (old_due : List Due) (new : FieldState) (new_due : List Due)
+module _ (s : ScenarioParts) (clocks : ℕ → ℕ → ℕ) (told : List ScriptLine) (t p : ℕ) (clock : ℕ → ℕ) (own_clock : IsClockAt s clocks p clock)
+    (old : FieldState) (old_due : List Due) (new : FieldState) (new_due : List Due)
     (l : ScriptLine) (n : NodeLine) (sound : IsSoundScenario s) (here : slice_get s.nodes p ≡ Some n) (own : l.node ≡ n.node) (now : frame_start s l.frame ≡ t)
     (starting : List Sending) (lost : List DropLine) (acts : Acts t p (λ x d. after_line clock x t d l) starting lost old old_due new new_due)
     (trails : OnTrails s clocks t (InLines told) old old_due) (is : IsTold s clocks told t old old_due) where
@@ -132,7 +145,8 @@ module _ (s : ScenarioParts) (clocks : ℕ → ℕ → ℕ) (told : List ScriptL
   drops_told loses =
       let trail = trails p n here in
       let stay : drops_below s clocks new.air [] (told ++ l ∷ []) ≡ drops_below s clocks old.air [] (told ++ l ∷ []) =
-      drops_stay s clocks t old.air new.air [] (told ++ l ∷ []) early (λ v. inl (heard_same s clocks t p (λ x d. after_line clock x t d l) starting lost old old_due new new_due acts v)) in
+      drops_stay s clocks t old.air new.air [] (told ++ l ∷ []) early
+      (λ v. inl (heard_same s clocks t p (λ x d. after_line clock x t d l) starting lost old old_due new new_due acts v)) in
       acts.drops
       ∙ ap (λ (ds : List DropLine). old.drops ++ ds) (loses (setup_of s n.node) trail.device trail.shows ∙ ap (lost_by l) found)
       ∙ ap (λ (ds : List DropLine). ds ++ lost_by l (before_line s clocks old.air told l)) is.drops
@@ -140,7 +154,10 @@ module _ (s : ScenarioParts) (clocks : ℕ → ℕ → ℕ) (told : List ScriptL
       ∙ sym stay
     where
       early : (k : ScriptLine) → Contains (told ++ l ∷ []) k → frame_start s k.frame ≤ t
-      early k there = elim (Contains-push_cases told l k there) [ inl before ↦ is.lines k before | inr same ↦ subst (λ (z : ScriptLine). frame_start s z.frame ≤ t) same (omega (arith, now)) ]
+      early k there = elim (Contains-push_cases told l k there) [
+        | inl before ↦ is.lines k before
+        | inr same ↦ subst (λ (z : ScriptLine). frame_start s z.frame ≤ t) same (omega (arith, now))
+      ]
 
   each_power : HavePower s (told ++ l ∷ []) t new new_due
   each_power q k there = by (cases_eq q p)
@@ -151,7 +168,8 @@ module _ (s : ScenarioParts) (clocks : ℕ → ℕ → ℕ) (told : List ScriptL
           let x = setup_of s k.node in
           let e = after_line clock x t trail.device l in
           let shown : Shows x t new new_due p e = acts.own x trail.device (subst (λ (r : ℕ). Shows x t old old_due r trail.device) same trail.shows) in
-          let mine : l.node ≡ k.node = own ∙ ap (λ (z : NodeLine). z.node) (some_same n k (sym here ∙ subst (λ (r : ℕ). slice_get s.nodes r ≡ Some k) same there)) in
+          let mine : l.node ≡ k.node = own ∙ ap (λ (z : NodeLine). z.node)
+          (some_same n k (sym here ∙ subst (λ (r : ℕ). slice_get s.nodes r ≡ Some k) same there)) in
           record {
             device = e;
             shows = subst (λ (r : ℕ). Shows x t new new_due r e) (sym same) shown;
@@ -166,12 +184,17 @@ module _ (s : ScenarioParts) (clocks : ℕ → ℕ → ℕ) (told : List ScriptL
           record {
             device = trail.device;
             shows = acts.others q other (setup_of s k.node) trail.device trail.shows;
-            power = is.power (setup_of s k.node) q trail.device trail.shows ∙ sym (turned_more k.node (false, 0) told l ∙ rw (ne_eqb l.node k.node theirs) refl);
+            power = is.power (setup_of s k.node) q trail.device trail.shows
+                ∙ sym (turned_more k.node (false, 0) told l ∙ rw (ne_eqb l.node k.node theirs) refl);
           }
 
-  pub line_told_of : HasPlaces s new new_due → ((x : Setup) (d : Device) → Shows x t old old_due p d → lost ≡ lost_by l d) → IsTold s clocks (told ++ l ∷ []) t new new_due
+  pub line_told_of : HasPlaces s new new_due → ((x : Setup) (d : Device) → Shows x t old old_due p d → lost ≡ lost_by l d)
+      → IsTold s clocks (told ++ l ∷ []) t new new_due
   line_told_of places loses = record {
     drops = drops_told loses;
     power = power_told s (told ++ l ∷ []) t new new_due places each_power;
-    lines = λ k there. elim (Contains-push_cases told l k there) [ inl before ↦ is.lines k before | inr same ↦ subst (λ (z : ScriptLine). frame_start s z.frame ≤ t) same (omega (arith, now)) ];
+    lines = λ k there. elim (Contains-push_cases told l k there) [
+      | inl before ↦ is.lines k before
+      | inr same ↦ subst (λ (z : ScriptLine). frame_start s z.frame ≤ t) same (omega (arith, now))
+    ];
   }

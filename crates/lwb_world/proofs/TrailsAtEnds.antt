@@ -39,7 +39,8 @@ pub record IsHeardAt (s : ScenarioParts) (x : Sending) (hearers : List ℕ) (old
   pub unheard : (q : ℕ) (n : NodeLine) → slice_get s.nodes q ≡ Some n → (Contains hearers q → ⊥) → heard_by new n.node ≡ heard_by old n.node
   pub free : (q : ℕ) (n : NodeLine) → slice_get s.nodes q ≡ Some n → Contains hearers q → (y : Sending) → Contains (sent_by old n.node) y → y.end ≡ x.end → ⊥
 
-module _ (s : ScenarioParts) (clocks : ℕ → ℕ → ℕ) (lines : Lines) (at_places : ℕ → ℕ → ℕ) (own_clocks : (q : ℕ) → IsClockAt s clocks q (at_places q)) (t p : ℕ) (x : Sending) (now : x.end ≡ t) (hearers : List ℕ)
+module _ (s : ScenarioParts) (clocks : ℕ → ℕ → ℕ) (lines : Lines) (at_places : ℕ → ℕ → ℕ) (own_clocks : (q : ℕ) → IsClockAt s clocks q (at_places q))
+    (t p : ℕ) (x : Sending) (now : x.end ≡ t) (hearers : List ℕ)
     (old : FieldState) (old_due : List Due) (new : FieldState) (new_due : List Due) (ends : EndsSending lines at_places t p x hearers old old_due new new_due)
     (sends : Sends t old old_due p x) (not_own : Contains hearers p → ⊥) (air : IsHeardAt s x hearers old.air new.air) where
   abbrev Old : ℕ → ℕ → Type 0
@@ -61,10 +62,12 @@ module _ (s : ScenarioParts) (clocks : ℕ → ℕ → ℕ) (lines : Lines) (at_
       record {
         device = told_of_end (at_places p) t x (setup_of s n.node) d;
         shows = ends.sender not_own (setup_of s n.node) d trail.shows;
-        at = subst (λ (hs : List Reception). AtEnd n.node hs (told_of_end (at_places p) t x (setup_of s n.node) d)) (sym (air.unheard p n here not_own)) by_clock;
+        at = subst (λ (hs : List Reception). AtEnd n.node hs (told_of_end (at_places p) t x (setup_of s n.node) d))
+            (sym (air.unheard p n here not_own)) by_clock;
       }
 
-  own_sent : (q : ℕ) (n : NodeLine) (d : Device) → slice_get s.nodes q ≡ Some n → Contains hearers q → Shows (setup_of s n.node) t old old_due q d → (y : Sending) → Contains d.made.sent y → y.end ≡ t → ⊥
+  own_sent : (q : ℕ) (n : NodeLine) (d : Device) → slice_get s.nodes q ≡ Some n → Contains hearers q → Shows (setup_of s n.node) t old old_due q d
+      → (y : Sending) → Contains d.made.sent y → y.end ≡ t → ⊥
   own_sent q n d there hears shows y sent is =
       let same : d.made.sent ≡ sent_by old.air n.node = ap (λ (e : Device). e.made.sent) (sym shows.is) ∙ shows.logged.sent in
       air.free q n there hears y (subst (λ (ys : List Sending). Contains ys y) same sent) (is ∙ sym now)
@@ -75,11 +78,13 @@ module _ (s : ScenarioParts) (clocks : ℕ → ℕ → ℕ) (lines : Lines) (at_
       let told : AtEnd n.node (heard_by old.air n.node ++ reception x ∷ []) (told_of_hearing (clocks n.node) t x (setup_of s n.node) d) =
       hearing_told s n.node (clocks n.node) (heard_by old.air n.node) t d (reception x) now (own_sent q n d there hears trail.shows) trail.at in
       let by_clock : AtEnd n.node (heard_by old.air n.node ++ reception x ∷ []) (told_of_hearing (at_places q) t x (setup_of s n.node) d) =
-      subst (λ (c : ℕ → ℕ). AtEnd n.node (heard_by old.air n.node ++ reception x ∷ []) (told_of_hearing c t x (setup_of s n.node) d)) (sym (own_clocks q n there)) told in
+      subst (λ (c : ℕ → ℕ). AtEnd n.node (heard_by old.air n.node ++ reception x ∷ []) (told_of_hearing c t x (setup_of s n.node) d))
+      (sym (own_clocks q n there)) told in
       record {
         device = told_of_hearing (at_places q) t x (setup_of s n.node) d;
         shows = ends.hearer q hears other (setup_of s n.node) d trail.shows;
-        at = subst (λ (hs : List Reception). AtEnd n.node hs (told_of_hearing (at_places q) t x (setup_of s n.node) d)) (sym (air.heard q n there hears)) by_clock;
+        at = subst (λ (hs : List Reception). AtEnd n.node hs (told_of_hearing (at_places q) t x (setup_of s n.node) d))
+            (sym (air.heard q n there hears)) by_clock;
       }
 
   other_trail : (q : ℕ) (n : NodeLine) → slice_get s.nodes q ≡ Some n → (Contains hearers q → ⊥) → q ≢ p → Old q n.node → New q n.node

@@ -36,14 +36,16 @@ IsClockAt s clocks p clock = (n : NodeLine) → slice_get s.nodes p ≡ Some n �
 abbrev pub AreClocks : (ℕ → ℕ → ℕ) → Type 0
 AreClocks clocks = (v : ℕ) → IsClock (clocks v)
 
-pub same_places : (s : ScenarioParts) (old new : FieldState) (old_due new_due : List Due) → AreSame old old_due new new_due → IsField new → HasPlaces s old old_due → HasPlaces s new new_due
+pub same_places : (s : ScenarioParts) (old new : FieldState) (old_due new_due : List Due) → AreSame old old_due new new_due → IsField new
+    → HasPlaces s old old_due → HasPlaces s new new_due
 same_places s old new old_due new_due same field places = record { setups = same.setups ∙ places.setups; field = field; places = same.places ∙ places.places }
 
 pub some_same : {X : Type 0} (x y : X) → Some x ≡ Some y → x ≡ y
 some_same x y is = cc
 
 -- nodes at two places have two ids
-pub ids_apart : (s : ScenarioParts) → IsSoundScenario s → (p q : ℕ) (n m : NodeLine) → p ≢ q → slice_get s.nodes p ≡ Some n → slice_get s.nodes q ≡ Some m → n.node ≢ m.node
+pub ids_apart : (s : ScenarioParts) → IsSoundScenario s → (p q : ℕ) (n m : NodeLine) → p ≢ q → slice_get s.nodes p ≡ Some n
+    → slice_get s.nodes q ≡ Some m → n.node ≢ m.node
 ids_apart s sound p q n m apart here there same = by (cases_order p q)
   where
     at : (i : ℕ) (x d : NodeLine) → slice_get s.nodes i ≡ Some x → get_or s.nodes i d ≡ x
@@ -106,7 +108,8 @@ module _ (s : ScenarioParts) (clocks : ℕ → ℕ → ℕ) (t p : ℕ) (clock :
     alarm_trails starting lost acts =
         acts_trails s clocks t p (λ x d. alarmed clock x t d) starting lost old old_due new new_due acts (At Alarm) (At Alarm)
         (λ n there d at.
-        subst (λ (c : ℕ → ℕ). IsAt s (clocks n.node) (heard_by old.air n.node) n.node t (At Alarm) (alarmed c (setup_of s n.node) t d)) (sym (own_clock n there))
+        subst (λ (c : ℕ → ℕ). IsAt s (clocks n.node) (heard_by old.air n.node) n.node t (At Alarm) (alarmed c (setup_of s n.node) t d))
+        (sym (own_clock n there))
         (alarmed_at s n.node (clocks n.node) (heard_by old.air n.node) t sound (drifts n.node) within d at))
         (λ q n other there d at. at)
 
@@ -121,14 +124,16 @@ module _ (s : ScenarioParts) (clocks : ℕ → ℕ → ℕ) (t p : ℕ) (clock :
   ids_differ : (q : ℕ) (n m : NodeLine) → IsSoundScenario s → q ≢ p → slice_get s.nodes p ≡ Some n → slice_get s.nodes q ≡ Some m → n.node ≢ m.node
   ids_differ q n m sound other here there = ids_apart s sound p q n m (λ is. other (sym is)) here there
 
-  pub line_trails : (told : List ScriptLine) (l : ScriptLine) (n : NodeLine) (starting : List Sending) (lost : List DropLine) → IsSoundScenario s → slice_get s.nodes p ≡ Some n → l.node ≡ n.node → frame_start s l.frame ≡ t
+  pub line_trails : (told : List ScriptLine) (l : ScriptLine) (n : NodeLine) (starting : List Sending) (lost : List DropLine) → IsSoundScenario s
+      → slice_get s.nodes p ≡ Some n → l.node ≡ n.node → frame_start s l.frame ≡ t
       → Acts t p (λ x d. after_line clock x t d l) starting lost old old_due new new_due
       → OnTrails s clocks t (InLines told) old old_due → OnTrails s clocks t (InLines (told ++ l ∷ [])) new new_due
   line_trails told l n starting lost sound here own now acts =
       acts_trails s clocks t p (λ x d. after_line clock x t d l) starting lost old old_due new new_due acts (InLines told) (InLines (told ++ l ∷ []))
       (λ m there d at.
       let same : n ≡ m = some_same n m (sym here ∙ there) in
-      subst (λ (c : ℕ → ℕ). IsAt s (clocks m.node) (heard_by old.air m.node) m.node t (InLines (told ++ l ∷ [])) (after_line c (setup_of s m.node) t d l)) (sym (own_clock m there))
+      subst (λ (c : ℕ → ℕ). IsAt s (clocks m.node) (heard_by old.air m.node) m.node t (InLines (told ++ l ∷ []))
+      (after_line c (setup_of s m.node) t d l)) (sym (own_clock m there))
       (line_told s m.node (clocks m.node) (heard_by old.air m.node) t told l d (own ∙ ap (λ (x : NodeLine). x.node) same) now at))
       (λ q m other there d at.
       line_of_other s m.node (clocks m.node) (heard_by old.air m.node) t told l d (λ is. ids_differ q n m sound other here there (sym own ∙ is)) at)

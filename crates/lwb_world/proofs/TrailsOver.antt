@@ -48,7 +48,8 @@ tuning_node (Tuned t) x is = ap (λ (o : Option Tuning). tuner_in o 0) is
 
 permuted_by : {X : Type 0} (b : Bool) (xs ys : List X) → (b ≡ true → IsPermutation xs ys) → (b ≡ false → ys ≡ []) → IsPermutation (if b then xs else []) ys
 permuted_by true xs ys known unknown = known refl
-permuted_by {X} false xs ys known unknown = let none : List X = [] in subst (λ (l : List X). IsPermutation none l) (sym (unknown refl)) (IsPermutation-refl none)
+permuted_by {X} false xs ys known unknown =
+    let none : List X = [] in subst (λ (l : List X). IsPermutation none l) (sym (unknown refl)) (IsPermutation-refl none)
 
 same_permuted : {X : Type 0} (xs ys : List X) → xs ≡ ys → IsPermutation xs ys
 same_permuted {X} xs ys is = subst (λ (l : List X). IsPermutation xs l) is (IsPermutation-refl xs)
@@ -56,7 +57,8 @@ same_permuted {X} xs ys is = subst (λ (l : List X). IsPermutation xs l) is (IsP
 reverse_permuted : {X : Type 0} (xs ys : List X) → xs ≡ reverse ys → IsPermutation xs ys
 reverse_permuted {X} xs ys is = subst (λ (l : List X). IsPermutation l ys) (sym is) (IsPermutation-sym ys (reverse ys) (IsPermutation-reverse ys))
 
-module _ (s : ScenarioParts) (clocks : ℕ → ℕ → ℕ) (w : FieldState) (due : List Due) (closed : FieldState) (running : IsRunning s clocks s.script (run_end s) Before w due) (over : IsClosed (run_end s) w due closed) where
+module _ (s : ScenarioParts) (clocks : ℕ → ℕ → ℕ) (w : FieldState) (due : List Due) (closed : FieldState)
+    (running : IsRunning s clocks s.script (run_end s) Before w due) (over : IsClosed (run_end s) w due closed) where
   pub same_heard : (v : ℕ) → heard_by closed.air v ≡ heard_by w.air v
   same_heard v = ap (λ (hs : List Hearing). map reception_of (by_end (filter (λ (h : Hearing). h.node == v) hs))) over.hearings
 
@@ -72,7 +74,8 @@ module _ (s : ScenarioParts) (clocks : ℕ → ℕ → ℕ) (w : FieldState) (du
       record {
         device = on.device;
         shows = on.shows;
-        is = ap (λ (hs : List Reception). silenced n.node (run_end s) (before_tick s n.node (clocks n.node) hs (run_end s))) (same_heard n.node) ∙ ap (silenced n.node (run_end s)) (sym on.at);
+        is = ap (λ (hs : List Reception). silenced n.node (run_end s) (before_tick s n.node (clocks n.node) hs (run_end s))) (same_heard n.node)
+            ∙ ap (silenced n.node (run_end s)) (sym on.at);
       }
 
   pub logged_at : (p : ℕ) (n : NodeLine) → slice_get s.nodes p ≡ Some n → IsLogged closed n.node (trail_in s clocks closed.air n.node).made
@@ -108,6 +111,8 @@ module _ (s : ScenarioParts) (clocks : ℕ → ℕ → ℕ) (w : FieldState) (du
 
   pub trails_over : FollowsTrails s clocks closed.air
   trails_over = record {
-    sent = λ v. permuted_by (knows s.nodes v) (trail_in s clocks closed.air v).made.sent (sent_by closed.air v) (λ known. same_permuted (trail_in s clocks closed.air v).made.sent (sent_by closed.air v) (logged v known).sent) (none_sent v);
-    tuned = λ v. permuted_by (knows s.nodes v) (trail_in s clocks closed.air v).made.tuned (tuned_by closed.air v) (λ known. reverse_permuted (trail_in s clocks closed.air v).made.tuned (tuned_by closed.air v) (logged v known).tuned) (none_tuned v);
+    sent = λ v. permuted_by (knows s.nodes v) (trail_in s clocks closed.air v).made.sent (sent_by closed.air v)
+        (λ known. same_permuted (trail_in s clocks closed.air v).made.sent (sent_by closed.air v) (logged v known).sent) (none_sent v);
+    tuned = λ v. permuted_by (knows s.nodes v) (trail_in s clocks closed.air v).made.tuned (tuned_by closed.air v)
+        (λ known. reverse_permuted (trail_in s clocks closed.air v).made.tuned (tuned_by closed.air v) (logged v known).tuned) (none_tuned v);
   }

@@ -1,5 +1,5 @@
 -- What a device was tuned to before a tick, at each moment of the tick.
-use Rattle.std.proofs.Common.{◌≡◌, ℕ, List, inl, inr, ◌==◌, ◌&&◌, filter, sym, subst}
+use Rattle.std.proofs.Common.{ℕ, List, inl, inr, ◌==◌, ◌&&◌, filter, sym, subst}
 use Rattle.event_calendar.specs.declared.class.Class.{Class}
 use Rattle.event_calendar.specs.declared.class.Class.TheVariants.{SendingEnd, Alarm as AlarmOf, SendingStart}
 use Rattle.scenario_text.specs.ScenarioParts.{ScenarioParts}
@@ -37,5 +37,10 @@ module _ (s : ScenarioParts) (v : ℕ) (clock : ℕ → ℕ) (hs : List Receptio
   pub moment_by : (m : Moment) (d : Device) → IsAt s clock hs v t m d → HasTunedBy t d
   moment_by Before d is = subst (HasTunedBy t) (sym is) (tick_by s v clock hs t)
   moment_by (InLines told) d is =
-      subst (HasTunedBy t) (sym is) (lines_as clock (setup_of s v) t first.made.tuned first.listening (before_tick s v clock hs t) (filter (λ l. (l.node == v) && (frame_start s l.frame == t)) told) at_first).by
-  moment_by (At class) d is = elim is [ inl here ↦ subst (HasTunedBy t) (sym here) (point_by class) | inr after ↦ subst (HasTunedBy t) (sym after) (after_point_by class) ]
+      subst (HasTunedBy t) (sym is)
+      (lines_as clock (setup_of s v) t first.made.tuned first.listening (before_tick s v clock hs t)
+      (filter (λ l. (l.node == v) && (frame_start s l.frame == t)) told) at_first).by
+  moment_by (At class) d is = elim is [
+    | inl here ↦ subst (HasTunedBy t) (sym here) (point_by class)
+    | inr after ↦ subst (HasTunedBy t) (sym after) (after_point_by class)
+  ]

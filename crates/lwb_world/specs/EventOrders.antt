@@ -2,7 +2,28 @@
 use Rattle.std.specs.Prelude.{◌≡◌, ℕ, List, [], ◌++◌, true, option_to_list, is_some, Some, None}
 use Rattle.std.specs.declared.option.Option.{Option}
 use Rattle.lwb_base.specs.declared.order.Order.{Order}
+use Rattle.lwb_base.specs.declared.order.Order.TheVariants.{Listen, Off, SendAt, Alarm}
 use Rattle.lwb_base.specs.Orders.{Told}
+use Rattle.lwb_world.specs.declared.event_radio.OrderRef.{OrderRef}
+use Rattle.lwb_world.specs.declared.event_radio.OrderRef.TheVariants.{Listen as ListenRef, Off as OffRef, SendAt as SendRef, Alarm as AlarmRef}
+use Rattle.lwb_world.specs.declared.event_radio.Kept.{Kept}
+use Rattle.lwb_world.specs.declared.event_radio.Kept.TheVariants.{Listen as KeptListen, Off as KeptOff, SendAt as KeptSend, Alarm as KeptAlarm}
+
+-- an order whose packet is behind a reference
+abbrev pub order_of : OrderRef → Order
+order_of (ListenRef rank) = Listen rank
+order_of OffRef = Off
+order_of (SendRef local packet) = SendAt local packet.now
+order_of (AlarmRef local) = Alarm local
+
+-- an order whose packet stands beside it
+abbrev pub order_with : Option Kept → Option (List ℕ) → Option Order
+order_with None packet = None
+order_with (Some (KeptListen rank)) packet = Some (Listen rank)
+order_with (Some KeptOff) packet = Some Off
+order_with (Some (KeptSend local)) None = None
+order_with (Some (KeptSend local)) (Some packet) = Some (SendAt local packet)
+order_with (Some (KeptAlarm local)) packet = Some (Alarm local)
 
 -- the orders in its places, one after another
 abbrev pub kept_in : Option Order → Option Order → Option Order → Option Order → List Order

@@ -14,8 +14,10 @@ pub record ArePlaces (ids nodes places : List ℕ) : Type 0 where
   pub stand : map (λ q. slice_index_or ids q 0) places ≡ nodes
 
 -- at tick t the devices at these places are told that they heard x, and nothing else happens
-pub record AllHear (clocks : ℕ → ℕ → ℕ) (t : ℕ) (x : Sending) (hearers : List ℕ) (old : FieldState) (old_due : List Due) (new : FieldState) (new_due : List Due) : Type 0 where
-  pub hearer : (q : ℕ) → Contains hearers q → (s : Setup) (d : Device) → Shows s t old old_due q d → Shows s t new new_due q (told_of_hearing (clocks q) t x s d)
+pub record AllHear (clocks : ℕ → ℕ → ℕ) (t : ℕ) (x : Sending) (hearers : List ℕ) (old : FieldState) (old_due : List Due) (new : FieldState)
+    (new_due : List Due) : Type 0 where
+  pub hearer : (q : ℕ) → Contains hearers q → (s : Setup) (d : Device) → Shows s t old old_due q d
+      → Shows s t new new_due q (told_of_hearing (clocks q) t x s d)
   pub others : (q : ℕ) → (Contains hearers q → ⊥) → (s : Setup) (d : Device) → Shows s t old old_due q d → Shows s t new new_due q d
   pub hearings : hearings_of new.air ≡ hearings_of old.air ++ map (hearing_at old x) hearers
   pub sendings : sendings_of new.air ≡ sendings_of old.air

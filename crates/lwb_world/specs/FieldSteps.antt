@@ -1,5 +1,6 @@
 -- What a step of a run does: at one device, on the air, and in the lists.
-use Rattle.std.specs.Prelude.{◌≡◌, ◌≢◌, ◌⊎◌, ◌↔◌, ℕ, ◌<◌, List, [], ◌∷◌, ◌++◌, map, length, replicate, slice_get, slice_set, slice_index_or, All, AllPairs, Contains, Some, None, option_to_list, false}
+use Rattle.std.specs.Prelude.{◌≡◌, ◌≢◌, ◌⊎◌, ◌↔◌, ℕ, ◌<◌, List, [], ◌++◌, map, length, replicate, slice_get, slice_set, slice_index_or, All, AllPairs, Contains}
+use Rattle.std.specs.Prelude.{Some, None, option_to_list, false}
 use Rattle.std.specs.declared.option.Option.{Option}
 use Rattle.std.specs.Option.{IfSome}
 use Rattle.lwb_base.specs.declared.event.Event.TheVariants.{Heard, Sent}
@@ -54,7 +55,8 @@ pub record AreSame (old : FieldState) (old_due : List Due) (new : FieldState) (n
 
 -- at tick t the device at place p goes through this change, and nothing else happens but that these sendings begin and
 -- these puts are lost
-pub record Acts (t p : ℕ) (change : Setup → Device → Device) (begun : List Sending) (lost : List DropLine) (old : FieldState) (old_due : List Due) (new : FieldState) (new_due : List Due) : Type 0 where
+pub record Acts (t p : ℕ) (change : Setup → Device → Device) (begun : List Sending) (lost : List DropLine) (old : FieldState) (old_due : List Due)
+    (new : FieldState) (new_due : List Due) : Type 0 where
   pub own : (s : Setup) (d : Device) → Shows s t old old_due p d → Shows s t new new_due p (change s d)
   pub others : (q : ℕ) → q ≢ p → (s : Setup) (d : Device) → Shows s t old old_due q d → Shows s t new new_due q d
   pub hearings : hearings_of new.air ≡ hearings_of old.air
@@ -91,13 +93,15 @@ told_of_hearing clock t x s d = event clock s t (Heard x.packet) None d
 
 -- at tick t the sending x of the device at place p ends: these devices, by ascending places, hear it by the rule of hearing,
 -- each is told of it, and then the sender of the end
-pub record EndsSending (lines : Lines) (clocks : ℕ → ℕ → ℕ) (t p : ℕ) (x : Sending) (hearers : List ℕ) (old : FieldState) (old_due : List Due) (new : FieldState) (new_due : List Due) : Type 0 where
+pub record EndsSending (lines : Lines) (clocks : ℕ → ℕ → ℕ) (t p : ℕ) (x : Sending) (hearers : List ℕ) (old : FieldState) (old_due : List Due)
+    (new : FieldState) (new_due : List Due) : Type 0 where
   pub ascending : AllPairs (λ a b. a < b) hearers
   pub heard : (a : Scene) → Holds old.medium a → a.lines ≡ lines → (q : ℕ) (s : Setup) (d : Device) → Shows s t old old_due q d
       → Contains hearers q ↔ Hears (as_it_stands old.medium t a) s.id x
   pub within : All (λ q. q < length old.devices) hearers
   pub sender : (Contains hearers p → ⊥) → (s : Setup) (d : Device) → Shows s t old old_due p d → Shows s t new new_due p (told_of_end (clocks p) t x s d)
-  pub hearer : (q : ℕ) → Contains hearers q → q ≢ p → (s : Setup) (d : Device) → Shows s t old old_due q d → Shows s t new new_due q (told_of_hearing (clocks q) t x s d)
+  pub hearer : (q : ℕ) → Contains hearers q → q ≢ p → (s : Setup) (d : Device) → Shows s t old old_due q d
+      → Shows s t new new_due q (told_of_hearing (clocks q) t x s d)
   pub others : (q : ℕ) → (Contains hearers q → ⊥) → q ≢ p → (s : Setup) (d : Device) → Shows s t old old_due q d → Shows s t new new_due q d
   pub hearings : hearings_of new.air ≡ hearings_of old.air ++ map (hearing_at old x) hearers
   pub sendings : sendings_of new.air ≡ sendings_of old.air

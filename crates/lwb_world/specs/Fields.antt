@@ -13,11 +13,12 @@ use Rattle.bus_rules.specs.Cores.{Setup}
 use Rattle.air_log.specs.declared.entry.Entry.{Entry}
 use Rattle.air_log.specs.declared.entry.Entry.TheVariants.{Tuned}
 use Rattle.air_log.specs.declared.entry.TunedEntry.{TunedEntry}
-use Rattle.air_log.specs.Devices.{Device, Power, Made, Listening, Ordered}
+use Rattle.air_log.specs.Devices.{Device, Power, Made, Listening}
 use Rattle.air_log.specs.Lawful.{sent_by, tuned_by}
 use Rattle.air_log.specs.DeviceStates.{DeviceState, whole, EndedBefore, HappenedBy}
 use Rattle.air_log.specs.WindowLogs.{WindowLog}
 use Rattle.air_log.specs.WindowSums.{WindowSum, IsCounted}
+use Rattle.air_log.specs.Courses.{tick_of}
 
 -- deliveries and drops stand in the order in which they were made; sums: what the windows of each device count so far
 pub record FieldState : Type 0 where
@@ -57,9 +58,6 @@ entries_of (Some e) = Tuned e ∷ []
 -- what stands in the queue for a device
 abbrev pub end_of : Sending → ℕ
 end_of x = x.end
-
-abbrev pub tick_of : Ordered → ℕ
-tick_of o = o.tick
 
 abbrev pub due_of : DeviceState → Due
 due_of d = record { sending_end = option_map end_of d.sending; alarm = d.alarm; sending_start = option_map tick_of d.ordered }

@@ -1,8 +1,6 @@
 -- How far a run has come in its script and in its queue.
-use Rattle.std.specs.Prelude.{◌≡◌, ℕ, ◌+◌, ◌*◌, ◌<◌, ◌≤◌, min, List, [], ◌∷◌, ◌++◌, filter, length, slice_get, nat_lt, Some, None}
-use Rattle.std.specs.declared.option.Option.{Option}
+use Rattle.std.specs.Prelude.{◌≡◌, ℕ, ◌+◌, ◌*◌, ◌<◌, ◌≤◌, List, ◌∷◌, ◌++◌, filter, length, slice_get, nat_lt, Some}
 use Rattle.event_calendar.specs.declared.class.Class.{Class}
-use Rattle.event_calendar.specs.declared.class.Class.TheVariants.{SendingEnd, Alarm, SendingStart}
 use Rattle.event_calendar.specs.Orders.{Due, Order, Stands, rank}
 use Rattle.scenario_text.specs.ScenarioParts.{ScenarioParts}
 use Rattle.scenario_text.specs.declared.script.ScriptLine.{ScriptLine}
@@ -25,21 +23,9 @@ pub record IsNextLine (s : ScenarioParts) (t : ℕ) (told : List ScriptLine) (l 
   pub now : frame_start s l.frame ≡ t
 
 -- orders by one number: by tick, then class, then place
-abbrev pub key : ℕ → Class → ℕ → ℕ
-key t c p = (t * 3 + rank c) * 64 + p
+abbrev pub order_key : ℕ → Class → ℕ → ℕ
+order_key t c p = (t * 3 + rank c) * 64 + p
 
 -- all that stands comes later than what stood at tick t, of this class, at this place
 abbrev pub IsPast : ℕ → Class → ℕ → List Due → Type 0
-IsPast t c p due = (y : Order) → Stands due y → key t c p < key y.0 y.1 y.2
-
--- the least key of what stands, or this bound
-abbrev pub key_or : ℕ → Option ℕ → Class → ℕ → ℕ
-key_or bound None c p = bound
-key_or bound (Some t) c p = key t c p
-
-abbrev pub least_at : ℕ → ℕ → Due → ℕ
-least_at bound p d = min (key_or bound d.sending_end SendingEnd p) (min (key_or bound d.alarm Alarm p) (key_or bound d.sending_start SendingStart p))
-
-abbrev pub least_from : ℕ → ℕ → List Due → ℕ
-least_from bound p [] = bound
-least_from bound p (d ∷ due) = min (least_at bound p d) (least_from bound (p + 1) due)
+IsPast t c p due = (y : Order) → Stands due y → order_key t c p < order_key y.0 y.1 y.2

@@ -1,6 +1,5 @@
 -- What holds of a run at each moment.
-use Rattle.std.specs.Prelude.{◌≡◌, ◌≢◌, ◌⊎◌, ◌↔◌, ℕ, ◌<◌, ◌≤◌, List, [], Bool, true, false, map, length, slice_get, AllPairs, Contains, Some, None}
-use Rattle.std.specs.declared.option.Option.{Option}
+use Rattle.std.specs.Prelude.{◌≡◌, ◌≢◌, ◌↔◌, ℕ, ◌<◌, ◌≤◌, List, [], true, false, map, length, slice_get, AllPairs, Contains, Some}
 use Rattle.scenario_text.specs.ScenarioParts.{ScenarioParts}
 use Rattle.scenario_text.specs.ScenarioFacts.{turned}
 use Rattle.scenario_text.specs.declared.lines.NodeLine.{NodeLine}

@@ -5,18 +5,19 @@ use Rattle.std.specs.Option.{option_map}
 use Rattle.scenario_text.specs.ScenarioParts.{ScenarioParts}
 use Rattle.scenario_text.specs.FloodParts.{knows}
 use Rattle.scenario_text.specs.declared.lines.NodeLine.{NodeLine}
-use Rattle.radio_model.specs.declared.sending.Sending.{Sending}
 use Rattle.event_calendar.specs.Orders.{Due}
 use Rattle.bus_rules.specs.declared.delivery.Delivery.{Delivery}
 use Rattle.bus_rules.specs.declared.delivery.DropLine.{DropLine}
 use Rattle.bus_model.specs.Bus.{bus_drops}
 use Rattle.node_core.specs.Nodes.{NodeState}
 use Rattle.air_log.specs.declared.entry.Entry.{Entry}
-use Rattle.air_log.specs.Devices.{Device, Power, PowerOff, PowerOn, Ordered}
+use Rattle.air_log.specs.Devices.{Device, Power, PowerOff, PowerOn}
 use Rattle.air_log.specs.Lawful.{Lawful, trail_in}
 use Rattle.air_log.specs.Safe.{Safe}
 use Rattle.air_log.specs.Deliveries.{deliveries_of}
 use Rattle.lawful_bus.specs.BusRuns.{IsBusRun}
+use Rattle.air_log.specs.Courses.{tick_of}
+use Rattle.lwb_world.specs.Fields.{end_of}
 
 -- the core of each node of the scenario that is on at the end is in the state in which its trail leaves it
 abbrev pub IsCoreOf : Option NodeState → Power → Type 0
@@ -25,12 +26,6 @@ IsCoreOf None (PowerOn n) = ⊥
 IsCoreOf (Some core) (PowerOn n) = core.node ≡ n
 
 -- what stands at a node at the end: the end of its sending that runs, its alarm, and its ordered sending that has not begun
-abbrev pub end_of : Sending → ℕ
-end_of x = x.end
-
-abbrev pub tick_of : Ordered → ℕ
-tick_of o = o.tick
-
 abbrev pub standing : Device → Due
 standing d = record { sending_end = option_map end_of d.sending; alarm = d.alarm; sending_start = option_map tick_of d.ordered }
 
@@ -43,7 +38,8 @@ orders_left s clocks air = map (standing_at s clocks air) s.nodes
 
 -- a log that is lawful and safe, the deliveries of its trails and the drops of the bus, and the cores where the trails leave
 -- them. The run is the single-hop bus's: its trails deliver what that does, in order, and received by relay paths
-pub record IsRun (s : ScenarioParts) (clocks : ℕ → ℕ → ℕ) (air : List Entry) (made : List Delivery) (lost : List DropLine) (core : ℕ → Option NodeState) : Type 0 where
+pub record IsRun (s : ScenarioParts) (clocks : ℕ → ℕ → ℕ) (air : List Entry) (made : List Delivery) (lost : List DropLine)
+    (core : ℕ → Option NodeState) : Type 0 where
   pub lawful : Lawful s clocks air
   pub safe : Safe s clocks air
   pub deliveries : made ≡ deliveries_of s clocks air

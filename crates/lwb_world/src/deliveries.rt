@@ -7,12 +7,11 @@ ghost use Rattle.air_log.specs.Deliveries.{comes_before};
 use bus_rules::Delivery;
 use lwb_base::Memory;
 
-// By frame, rank, slot and node. Deliveries that this order leaves equal stay in theirs. Only their places are sorted, since a
-// delivery is long, and each of them is moved once after that.
+// By frame, rank, slot and node. Deliveries that this order leaves equal stay in theirs.
 pub(crate) fn sort_deliveries(deliveries: &mut Vec<Delivery>) -> Result<(), Memory>
     ensures { OnOk result (deliveries.new.items ≡ in_order comes_before deliveries.old.items) }
 {
-    deliveries.sort_by_cached_key(|delivery| place(delivery))?;
+    deliveries.sort_by_key(|delivery| place(delivery))?;
     Ok(())
 }
 

@@ -1,20 +1,100 @@
 //! What a device orders of its radio in one event.
 
-ghost use Rattle.std.specs.Prelude.{◌≡◌, ◌≤◌, ◌∷◌, [], length, slice_get, option_copied};
+ghost use Rattle.std.specs.Prelude.{◌≡◌, ◌≤◌, ◌∷◌, [], length, slice_get, option_map, option_copied, is_some, Some, None};
 ghost use Rattle.lwb_base.specs.Orders.{Gives};
-ghost use Rattle.lwb_world.specs.EventOrders.{no_orders};
+ghost use Rattle.lwb_base.specs.declared.order.Order.{Order as OrderOf};
+ghost use Rattle.lwb_world.specs.EventOrders.{no_orders, order_of, order_with};
 
-use lwb_base::{Order, Packet, Radio, Rank};
+use lwb_base::{Packet, Radio, Rank};
 use std::marker::Model;
 
+// An order whose packet stands elsewhere.
+#[derive(Clone, Copy)]
+pub(crate) enum OrderRef<'a> {
+    Listen(Rank),
+    Off,
+    SendAt(u64, &'a Packet),
+    Alarm(u64),
+}
+
+// An order but for its packet.
+#[derive(Clone, Copy)]
+enum Kept {
+    Listen(Rank),
+    Off,
+    SendAt(u64),
+    Alarm(u64),
+}
+
+// A place for an order. A packet is long, so that of a SendAt stands by itself, and the other orders leave it alone.
+// Contracts see the order that is kept there, if one is.
+#[derive(Drop)]
+struct Place {
+    kept: Option<Kept>,
+    packet: Option<Packet>,
+}
+
+impl Model for Place {
+    ghost use Rattle.std.specs.declared.option.Option.{Option};
+    ghost use Rattle.lwb_base.specs.declared.order.Order.{Order};
+    ghost use Rattle.lwb_world.specs.EventOrders.{order_with};
+
+    ghost Value = { Option Order };
+
+    ghost view = { λ p. order_with p.kept p.packet };
+}
+
+impl Place {
+    fn empty() -> Place
+        ensures { result ≡ None }
+    {
+        Place {
+            kept: None,
+            packet: None,
+        }
+    }
+
+    fn is_filled(&self) -> bool
+        ensures { result ≡ is_some self.now }
+    {
+        self.order().is_some()
+    }
+
+    #[inline]
+    fn order(&self) -> Option<OrderRef<'_>>
+        ensures { option_map order_of result ≡ self.now }
+    {
+        match self.kept? {
+            Kept::Listen(rank) => Some(OrderRef::Listen(rank)),
+            Kept::Off => Some(OrderRef::Off),
+            Kept::SendAt(local) => {
+                let packet = self.packet.as_ref()?;
+                Some(OrderRef::SendAt(local, packet))
+            }
+            Kept::Alarm(local) => Some(OrderRef::Alarm(local)),
+        }
+    }
+
+    // With the packet of a SendAt. What stood here goes.
+    #[inline]
+    fn fill(&mut self, kept: Kept, packet: Option<&Packet>)
+        ensures { (order : OrderOf) → order_with (Some kept) (option_copied packet.entry) ≡ Some order → self.new ≡ Some order }
+    {
+        self.kept = Some(kept);
+        if let Some(packet) = packet {
+            self.packet = Some(packet.copy());
+        }
+    }
+}
+
 // A radio that keeps the orders of one event, at most 4. Contracts see the list of those it keeps, and how many more it
-// takes. An order is as long as its packet, so each is written once, and read where it stands.
+// takes.
 #[derive(Drop)]
 pub(crate) struct EventRadio {
-    first: Option<Order>,
-    second: Option<Order>,
-    third: Option<Order>,
-    fourth: Option<Order>,
+    first: Place,
+    second: Place,
+    third: Place,
+    fourth: Place,
 }
 
 impl Model for EventRadio {
@@ -34,41 +114,41 @@ impl EventRadio {
         ensures { result ≡ no_orders }
     {
         EventRadio {
-            first: None,
-            second: None,
-            third: None,
-            fourth: None,
+            first: Place::empty(),
+            second: Place::empty(),
+            third: Place::empty(),
+            fourth: Place::empty(),
         }
     }
 
     // The order at that place, counted from 0. None comes exactly where it keeps no more than so many.
-    pub(crate) fn at(&self, place: usize) -> Option<&Order>
-        ensures order { option_copied result ≡ slice_get self.now.given place }
+    pub(crate) fn at(&self, place: usize) -> Option<OrderRef<'_>>
+        ensures order { option_map order_of result ≡ slice_get self.now.given place }
         ensures few { length self.now.given ≤ 4 }
     {
         match place {
-            0 => self.first.as_ref(),
-            1 => self.second.as_ref(),
-            2 => self.third.as_ref(),
-            3 => self.fourth.as_ref(),
+            0 => self.first.order(),
+            1 => self.second.order(),
+            2 => self.third.order(),
+            3 => self.fourth.order(),
             _ => None,
         }
     }
 
-    // One more order, behind all others.
+    // One more order, behind all others, with the packet of a SendAt.
     #[inline]
-    fn keep(&mut self, order: Order)
+    fn keep(&mut self, kept: Kept, packet: Option<&Packet>)
         requires { 1 ≤ self.old.room }
-        ensures { Gives self.old self.new (order ∷ []) }
+        ensures { (order : OrderOf) → order_with (Some kept) (option_copied packet.entry) ≡ Some order → Gives self.old self.new (order ∷ []) }
     {
-        if self.third.is_some() {
-            self.fourth = Some(order);
-        } else if self.second.is_some() {
-            self.third = Some(order);
-        } else if self.first.is_some() {
-            self.second = Some(order);
+        if self.third.is_filled() {
+            self.fourth.fill(kept, packet);
+        } else if self.second.is_filled() {
+            self.third.fill(kept, packet);
+        } else if self.first.is_filled() {
+            self.second.fill(kept, packet);
         } else {
-            self.first = Some(order);
+            self.first.fill(kept, packet);
         }
     }
 }
@@ -77,18 +157,18 @@ impl Radio for EventRadio {
     ghost told = { λ r. r };
 
     fn listen(&mut self, rank: Rank) {
-        self.keep(Order::Listen(rank));
+        self.keep(Kept::Listen(rank), None);
     }
 
     fn off(&mut self) {
-        self.keep(Order::Off);
+        self.keep(Kept::Off, None);
     }
 
     fn send_at(&mut self, local: u64, packet: &Packet) {
-        self.keep(Order::SendAt(local, packet.copy()));
+        self.keep(Kept::SendAt(local), Some(packet));
     }
 
     fn alarm(&mut self, local: u64) {
-        self.keep(Order::Alarm(local));
+        self.keep(Kept::Alarm(local), None);
     }
 }

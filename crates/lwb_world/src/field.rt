@@ -1,6 +1,6 @@
 //! The devices of a run on the air that they share: what is told to one of them, and what it orders.
 
-ghost use Rattle.std.specs.Prelude.{◌≡◌, ◌≤◌, ◌<◌, ◌^◌, ℕ, List, [], ◌++◌, true, false, Option, Some, None, OnOk, IfOk, length, option_to_list, All, fold};
+ghost use Rattle.std.specs.Prelude.{◌≡◌, ◌≤◌, ◌<◌, ◌^◌, ℕ, List, [], ◌++◌, true, false, Option, Some, None, OnOk, IfOk, length, option_to_list, All, fold, option_copied};
 ghost use Rattle.event_calendar.specs.Orders.{at};
 ghost use Rattle.event_calendar.specs.declared.class.Class.TheVariants.{SendingEnd as EndOf, Alarm as AlarmOf, SendingStart as StartOf};
 ghost use Rattle.bus_rules.specs.Cores.{Setup};
@@ -12,14 +12,15 @@ ghost use Rattle.air_log.specs.Trails.{is_due, alarmed, begun as begun_at, start
 ghost use Rattle.air_log.specs.DeviceStates.{IsTimely};
 ghost use Rattle.air_log.specs.WindowLogs.{is_alarm};
 ghost use Rattle.air_log.specs.WindowSums.{sent_with};
+ghost use Rattle.lwb_world.specs.EventOrders.{order_of};
 ghost use Rattle.lwb_world.specs.Fields.{Shows, IsShown, entries_of};
 ghost use Rattle.lwb_world.specs.FieldSteps.{Acts, IsFirst, IsClosed};
 
-use crate::event_radio::EventRadio;
+use crate::event_radio::{EventRadio, OrderRef};
 use air_log::{Air, Device, Entry, SentEntry, TunedEntry, WindowSum};
 use bus_rules::{Delivery, DropLine};
 use event_calendar::{Class, Orders};
-use lwb_base::{Event, Memory, NodeId, Order, Packet};
+use lwb_base::{Event, Memory, NodeId, Packet};
 use radio_model::Medium;
 use scenario_text::Scenario;
 use std::alloc::Global;
@@ -57,16 +58,16 @@ impl Field {
         clock: &C,
         place: u8,
         t: u64,
-        event: Event,
-        sent: Option<Packet>,
+        event: &Event,
+        sent: Option<&Packet>,
     ) -> Result<(), Memory>
-        requires sent { (ended : Option SendingOf) × (sent ≡ sent_with event ended) }
+        requires sent { (ended : Option SendingOf) × (option_copied sent ≡ sent_with event.now ended) }
         requires shown { IsShown t self.old (Q.map orders.old) place }
         requires time { IsTime self.old.medium t }
         requires early { t ≤ 2 ^ 45 }
-        ensures { (ended : Option SendingOf) → sent ≡ sent_with event ended → OnOk result (Acts t place (λ s d. event_at (C.readings clock.now) s t event ended d) [] [] self.old (Q.map orders.old) self.new (Q.map orders.new)) }
+        ensures { (ended : Option SendingOf) → option_copied sent.entry ≡ sent_with event.now ended → OnOk result (Acts t place (λ s d. event_at (C.readings clock.now) s t event.now ended d) [] [] self.old (Q.map orders.old) self.new (Q.map orders.new)) }
     {
-        let by_alarm = is_alarm(&event);
+        let by_alarm = is_alarm(event);
         let mut radio = EventRadio::new();
         let device = &mut self.devices[usize::from(place)];
         let before = device.is_in_window();
@@ -108,33 +109,33 @@ impl Field {
         clock: &C,
         place: u8,
         t: u64,
-        order: &Order,
+        order: OrderRef<'_>,
     ) -> Result<(), Memory>
         requires shown { IsShown t self.old (Q.map orders.old) place }
         requires time { IsTime self.old.medium t }
-        requires timely { IsTimely order.now }
-        ensures { OnOk result (Acts t place (λ s d. obeyed (C.readings clock.now) s.id t d order.now) [] [] self.old (Q.map orders.old) self.new (Q.map orders.new)) }
+        requires timely { IsTimely (order_of order) }
+        ensures { OnOk result (Acts t place (λ s d. obeyed (C.readings clock.now) s.id t d (order_of order.entry)) [] [] self.old (Q.map orders.old) self.new (Q.map orders.new)) }
     {
         let device = &mut self.devices[usize::from(place)];
         let node = device.node();
         match order {
-            Order::Listen(rank) => {
-                let closed = device.listen(*rank, t);
-                self.medium.tune(node, Some(*rank), t);
+            OrderRef::Listen(rank) => {
+                let closed = device.listen(rank, t);
+                self.medium.tune(node, Some(rank), t);
                 self.log_tuning(closed)
             }
-            Order::Off => {
+            OrderRef::Off => {
                 let closed = device.silence(t);
                 self.medium.tune(node, None, t);
                 self.log_tuning(closed)
             }
-            Order::SendAt(local, packet) => {
-                let tick = device.order_sending(clock, t, *local, packet.copy());
+            OrderRef::SendAt(local, packet) => {
+                let tick = device.order_sending(clock, t, local, packet);
                 orders.set(place, Class::SendingStart, tick);
                 Ok(())
             }
-            Order::Alarm(local) => {
-                let tick = device.set_alarm(clock, t, *local);
+            OrderRef::Alarm(local) => {
+                let tick = device.set_alarm(clock, t, local);
                 orders.set(place, Class::Alarm, tick);
                 Ok(())
             }
@@ -160,7 +161,7 @@ impl Field {
             if !self.take_alarm(orders, place, t) {
                 return Ok(());
             }
-            self.tell(orders, clock, place, t, Event::Alarm, None)?;
+            self.tell(orders, clock, place, t, &Event::Alarm, None)?;
         }
         unreachable!()
     }
@@ -185,14 +186,13 @@ impl Field {
         };
         orders.set(place, Class::SendingEnd, x.end);
         self.medium.start(x.node, t, &x.packet);
-        let entry = SentEntry {
+        self.air.push(Entry::Sent(SentEntry {
             rank: x.rank,
             node: x.node,
             start: x.start,
             end: x.end,
             packet: x.packet,
-        };
-        self.air.push(Entry::Sent(entry))
+        }))
     }
 
     // Whether the alarm of the device at the place is due at tick t; it is not set any more then.

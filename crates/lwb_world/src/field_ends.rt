@@ -1,6 +1,7 @@
 //! The ends of sendings in a run, with those who hear them.
 
 ghost use Rattle.std.specs.Prelude.{◌≡◌, ◌≤◌, ◌<◌, ◌^◌, ℕ, List, [], ◌∷◌, OnOk, length, map, All, AllPairs, Contains};
+ghost use Rattle.lwb_base.specs.declared.event.Event.TheVariants.{Heard as HeardOf};
 ghost use Rattle.bus_rules.specs.Cores.{Setup};
 ghost use Rattle.radio_model.specs.Hearing.{Scene};
 ghost use Rattle.radio_model.specs.Holding.{Holds};
@@ -52,8 +53,8 @@ impl Field {
             &clocks[usize::from(place)],
             place,
             t,
-            Event::Sent,
-            Some(x.packet),
+            &Event::Sent,
+            Some(&x.packet),
         )
     }
 
@@ -73,10 +74,11 @@ impl Field {
         requires clocks { length clocks.now ≡ length self.old.devices }
         ensures { OnOk result ((places : List ℕ) × ArePlaces (ids_of self.old) (map (λ p. p.0) hearers.now) places × AllHear (readings_at C.readings clocks.now) x.now.end x.now places self.old (Q.map orders.old) self.new (Q.map orders.new)) }
     {
+        let heard = Event::Heard(x.packet.copy());
         for i in 0..usize::from(hearers.count()) {
             let (node, _) = hearers.at(i).unwrap();
             let place = self.place_of(node);
-            self.hear(orders, &clocks[usize::from(place)], place, x)?;
+            self.hear(orders, &clocks[usize::from(place)], place, x, &heard)?;
         }
         Ok(())
     }
@@ -88,22 +90,23 @@ impl Field {
         clock: &C,
         place: u8,
         x: &Sending,
+        heard: &Event,
     ) -> Result<(), Memory>
         requires shown { IsShown x.now.end self.old (Q.map orders.old) place }
         requires time { IsTime self.old.medium x.now.end }
         requires early { x.now.end ≤ 2 ^ 45 }
+        requires heard { heard.now ≡ HeardOf x.now.packet }
         ensures { OnOk result (AllHear (λ q. C.readings clock.now) x.now.end x.now (place ∷ []) self.old (Q.map orders.old) self.new (Q.map orders.new)) }
     {
-        let entry = HeardEntry {
+        let node = self.devices[usize::from(place)].node();
+        self.air.push(Entry::Heard(HeardEntry {
             rank: x.rank,
-            node: self.devices[usize::from(place)].node(),
+            node,
             from: x.node,
             start: x.start,
             end: x.end,
             packet: x.packet.copy(),
-        };
-        self.air.push(Entry::Heard(entry))?;
-        let heard = Event::Heard(x.packet.copy());
+        }))?;
         self.tell(orders, clock, place, x.end, heard, None)
     }
 }

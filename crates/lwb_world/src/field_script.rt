@@ -67,7 +67,7 @@ impl Field {
         ensures { (frame : ℕ) → OnOk result (Acts t place (λ s d. after_act (C.readings clock.now) s t frame d OnOf d.power) [] [] self.old (Q.map orders.old) self.new (Q.map orders.new)) }
     {
         if self.devices[usize::from(place)].switch_on() {
-            self.tell(orders, clock, place, t, Event::Boot, None)?;
+            self.tell(orders, clock, place, t, &Event::Boot, None)?;
         }
         Ok(())
     }

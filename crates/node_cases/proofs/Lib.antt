@@ -1,1 +1,4 @@
 pub mod Accepting
+pub mod FewOrders
+pub mod LeftDeliveries
+mod WorkedOrders

@@ -1,5 +1,12 @@
-//! Tests of nodes and of their parts. They stand above what they test, so that each of those crates is proved once, and without them.
+//! Tests of nodes and of their parts, and whole runs of a node. They stand above what they test, so that each of those
+//! crates is proved once, and without them.
 #![tactic(auto)]
+
+mod call;
+mod whole_runs;
+
+pub use call::Call;
+pub use whole_runs::follow;
 
 #[cfg(test)]
 mod failover_tests;

@@ -1,9 +1,10 @@
 ghost use Rattle.std.specs.Prelude.{◌≡◌, IfOk};
 ghost use Rattle.lwb_base.specs.Profile.{one};
 
+use crate::{Call, follow};
 use bus_rules::Tune;
 use lwb_base::{Event, LocalClock, NodeId, Order, Packet, Payload, Profile, Rank, RecordingRadio};
-use node_core::{Call, Node, Place};
+use node_core::{Node, Place};
 use std::alloc::Global;
 use std::test::Fail;
 use stream_source::Put;
@@ -142,7 +143,8 @@ fn calls_are_followed(rt: HostRuntime) -> Result<(), Fail> {
     let alloc = rt.alloc();
     let mut one = node(alloc, 1)?;
     let mut radio = RecordingRadio::new();
-    one.follow(
+    follow(
+        &mut one,
         &[Call::Step(0, Event::Boot), Call::Step(1, Event::Sent)],
         &mut radio,
     );

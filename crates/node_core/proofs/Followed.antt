@@ -1,15 +1,10 @@
--- What is fixed for a node stays in each step, and what becomes of a delivery.
+-- What is fixed for a node stays in each step.
 use Rattle.std.proofs.Common.{◌≡◌, Option, Some, None, ap}
 use Rattle.lwb_base.specs.Orders.{Told}
 use Rattle.node_core.specs.Nodes.{NodeState}
 use Rattle.node_core.specs.Rows.{Stepped}
-use Rattle.node_core.specs.Runs.{delivery_by}
 use Rattle.node_core.specs.Standing.{Follows}
 
 pub setup_stays : (old new : NodeState) (before after : Told) (row : Option Stepped) → Follows old new before after row → new.setup ≡ old.setup
 setup_stays old new before after None is = ap (λ (s : NodeState). s.setup) is.0
 setup_stays old new before after (Some r) is = ap (λ (s : NodeState). s.setup) is.0
-
-pub delivery_follows : (old new : NodeState) (before after : Told) (row : Option Stepped) → Follows old new before after row → new.delivery ≡ delivery_by old.delivery row
-delivery_follows old new before after None is = ap (λ (s : NodeState). s.delivery) is.0
-delivery_follows old new before after (Some r) is = ap (λ (s : NodeState). s.delivery) is.0

@@ -2,11 +2,10 @@
 pub mod KeptBoots
 pub mod NamedDeliveries
 -- for this crate alone
-mod WorkedOrders
 pub mod KeptWindows
 pub mod Timed
 pub mod OffNodes
-pub mod Opened
+pub mod OpenedWindows
 pub mod Followed
 pub mod JoinedWindows
-pub mod FewOrders
+mod NamedHosts

@@ -1,7 +1,6 @@
 pub mod Windows
 pub mod Nodes
 pub mod Rows
-pub mod Runs
 pub mod Standing
-pub mod Openings
-pub mod Closings
+pub mod WindowOpening
+pub mod WindowClosing

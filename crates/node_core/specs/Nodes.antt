@@ -2,9 +2,10 @@
 use Rattle.std.specs.Prelude.{ℕ, ◌+◌, ◌-◌, ◌*◌, min, List, length}
 use Rattle.std.specs.declared.option.Option.{Option}
 use Rattle.lwb_base.specs.Profile.{Numbers, airtime}
-use Rattle.time_reference.specs.Reference.{stopped, heard_zero}
+use Rattle.time_reference.specs.Reference.{stopped, heard_zero, host_zero, slot_time, times_of}
 use Rattle.glossy_relay.specs.Relaying.{slot_of, counter_of}
 use Rattle.bus_rules.specs.declared.delivery.Delivery.{Delivery}
+use Rattle.bus_rules.specs.Streams.{Streams}
 use Rattle.bus_rules.specs.Cores.{Core, Setup, booted}
 use Rattle.node_core.specs.declared.stage.Stage.{Stage}
 use Rattle.node_core.specs.declared.stage.Stage.TheVariants.{Idle}
@@ -26,6 +27,10 @@ pub record NodeState : Type 0 where
 abbrev pub rebooted : ℕ → Node
 rebooted boot = record { core = booted boot; frame = 0; zero = 0; stage = Idle }
 
+-- a node whose streams are these
+abbrev pub with_streams : Node → Streams → Node
+with_streams n streams = record n { core = record (n.core) { streams = streams } }
+
 -- frame numbers stop here
 abbrev pub stopped_frame : ℕ → ℕ
 stopped_frame f = min f 16777215
@@ -36,11 +41,12 @@ frame_alarm p f = stopped (f * p.frame + p.end)
 
 -- a host's zero for its round in frame f
 abbrev pub zero_of_host : Numbers → ℕ → ℕ
-zero_of_host p f = stopped (f * p.frame + p.lead)
+zero_of_host p f = stopped (host_zero p f)
 
--- when the window of slot j opens, its initiator starts, and it closes
+-- when the window of slot j opens, its initiator starts, and it closes. The node table says it by the zero alone; that the
+-- code's windows are these (`round_runner`) is proved
 abbrev pub opens_at : Numbers → ℕ → ℕ → ℕ
-opens_at p z j = stopped (z + j * p.slot)
+opens_at p z j = slot_time (times_of p z) j
 
 abbrev pub starts_at : Numbers → ℕ → ℕ → ℕ
 starts_at p z j = stopped (z + j * p.slot + p.listen)

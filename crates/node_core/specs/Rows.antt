@@ -234,3 +234,12 @@ row s n now Boot = Some (boots s n now)
 row s n now Alarm = at_alarm s n n.stage
 row s n now (Heard p) = at_heard s n now p n.stage
 row s n now Sent = at_sent n n.stage
+
+-- the node after the row that fits, if one does
+abbrev pub node_after : Node → Option Stepped → Node
+node_after n None = n
+node_after n (Some r) = r.node
+
+abbrev pub orders_by : Option Stepped → List Order
+orders_by None = []
+orders_by (Some r) = r.orders

@@ -1,17 +1,15 @@
 //! The core of a node: what it does and orders at each event, over any clock and any radio.
 #![tactic(auto)]
 
-mod call;
-mod closes;
-mod follow;
-mod hearing;
+mod frame_rows;
 mod node;
-mod opens;
-mod rows;
+mod packet_hearing;
+mod sending;
 mod stage;
 mod step;
 mod times;
 mod window;
+mod window_closing;
+mod window_opening;
 
-pub use call::Call;
 pub use node::{Node, Place};

@@ -5,8 +5,7 @@ ghost use Rattle.bus_rules.specs.Streams as rule;
 ghost use Rattle.stream_source.specs.declared.stream.Put.TheVariants.{Queued, Dropped};
 ghost use Rattle.lwb_member.specs.Members.{IsBoot};
 ghost use Rattle.node_core.specs.declared.node.Place.TheVariants.{Off};
-ghost use Rattle.node_core.specs.Nodes.{rebooted};
-ghost use Rattle.node_core.specs.Runs.{with_streams};
+ghost use Rattle.node_core.specs.Nodes.{rebooted, with_streams};
 ghost use Rattle.node_core.specs.Standing.{place_of};
 
 use crate::stage::Stage;

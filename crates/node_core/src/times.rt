@@ -3,6 +3,7 @@ ghost use Rattle.time_reference.specs.Reference.{times_of};
 ghost use Rattle.node_core.specs.Nodes.{frame_alarm as alarm_of_frame, zero_from, closes_at as closing_of_slot, stopped_frame};
 
 use lwb_base::{Packet, Profile};
+use round_runner::Window;
 use time_reference::{Reference, stopped};
 
 // Frame numbers stop here.
@@ -30,7 +31,7 @@ pub(crate) fn closes_at(profile: &Profile, reference: &Reference, slot: u8) -> u
     requires { reference.now ≡ times_of profile.now reference.now.zero }
     ensures { result ≡ closing_of_slot profile.now reference.now.zero slot }
 {
-    stopped(reference.slot_start(slot) + profile.close())
+    Window::of_slot(reference, slot, profile.listen(), profile.close()).until
 }
 
 // The frame at this reading: one that begins within a lead counts.

@@ -1,8 +1,7 @@
-ghost use Rattle.std.specs.Prelude.{◌≡◌, ◌≤◌, ◌<◌, ◌^◌, true, Some, None, IfSome, if◌then◌else◌, not};
+ghost use Rattle.std.specs.Prelude.{◌≡◌, ◌≤◌, ◌<◌, ◌^◌, true, false, Some, None, IfSome, if◌then◌else◌, not};
 ghost use Rattle.lwb_packets.specs.declared.kind.Kind as Kind;
 ghost use Rattle.glossy_relay.specs.FloodState.{listening};
 ghost use Rattle.glossy_relay.specs.Relaying.{after_sent, after_ending};
-ghost use Rattle.bus_rules.specs.Slots.{is_schedule_part};
 ghost use Rattle.lwb_member.specs.Said.{meaning, message_of};
 ghost use Rattle.node_core.specs.Rows.{is_foreign as foreign, hearing, reply_by};
 
@@ -11,6 +10,7 @@ use bus_rules::Part;
 use glossy_relay::{After, Flood, Reply};
 use lwb_base::{Packet, Profile, Rank};
 use lwb_member::{Heard, message_in};
+use schedule_codec::named_host;
 use std::marker::Model;
 
 // The window of a slot, while it is open.
@@ -42,7 +42,9 @@ impl Window {
         if is_foreign(rank, p) {
             return Reply::Ignore;
         }
-        let first = is_end(self.part) && !self.flood.initiated() && self.flood.accepted().is_none();
+        let first = self.part.is_for_schedule()
+            && !self.flood.initiated()
+            && !self.flood.has_accepted();
         let reply = self.flood.heard(p);
         if first && !matches!(reply, Reply::Ignore) {
             self.reference = Some(heard_reference(profile, now, p).zero());
@@ -60,8 +62,24 @@ impl Window {
     }
 }
 
-// A schedule of another rank.
+// A schedule of another rank. Most packets name no other host, and are not read.
 fn is_foreign(rank: Rank, p: &Packet) -> bool
+    ensures { result ≡ foreign rank (message_of p.now) }
+{
+    is_another(rank, named_host(p)) && is_schedule_of_another(rank, p)
+}
+
+// Whether a host is named that is not of this rank.
+fn is_another(rank: Rank, named: Option<u8>) -> bool
+    ensures { result ≡ false → IfSome named (λ host. host ≡ rank) }
+{
+    match named {
+        Some(host) => host != rank.number(),
+        None => false,
+    }
+}
+
+fn is_schedule_of_another(rank: Rank, p: &Packet) -> bool
     ensures { result ≡ foreign rank (message_of p.now) }
 {
     match message_in(p) {
@@ -76,15 +94,5 @@ fn is_of_another(rank: Rank, message: &Heard) -> bool
     match message {
         Heard::Schedule(schedule) => schedule.host != rank,
         Heard::Data(_) | Heard::Request(_) => false,
-    }
-}
-
-// An opening or a closing slot.
-fn is_end(part: Part) -> bool
-    ensures { result ≡ is_schedule_part part }
-{
-    match part {
-        Part::Opening | Part::Closing => true,
-        Part::Data(_) | Part::Contention(_) => false,
     }
 }

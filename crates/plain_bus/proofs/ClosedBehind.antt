@@ -1,7 +1,7 @@
 -- A node more where a slot closes.
-use Rattle.std.proofs.Common.{◌≡◌, ◌<◌, ◌+◌, ◌++◌, ◌∷◌, [], ℕ, List, true, Option, Some, length, map, take, get_or, set, filter_map, option_to_list, refl, sym}
-use Rattle.std.proofs.Common.{◌∙◌, ap, subst, arith, append_assoc}
-use Rattle.std.proofs.lemmas.List.{get_or-map, length-map, get_or_default, take_more_set}
+use Rattle.std.proofs.Common.{◌≡◌, ◌<◌, ◌+◌, ◌++◌, ℕ, List, true, Option, Some, length, map, take, get_or, set, filter_map, option_to_list, sym}
+use Rattle.std.proofs.Common.{◌∙◌, ap, subst, append_assoc}
+use Rattle.std.proofs.lemmas.List.{get_or-map, get_or_default, take_more_set}
 use Rattle.bus_rules.specs.Slots.{Message}
 use Rattle.bus_rules.specs.declared.delivery.Delivery.{Delivery}
 use Rattle.bus_rules.specs.declared.part.Part.{Part}

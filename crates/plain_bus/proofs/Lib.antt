@@ -11,7 +11,6 @@ pub mod HeardByMasks
 pub mod SteppedByMasks
 pub mod SaidBehind
 pub mod ClosedBehind
-pub mod HeardOrigins
 pub mod SlotsClosed
 pub mod SlotsRun
 pub mod SendersKept

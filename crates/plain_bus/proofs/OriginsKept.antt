@@ -1,8 +1,8 @@
 -- A node sends for one origin alone in a flood: for itself where it initiates, else for the one that it heard first.
-use Rattle.std.proofs.Common.{◌≡◌, ◌≤◌, ◌<◌, ◌+◌, ◌==◌, ◌||◌, ◌&&◌, ℕ, zero, suc, Bool, true, false, not, nat_lt, inl, inr, Option, Some, None, if◌then◌else◌}
+use Rattle.std.proofs.Common.{◌≡◌, ◌≤◌, ◌<◌, ◌+◌, ◌==◌, ◌||◌, ℕ, zero, suc, Bool, true, false, not, nat_lt, inl, inr, Option, Some, None, if◌then◌else◌}
 use Rattle.std.proofs.Common.{refl, sym, ◌∙◌, ap, subst, arith}
 use Rattle.std.proofs.lemmas.Bool.{and_parts, eqb-true, false≢true, cases_lt, ltb-true}
-use Rattle.bus_model.specs.Flooding.{Setting, Moment, moment, has, agrees, may_hear, takes, hears, pick, first_heard, STEPS}
+use Rattle.bus_model.specs.Flooding.{Setting, moment, has, agrees, may_hear, takes, hears, pick, first_heard, STEPS}
 use Rattle.bus_model.proofs.Options.{heard_parts, sends_parts, some_injective}
 
 module _ (s : Setting) (v : ℕ) where

@@ -1,5 +1,5 @@
 -- How many bytes a packet has that reads as something.
-use Rattle.std.proofs.Common.{◌≡◌, ◌≤◌, ◌+◌, ◌&&◌, ◌==◌, ℕ, List, Bool, true, false, Option, Some, None, nat_le, if◌then◌else◌, is_some, length, drop}
+use Rattle.std.proofs.Common.{◌≡◌, ◌+◌, ◌&&◌, ℕ, List, Bool, true, false, Option, Some, None, if◌then◌else◌, is_some, length, drop}
 use Rattle.std.proofs.Common.{slice_index, refl, sym, ◌∙◌, ap, arith, length-drop}
 use Rattle.std.specs.Option.{option_map, option_map_or}
 use Rattle.std.proofs.lemmas.Bool.{and_parts, eqb-true, leb-true}
@@ -7,7 +7,7 @@ use Rattle.lwb_base.specs.Messages.{Schedule, length_of}
 use Rattle.lwb_packets.specs.DataPackets.{is_data}
 use Rattle.lwb_packets.specs.Requests.{is_request}
 use Rattle.schedule_codec.specs.Reading.{schedule_of}
-use Rattle.schedule_codec.specs.Spelling.{spelling, spells, in_range}
+use Rattle.schedule_codec.specs.Spelling.{spelling, in_range}
 use Rattle.schedule_codec.proofs.Readings.{spelled_by, bytes_same, length-spelling}
 use Rattle.bus_rules.specs.Slots.{Message, ScheduleOf, DataOf, RequestOf, message_length}
 use Rattle.lwb_member.specs.Said.{message_of, data_in, request_in}

@@ -1,11 +1,9 @@
 -- The leader of a round, found among the nodes as the code has them.
 use Rattle.std.proofs.Common.{◌≡◌, ◌<◌, ◌+◌, ◌==◌, ◌∷◌, [], ℕ, zero, suc, List, Bool, true, false, inl, inr, Option, Some, None, if◌then◌else◌, length, map}
-use Rattle.std.proofs.Common.{take, get_or, refl, sym, ◌∙◌, ap, subst, arith, add-one, option_and_then}
+use Rattle.std.proofs.Common.{take, get_or, refl, sym, ◌∙◌, ap, arith, add-one, option_and_then}
 use Rattle.std.specs.List.{find}
 use Rattle.std.specs.Option.{option_map, option_or}
-use Rattle.std.proofs.lemmas.Bool.{and_parts, false≢true, cases_Bool, eqb-true}
-use Rattle.std.proofs.lemmas.List.{take_all}
-use Rattle.lwb_base.specs.Messages.{Plan}
+use Rattle.std.proofs.lemmas.Bool.{and_parts, false≢true, cases_Bool}
 use Rattle.scenario_text.specs.ScenarioParts.{ScenarioParts}
 use Rattle.bus_rules.specs.declared.part.Part.{Part}
 use Rattle.bus_rules.specs.declared.tune.Tune.{Tune}

@@ -1,6 +1,6 @@
 -- What the code charges for a slot is what the slot of the round costs, at all nodes.
-use Rattle.std.proofs.Common.{◌≡◌, ◌+◌, ◌*◌, ◌==◌, ◌&&◌, ◌∷◌, [], ℕ, List, Bool, true, false, Option, Some, None, is_some, if◌then◌else◌, length, map, filter}
-use Rattle.std.proofs.Common.{filter_map, refl, sym, ◌∙◌, ap, subst, arith, inl, inr, sum_by}
+use Rattle.std.proofs.Common.{◌≡◌, ◌+◌, ◌*◌, ◌==◌, ◌&&◌, ◌∷◌, [], ℕ, List, Bool, true, Option, Some, None, is_some, if◌then◌else◌, length, map, filter}
+use Rattle.std.proofs.Common.{filter_map, refl, sym, ◌∙◌, ap, arith, inl, inr, sum_by}
 use Rattle.std.specs.List.{cons_option}
 use Rattle.std.specs.Option.{option_map, option_map_or}
 use Rattle.std.proofs.lemmas.Bool.{cases_Bool}
@@ -9,14 +9,13 @@ use Rattle.lwb_base.specs.Messages.{Plan}
 use Rattle.lwb_base.specs.Profile.{Numbers, airtime}
 use Rattle.scenario_text.specs.ScenarioParts.{ScenarioParts}
 use Rattle.bus_rules.specs.Charges.{charge, last_of}
-use Rattle.bus_rules.specs.Slots.{Opened, part_of}
+use Rattle.bus_rules.specs.Slots.{part_of}
 use Rattle.bus_rules.specs.States.{State}
 use Rattle.bus_model.specs.Bus.{Cost}
-use Rattle.bus_model.specs.Costs.{length_at, sent_by, slot_sent, slot_window}
+use Rattle.bus_model.specs.Costs.{length_at, sent_by}
 use Rattle.bus_model.specs.FloodOfText.{ids}
-use Rattle.bus_model.specs.Flooding.{moment, has, steps, STEPS}
+use Rattle.bus_model.specs.Flooding.{moment, has, steps}
 use Rattle.bus_model.specs.Rounds.{Slot, opened_at, said_in, before_slot, slot_at}
-use Rattle.bus_model.proofs.Options.{inspect}
 use Rattle.plain_bus.specs.BusNodes.{ranks_in}
 use Rattle.plain_bus.specs.Closings.{Behind}
 use Rattle.plain_bus.specs.FloodMasks.{sends_in}

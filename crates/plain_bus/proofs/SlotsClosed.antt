@@ -1,11 +1,10 @@
 -- What the closing of a slot changes and delivers is what the round's definition says of each node.
-use Rattle.std.proofs.Common.{◌≡◌, ℕ, List, Bool, true, false, ◌&&◌, ◌||◌, ◌==◌, Option, Some, None, is_some, refl, sym, ◌∙◌, ap, if◌then◌else◌, option_map}
-use Rattle.std.proofs.Common.{option_and_then}
+use Rattle.std.proofs.Common.{◌≡◌, ℕ, Bool, true, false, ◌&&◌, ◌||◌, ◌==◌, Option, Some, None, is_some, refl, sym, ◌∙◌, ap, if◌then◌else◌, option_map}
 use Rattle.std.proofs.lemmas.Bool.{false≢true, eq-eqb, and_parts}
 use Rattle.lwb_base.specs.Messages.{Schedule, node_of, stream_of}
 use Rattle.bus_rules.specs.Streams.{Waiting, first_waiting, requested}
 use Rattle.scenario_text.specs.ScenarioParts.{ScenarioParts}
-use Rattle.bus_rules.specs.Slots.{Message, ScheduleOf, DataOf, RequestOf, Opened, Closed, opened, data_of, request_of, is_own, is_schedule_part}
+use Rattle.bus_rules.specs.Slots.{Message, ScheduleOf, DataOf, RequestOf, Opened, opened, data_of, request_of, is_own, is_schedule_part}
 use Rattle.bus_rules.specs.Cores.{Core, is_member, is_fresh}
 use Rattle.bus_rules.specs.Tuning.{rank_of, hosts, hosts_in, holds_in, scans}
 use Rattle.bus_rules.specs.declared.tune.Tune.{Tune}
@@ -17,7 +16,7 @@ use Rattle.bus_model.specs.Rounds.{opened_at, said_in, takes_part, closed_by, le
 use Rattle.bus_model.specs.ScriptedStates.{setup_in}
 use Rattle.bus_model.proofs.OtherRanks.{IsElsewhere, no_window}
 use Rattle.plain_bus.specs.BusNodes.{window_of, state_opened, closed_of, MayAcceptIn}
-use Rattle.plain_bus.specs.SlotFloods.{Seen, seen_by}
+use Rattle.plain_bus.specs.SlotFloods.{seen_by}
 use Rattle.plain_bus.proofs.MembersOfSlots.{window_at}
 
 -- a node of another rank is seen as one that is off

@@ -1,11 +1,9 @@
 -- What stands behind the flood of a slot, as the code has it.
-use Rattle.std.proofs.Common.{◌≡◌, ◌<◌, ◌≤◌, ◌+◌, ◌++◌, [], ◌∷◌, ℕ, is_some, List, Option, All, true, Some, None, length, map, take, drop, get_or, refl, sym}
+use Rattle.std.proofs.Common.{◌≡◌, ◌<◌, ◌+◌, ◌++◌, [], ◌∷◌, ℕ, is_some, List, true, length, map, take, drop, get_or, refl, sym}
 use Rattle.std.proofs.Common.{◌∙◌, ap, subst, arith, append-nil}
 use Rattle.std.specs.List.{AllPairs}
 use Rattle.std.proofs.lemmas.List.{take_all, take_more, drop_all, length-map}
 use Rattle.lwb_base.specs.Messages.{Plan}
-use Rattle.link_trace.specs.Sealed.{Traced}
-use Rattle.scenario_text.specs.FloodParts.{IsSealed}
 use Rattle.scenario_text.specs.ScenarioFacts.{IsSoundScenario}
 use Rattle.scenario_text.specs.ScenarioParts.{ScenarioParts}
 use Rattle.scenario_text.specs.declared.lines.NodeLine.{NodeLine}
@@ -16,13 +14,12 @@ use Rattle.bus_model.specs.Flooding.{Setting, moment, has, STEPS}
 use Rattle.bus_model.specs.Rounds.{said_in, slot_at, opened_at, before_slot}
 use Rattle.bus_model.proofs.ReceivedByPaths.{in_whole}
 use Rattle.bus_model.proofs.ReceivedInRounds.{ids_rise}
-use Rattle.plain_bus.specs.Closings.{Behind, IsBehind}
+use Rattle.plain_bus.specs.Closings.{IsBehind}
 use Rattle.plain_bus.specs.FloodMasks.{station_at}
-use Rattle.plain_bus.specs.Networks.{Network, IsReady}
 use Rattle.plain_bus.specs.SlotFloods.{seen}
 use Rattle.plain_bus.specs.declared.station.Station.{Station}
 use Rattle.plain_bus.specs.declared.window.Window.{Window}
-use Rattle.plain_bus.proofs.HeardOrigins.{heard_origin}
+use Rattle.bus_model.proofs.HeardOrigins.{first_origin}
 use Rattle.plain_bus.proofs.ListsInPlace.{map_more}
 use Rattle.plain_bus.proofs.MembersOfSlots.{map_of_map}
 use Rattle.plain_bus.proofs.SlotsRun.{behind, window_seen}
@@ -57,7 +54,7 @@ module _ (s : ScenarioParts) (rank f : ℕ) (p : Plan) (start others : ℕ → S
         ∙ same_list (ids s.nodes);
     firsts = ap (map (λ (x : Station). x.heard)) are ∙ sym (map_of_map (λ (x : Station). x.heard) (station_at (moment flood STEPS)) (ids s.nodes));
     here = λ v o k is. in_whole (λ u. is_some (said_in (opened_at s rank f (part_of p j) u (before_slot s rank f p start j u)))) (ids s.nodes) o
-        (heard_origin flood inside v o k is);
+        (first_origin flood v o k is);
   }
     where
       same_list : (l : List ℕ) → map (λ v. v) l ≡ l

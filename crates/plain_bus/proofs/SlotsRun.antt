@@ -1,16 +1,15 @@
 -- A slot run by code is the slot of the round, at all nodes.
 use Rattle.std.proofs.Common.{◌≡◌, ℕ, ◌+◌, suc, List, [], ◌∷◌, Bool, true, false, ◌==◌, ◌&&◌, Option, Some, None, is_some, refl, sym, ◌∙◌, ap, if◌then◌else◌}
-use Rattle.std.proofs.Common.{option_map, option_and_then, subst, map, filter, filter_map, add-one}
+use Rattle.std.proofs.Common.{option_map, option_and_then, subst, map, filter_map, add-one}
 use Rattle.std.specs.List.{cons_option}
 use Rattle.std.proofs.lemmas.Bool.{false≢true, or_left, or_right, eq-eqb}
 use Rattle.lwb_base.specs.Messages.{Plan, Schedule}
 use Rattle.scenario_text.specs.ScenarioParts.{ScenarioParts}
-use Rattle.bus_rules.specs.declared.delivery.Delivery.{Delivery}
 use Rattle.bus_rules.specs.declared.part.Part.{Part}
 use Rattle.bus_rules.specs.Slots.{Message, ScheduleOf, Opened, Closed, part_of, is_schedule_part, delivery_of}
 use Rattle.bus_rules.specs.States.{State, StateOff, StateOn}
 use Rattle.bus_model.specs.FloodOfText.{ids}
-use Rattle.bus_model.specs.Flooding.{Setting, moment, has, STEPS}
+use Rattle.bus_model.specs.Flooding.{moment, has, STEPS}
 use Rattle.bus_model.specs.Rounds.{Slot, opened_at, said_in, takes_part, closed_by, closed_at, left_by, accepted_at, before_slot, after_slot, slot_at, rank_in}
 use Rattle.bus_model.specs.Rounds.{delivered_at}
 use Rattle.bus_model.specs.ScriptedStates.{setup_in}

@@ -10,8 +10,9 @@ use Rattle.std.proofs.lemmas.Nat.Bits.{bit_at-zero}
 use Rattle.link_trace.specs.Masks.{IsMaskUpto}
 use Rattle.link_trace.specs.Sealed.{Traced}
 use Rattle.link_trace.proofs.MaskBits.{one_set, one_unset, same_tests}
-use Rattle.bus_model.specs.Flooding.{Setting, Moment, STEPS, has, offer, candidates, named, pick, may_hear, takes, hears, first_heard, next, beginning, moment}
-use Rattle.bus_model.proofs.Options.{inspect, sends_parts, heard_parts, only_from, from_filter, named_parts, some_injective}
+use Rattle.bus_model.specs.Flooding.{Setting, Moment, STEPS, has, offer, pick, may_hear, takes, hears, first_heard, next, beginning, moment}
+use Rattle.bus_model.proofs.HeardOrigins.{heard_of}
+use Rattle.bus_model.proofs.Options.{inspect, sends_parts, heard_parts, some_injective}
 use Rattle.plain_bus.specs.FloodMasks.{IsFlood, IsKnown, AreAt, station_at, station_after, station_first, with_sender}
 use Rattle.plain_bus.proofs.HeardByMasks.{bit_tells, place_of}
 use Rattle.plain_bus.proofs.Picks.{nothing_picked}
@@ -23,20 +24,11 @@ use Rattle.plain_bus.specs.declared.station.Stations.{Stations}
 known_next : (s : Setting) (k : ℕ) (m : Moment) → IsKnown s m → IsKnown s (next s k m)
 known_next s k m known = record {
   senders = λ v o is. here v o (sends_parts (nat_lt (k + 1) STEPS) (hears s m k v) o is).1;
-  origins = λ v o is. origin v o (sends_parts (nat_lt (k + 1) STEPS) (hears s m k v) o is).1;
+  origins = λ v o is. heard_of s k m known.origins v o (sends_parts (nat_lt (k + 1) STEPS) (hears s m k v) o is).1;
 }
   where
     here : (v o : ℕ) → hears s m k v ≡ Some o → has s.everyone v ≡ true
     here v o is = (and_parts _ _ (and_parts _ _ (heard_parts (may_hear s m v) (takes s m v) (pick s m k v) o is).0).0).0
-
-    given : (v u o : ℕ) → offer s m k v u ≡ Some o → has s.initiators o ≡ true
-    given v u o is = known.origins u o (sends_parts (s.passes k u v) (m.sends u) o is).1
-
-    origin : (v o : ℕ) → hears s m k v ≡ Some o → has s.initiators o ≡ true
-    origin v o is = elim (only_from (candidates s m k v) (named s m k v) o (heard_parts (may_hear s m v) (takes s m v) (pick s m k v) o is).1) [
-      | inl all ↦ (let u = from_filter (offer s m k v) s.everyone o all.0 in given v u.0 o u.2)
-      | inr other ↦ (let u = named_parts (offer s m k v) (s.captured k v) o other in given v u.0 o u.2)
-    ]
 
 known_first : (s : Setting) → ((v : ℕ) → has s.initiators v ≡ true → has s.everyone v ≡ true) → IsKnown s (beginning s)
 known_first s inside = record {

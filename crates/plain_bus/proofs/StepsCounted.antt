@@ -1,10 +1,9 @@
 -- The steps in which a node sent, counted off the masks of the senders.
-use Rattle.std.proofs.Common.{◌≡◌, ◌<◌, ◌≤◌, ◌==◌, ◌+◌, ◌∷◌, ◌++◌, [], ℕ, zero, suc, List, Bool, true, false, Option, Some, None, length, filter, get_or, refl}
-use Rattle.std.proofs.Common.{sym, ◌∙◌, ap, subst, arith, if◌then◌else◌, add-one, append-nil}
+use Rattle.std.proofs.Common.{◌≡◌, ◌<◌, ◌==◌, ◌+◌, ◌∷◌, ◌++◌, [], ℕ, zero, suc, List, Bool, true, false, Option, Some, length, filter, get_or, refl}
+use Rattle.std.proofs.Common.{◌∙◌, ap, arith, if◌then◌else◌, add-one, append-nil}
 use Rattle.std.specs.Int.{bit_at}
 use Rattle.std.specs.List.{range_with_len, last_or}
 use Rattle.std.proofs.lemmas.List.Elements.{filter-append}
-use Rattle.link_trace.specs.Masks.{IsMask}
 use Rattle.plain_bus.specs.FloodMasks.{AreSendersOf}
 use Rattle.plain_bus.specs.SlotCosts.{steps_at, steps_in}
 use Rattle.plain_bus.proofs.HeardByMasks.{bit_tells}

@@ -1,5 +1,5 @@
 -- How a slot closes at all nodes, by what each accepted.
-use Rattle.std.specs.Prelude.{◌≡◌, ℕ, List, Bool, true, Some, None, if◌then◌else◌, map, filter_map, option_and_then}
+use Rattle.std.specs.Prelude.{◌≡◌, ℕ, List, Bool, true, Some, None, if◌then◌else◌, map, option_and_then}
 use Rattle.std.specs.declared.option.Option.{Option}
 use Rattle.bus_rules.specs.declared.delivery.Delivery.{Delivery}
 use Rattle.bus_rules.specs.declared.part.Part.{Part}

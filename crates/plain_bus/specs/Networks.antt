@@ -1,5 +1,5 @@
 -- All nodes of a bus as the code has them, and what a slot costs each.
-use Rattle.std.specs.Prelude.{◌≡◌, ℕ, ◌+◌, List, All, length, map}
+use Rattle.std.specs.Prelude.{◌≡◌, ℕ, ◌+◌, List, All, length}
 use Rattle.lwb_base.specs.Messages.{Plan}
 use Rattle.scenario_text.specs.ScenarioParts.{ScenarioParts}
 use Rattle.bus_rules.specs.declared.delivery.Delivery.{Delivery}

@@ -1,5 +1,5 @@
 -- What a slot costs the nodes, by the masks of those who sent in its flood.
-use Rattle.std.specs.Prelude.{◌≡◌, ◌<◌, ◌≤◌, ◌==◌, ℕ, ◌+◌, ◌*◌, List, Bool, if◌then◌else◌, length, map, filter, slice_index}
+use Rattle.std.specs.Prelude.{◌≤◌, ◌==◌, ℕ, ◌+◌, ◌*◌, List, Bool, if◌then◌else◌, length, map, filter, slice_index}
 use Rattle.std.specs.declared.option.Option.{Option}
 use Rattle.std.specs.Int.{bit_at}
 use Rattle.std.specs.List.{range_with_len}

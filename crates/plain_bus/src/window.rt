@@ -3,7 +3,6 @@
 ghost use Rattle.std.specs.Prelude.{◌≡◌, ◌≤◌, ◌↔◌, IfSome, is_some, false, None};
 ghost use Rattle.std.specs.Option.{option_map, option_and_then};
 ghost use Rattle.bus_rules.specs.Cores.{is_member as is_core_member};
-ghost use Rattle.bus_rules.specs.Slots.{is_schedule_part as is_schedule};
 ghost use Rattle.bus_rules.specs.Tuning.{hosts, scans as scans_rank};
 ghost use Rattle.bus_model.specs.Rounds.{said_in, takes_part, left_by, rank_in};
 ghost use Rattle.lwb_member.specs.Members.{IsHeard};
@@ -76,7 +75,7 @@ impl BusNode {
         if !is_member(&self.member, rank, frame) {
             return Window {
                 is_open: false,
-                takes_part: is_schedule_part(part) && scans(&self.member, rank),
+                takes_part: part.is_for_schedule() && scans(&self.member, rank),
                 initiates: false,
                 said: None,
             };
@@ -204,11 +203,4 @@ fn scans(member: &Member, rank: Rank) -> bool
         Tune::Scan(own, _) => own == rank,
         Tune::Hold(..) | Tune::Host(..) => false,
     }
-}
-
-// A slot in which the host says its schedule.
-fn is_schedule_part(part: &Part) -> bool
-    ensures { result ≡ is_schedule part.now }
-{
-    matches!(part, Part::Opening | Part::Closing)
 }

@@ -18,7 +18,8 @@ pub same_cost : (a b : Cost) → Some a ≡ Some b → a ≡ b
 same_cost a b is = cc
 
 -- a node more
-pub cost_more : (s : ScenarioParts) (bs : List ℕ) (ns : List NodeLine) (i : ℕ) (n : NodeLine) (c : Cost) → i < length ns → n ≡ get_or ns i n → c ≡ bus_cost s n.node
+pub cost_more : (s : ScenarioParts) (bs : List ℕ) (ns : List NodeLine) (i : ℕ) (n : NodeLine) (c : Cost) → i < length ns → n ≡ get_or ns i n
+    → c ≡ bus_cost s n.node
     → (bs ++ flat_map (node_cost s) (take i ns)) ++ cost_line n.node c ≡ bs ++ flat_map (node_cost s) (take (i + 1) ns)
 cost_more s bs ns i n c below at is =
     let says : NodeLine → List ℕ = node_cost s in

@@ -1,5 +1,6 @@
 -- Words that spell a number.
-use Rattle.std.proofs.Common.{◌≡◌, ◌≢◌, ℕ, ◌<◌, ◌^◌, zero, suc, List, [], ◌∷◌, Bool, true, false, ◌||◌, Result, Ok, Err, Option, Some, None, ◌↔◌, length, get_or, slice_index, decimal, nat_lt, sym, ◌∙◌, ap, arith, ⊎_elim}
+use Rattle.std.proofs.Common.{◌≡◌, ◌≢◌, ℕ, ◌<◌, ◌^◌, zero, suc, List, [], ◌∷◌, Bool, true, false, ◌||◌, Result, Ok, Err, Option, Some, None, ◌↔◌, length}
+use Rattle.std.proofs.Common.{get_or, slice_index, decimal, nat_lt, sym, ◌∙◌, ap, arith, ⊎_elim}
 use Rattle.std.specs.Str.{bytes_eq}
 use Rattle.std.specs.Str.Parse.{AllDigits, digits_value, ParsesUnsigned}
 use Rattle.std.proofs.lemmas.Bool.{or_cases, or_right, ltb-true, lt-ltb, false≢true}
@@ -17,7 +18,8 @@ plain bs = bytes_eq bs (48 ∷ []) || nat_lt 48 (slice_index bs 0)
 pub unsigned : (bs : List ℕ) → plain bs ≡ true → get_or bs 0 0 ≢ 43
 unsigned bs is =
     ⊎_elim
-    (λ one. λ sign. let zero_first : get_or bs 0 0 ≡ 48 = ap (λ (l : List ℕ). get_or l 0 0) ((bytes_eq-Decides bs (48 ∷ [])).0 one) in absurd (omega (arith, zero_first, sign)))
+    (λ one. λ sign. let zero_first : get_or bs 0 0 ≡ 48 = ap (λ (l : List ℕ). get_or l 0 0) ((bytes_eq-Decides bs (48 ∷ [])).0 one) in
+    absurd (omega (arith, zero_first, sign)))
     (λ high. λ sign. absurd (omega (arith, ltb-true 48 (slice_index bs 0) high, sign)))
     (or_cases _ _ is)
 
@@ -52,7 +54,8 @@ spelled {E} bs (Ok x) n parses is ok =
     let parts = parse_plain own {E = E} 64 bs (Ok x) parses (unsigned bs is) in
     sym (decimal-digits_value own bs parts.0.0 parts.0.1 (no_leading_zero bs is) parts.0.2) ∙ ap decimal (sym parts.1 ∙ ok_same x n ok)
 
-pub parses_what_it_spells : {E : Type 0} (bs : List ℕ) (r : Result ℕ E) (n : ℕ) → ParsesUnsigned 64 10 bs r → plain bs ≡ true → n < 2 ^ 64 → (r ≡ Ok n) ↔ (bs ≡ decimal n)
+pub parses_what_it_spells : {E : Type 0} (bs : List ℕ) (r : Result ℕ E) (n : ℕ) → ParsesUnsigned 64 10 bs r → plain bs ≡ true → n < 2 ^ 64 → (r ≡ Ok n)
+    ↔ (bs ≡ decimal n)
 parses_what_it_spells bs r n parses is few = (spelled bs r n parses is, λ same. parse-decimal 64 n bs r few few same parses)
 
 -- a word that is not plain spells none

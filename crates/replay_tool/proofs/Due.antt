@@ -22,12 +22,14 @@ all_read b c None eaten end = absurd eaten
 all_read b c (Some rest) eaten end = eaten ∙ ap (λ (r : List ℕ). c ++ r) end ∙ append-nil c
 
 -- what holds of the bytes that were read
-pub read_that : (reading : Bool) (old new : Option (List ℕ)) (bs : List ℕ) (P : List ℕ → Type 0) → WholeRead reading old new (λ b. b ≡ bs) → P bs → WholeRead reading old new P
+pub read_that : (reading : Bool) (old new : Option (List ℕ)) (bs : List ℕ) (P : List ℕ → Type 0) → WholeRead reading old new (λ b. b ≡ bs) → P bs
+    → WholeRead reading old new P
 read_that true old new bs P (b, eaten, end, few, is) holds = (b, eaten, end, few, subst P (sym is) holds)
 read_that false old new bs P is holds = subst P (sym is) holds
 
 -- holds of the input, which is not too long
-read_is_input : (reading : Bool) (old new : Option (List ℕ)) (P : List ℕ → Type 0) (b : List ℕ) → WholeRead reading old new P → IsInput reading old b → P b × (length b ≤ INPUT_LIMIT)
+read_is_input : (reading : Bool) (old new : Option (List ℕ)) (P : List ℕ → Type 0) (b : List ℕ) → WholeRead reading old new P → IsInput reading old b
+    → P b × (length b ≤ INPUT_LIMIT)
 read_is_input true old new P b (r, eaten, end, few, holds) is =
     let same : b ≡ r = all_read b r new (subst (λ (o : Option (List ℕ)). Consumes o new r) is eaten) end in
     (subst P (sym same) holds, subst (λ (l : List ℕ). length l ≤ INPUT_LIMIT) (sym same) few)
@@ -59,14 +61,16 @@ faulty_reads Deadlines b n k fault = refl
 faulty_reads (Demo seed nodes frames) b n k fault = absurd (text_or_fault (Demo seed nodes frames) b n k refl fault)
 
 -- words ask for one command
-pub one_command : (words : List (List ℕ)) (found : Option Command) (c d : Command) → ((e : Command) → (found ≡ Some e) ↔ Asks words e) → found ≡ Some c → Asks words d → c ≡ d
+pub one_command : (words : List (List ℕ)) (found : Option Command) (c d : Command) → ((e : Command) → (found ≡ Some e) ↔ Asks words e) → found ≡ Some c
+    → Asks words d → c ≡ d
 one_command words found c d which is asked = some_same c d (sym is ∙ (which d).1 asked)
   where
     some_same : {A : Type 0} (x y : A) → Some x ≡ Some y → x ≡ y
     some_same x y same = cc
 
 -- the status is 0 where the bytes read are a text
-pub complete_report : (c d : Command) (old new : Option (List ℕ)) (air : List Entry) (text : List ℕ) (status : ℕ) → c ≡ d → WholeRead (reads c) old new (λ b. IsReport c b air text) → status ≡ 0 → (b : List ℕ)
+pub complete_report : (c d : Command) (old new : Option (List ℕ)) (air : List Entry) (text : List ℕ) (status : ℕ) → c ≡ d
+    → WholeRead (reads c) old new (λ b. IsReport c b air text) → status ≡ 0 → (b : List ℕ)
     → IsInput (reads d) old b → IsComplete d b status
 complete_report c d old new air text status one read zero b at =
     let input = read_is_input (reads c) old new (λ l. IsReport c l air text) b read (subst (λ (e : Command). IsInput (reads e) old b) (sym one) at) in
@@ -77,7 +81,8 @@ complete_report c d old new air text status one read zero b at =
     }
 
 -- the status is 1 where they have a fault
-pub complete_fault : (c d : Command) (old new : Option (List ℕ)) (text : List ℕ) (status : ℕ) → c ≡ d → reads c ≡ true → WholeRead true old new (λ b. IsFaultLine c b text) → status ≡ 1 → (b : List ℕ)
+pub complete_fault : (c d : Command) (old new : Option (List ℕ)) (text : List ℕ) (status : ℕ) → c ≡ d → reads c ≡ true
+    → WholeRead true old new (λ b. IsFaultLine c b text) → status ≡ 1 → (b : List ℕ)
     → IsInput (reads d) old b → IsComplete d b status
 complete_fault c d old new text status one reading read is_1 b at =
     let whole = subst (λ (e : Bool). IsInput e old b) reading (subst (λ (e : Command). IsInput (reads e) old b) (sym one) at) in

@@ -19,7 +19,8 @@ known_at ns i n below at =
     list_any_at (λ (m : NodeLine). m.node == n.node) ns i n below (eq-eqb (get_or ns i n).node n.node (ap (λ (m : NodeLine). m.node) (sym at)))
 
 -- so an account has its energy
-pub line_at : (s : ScenarioParts) (clocks : ℕ → ℕ → ℕ) (air : List Entry) (lines : List AccountLine) (ns : List NodeLine) (i : ℕ) (n : NodeLine) → IsAccount s clocks air lines → ns ≡ s.nodes → i < length ns → n ≡ get_or ns i n
+pub line_at : (s : ScenarioParts) (clocks : ℕ → ℕ → ℕ) (air : List Entry) (lines : List AccountLine) (ns : List NodeLine) (i : ℕ) (n : NodeLine)
+    → IsAccount s clocks air lines → ns ≡ s.nodes → i < length ns → n ≡ get_or ns i n
     → line_of lines n.node ≡ Some (energy_of s clocks air n.node)
 line_at s clocks air lines ns i n are same below at =
     let e : Energy = energy_of s clocks air n.node in
@@ -30,7 +31,8 @@ pub same_energy : (a b : Energy) → Some a ≡ Some b → a ≡ b
 same_energy a b is = cc
 
 -- a node more
-pub energy_more : (s : ScenarioParts) (clocks : ℕ → ℕ → ℕ) (air : List Entry) (bs : List ℕ) (ns : List NodeLine) (i : ℕ) (n : NodeLine) (e : Energy) → i < length ns → n ≡ get_or ns i n → e ≡ energy_of s clocks air n.node
+pub energy_more : (s : ScenarioParts) (clocks : ℕ → ℕ → ℕ) (air : List Entry) (bs : List ℕ) (ns : List NodeLine) (i : ℕ) (n : NodeLine) (e : Energy)
+    → i < length ns → n ≡ get_or ns i n → e ≡ energy_of s clocks air n.node
     → (bs ++ flat_map (node_energy s clocks air) (take i ns)) ++ energy_line n.node e ≡ bs ++ flat_map (node_energy s clocks air) (take (i + 1) ns)
 energy_more s clocks air bs ns i n e below at is =
     let says : NodeLine → List ℕ = node_energy s clocks air in

@@ -1,5 +1,6 @@
 -- A text of streams has no owner twice.
-use Rattle.std.proofs.Common.{◌≡◌, ℕ, ◌+◌, ◌-◌, List, [], ◌∷◌, ◌++◌, false, not, Option, Some, None, Result, Ok, Err, IfOk, length, drop, take, get_or, inl, inr, refl, sym, ◌∙◌, ap, subst, arith}
+use Rattle.std.proofs.Common.{◌≡◌, ℕ, ◌+◌, ◌-◌, List, [], ◌∷◌, ◌++◌, false, not, Option, Some, None, Result, Ok, Err, IfOk, length, drop, take, get_or, inl}
+use Rattle.std.proofs.Common.{inr, refl, sym, ◌∙◌, ap, subst, arith}
 use Rattle.std.proofs.lemmas.Bool.{not-true, cond_both, cases_lt}
 use Rattle.std.proofs.lemmas.List.{length-append, take-append-le, get_or_append_left, get_or-append_right, take_all}
 use Rattle.std.specs.List.{list_all}
@@ -13,7 +14,8 @@ use Rattle.scenario_text.specs.declared.fault.FaultKind.{FaultKind}
 use Rattle.scenario_text.specs.declared.fault.FaultKind.TheVariants.{NotUtf8, BadNumber, Range, Twice, Missing}
 use Rattle.scenario_text.proofs.FloodKeeps.{passed, unless_keeps, at_ok}
 use Rattle.deadline_plan.specs.Admission.{Plan, has}
-use Rattle.deadline_plan.specs.DeadlineText.{Draft, no_lines, are_in_range, rule_fault, with_line, after_words, after_line, deadline_line, parts_of, finished, plan_of}
+use Rattle.deadline_plan.specs.DeadlineText.{Draft, no_lines, are_in_range, rule_fault, with_line, after_words, after_line, deadline_line, parts_of, finished}
+use Rattle.deadline_plan.specs.DeadlineText.{plan_of}
 use Rattle.deadline_plan.specs.declared.line.DeadlineLine.{DeadlineLine}
 use Rattle.deadline_plan.specs.declared.line.DeadlineLine.TheVariants.{Slots, Frames, Stream}
 use Rattle.deadline_plan.specs.declared.stream.DeadlineStream.{DeadlineStream}
@@ -27,7 +29,8 @@ differ_more : (ss : List DeadlineStream) (s : DeadlineStream) → Differ ss → 
 differ_more ss s differ new i t below at =
     elim (cases_lt i (length ss)) [
       | inl before ↦
-          subst (λ (front : List DeadlineStream). has front t.owner ≡ false) (sym (take-append-le i ss (s ∷ []) (omega arith))) (differ i t before (at ∙ get_or_append_left ss (s ∷ []) t i before))
+          subst (λ (front : List DeadlineStream). has front t.owner ≡ false) (sym (take-append-le i ss (s ∷ []) (omega arith)))
+          (differ i t before (at ∙ get_or_append_left ss (s ∷ []) t i before))
       | inr behind ↦
           let last : i ≡ length ss = omega (arith, below, length-append ss (s ∷ []), behind) in
           let first : i - length ss ≡ 0 = omega (arith, last) in
@@ -54,10 +57,12 @@ read_differs : (d : Draft) (line : List ℕ) → DraftDiffers d → IfOk (after_
 unfolding after_line
 read_differs d line differ =
     cond_both (is_skipped (words line)) (Ok d) _ (λ (r : Result Draft FaultKind). IfOk r DraftDiffers) (λ is. differ)
-    (λ not. cond_both (is_utf8 line) (after_words d (words line) (deadline_line (words line))) (Err NotUtf8) (λ (r : Result Draft FaultKind). IfOk r DraftDiffers) (λ is. words_differ d (words line) _ differ) (λ not. tt))
+    (λ not. cond_both (is_utf8 line) (after_words d (words line) (deadline_line (words line))) (Err NotUtf8)
+    (λ (r : Result Draft FaultKind). IfOk r DraftDiffers) (λ is. words_differ d (words line) _ differ) (λ not. tt))
 
 -- behind a line that was answered so
-next_differs : (n : ℕ) (r : Result Draft FaultKind) (ls : List (List ℕ)) → ((e : Draft) → DraftDiffers e → IfOk (after_lines after_line (n + 1) e ls) DraftDiffers) → IfOk r DraftDiffers
+next_differs : (n : ℕ) (r : Result Draft FaultKind) (ls : List (List ℕ))
+    → ((e : Draft) → DraftDiffers e → IfOk (after_lines after_line (n + 1) e ls) DraftDiffers) → IfOk r DraftDiffers
     → IfOk (in_line n r >>= (λ e. after_lines after_line (n + 1) e ls)) DraftDiffers
 next_differs n (Ok e) ls others is = others e is
 next_differs n (Err k) ls others is = tt
@@ -70,7 +75,8 @@ all_differ n d (l ∷ ls) differ = next_differs n (after_line d l) ls (λ e is. 
 abbrev PlanDiffers : Plan → Type 0
 PlanDiffers p = Differ p.streams
 
-finished_differs : (n : ℕ) (slots frames : Option ℕ) (ss : List DeadlineStream) → Differ ss → IfOk (in_line n (ok_or (parts_of slots frames ss) Missing)) PlanDiffers
+finished_differs : (n : ℕ) (slots frames : Option ℕ) (ss : List DeadlineStream) → Differ ss
+    → IfOk (in_line n (ok_or (parts_of slots frames ss) Missing)) PlanDiffers
 finished_differs n None frames ss differ = tt
 finished_differs n (Some slots) None ss differ = tt
 finished_differs n (Some slots) (Some frames) [] differ = tt
@@ -84,4 +90,5 @@ none_differ : Differ []
 none_differ i s below at = absurd (omega (arith, below))
 
 pub owners_differ : (b : List ℕ) (p : Plan) → plan_of b ≡ Ok p → Differ p.streams
-owners_differ b p is = at_ok PlanDiffers (plan_of b) p is (plan_differs (length (lines b) + 1) (after_lines after_line 1 no_lines (lines b)) (all_differ 1 no_lines (lines b) none_differ))
+owners_differ b p is = at_ok PlanDiffers (plan_of b) p is
+    (plan_differs (length (lines b) + 1) (after_lines after_line 1 no_lines (lines b)) (all_differ 1 no_lines (lines b) none_differ))

@@ -15,19 +15,23 @@ use Rattle.lwb_world.specs.Runs.{IsRun}
 use Rattle.lwb_world.specs.Worlds.{WorldState, new_world, core_of, HasRun}
 
 -- a run over clocks is one over any that read the same
-same_run : (s : ScenarioParts) (clocks others : ℕ → ℕ → ℕ) (air : List Entry) (made : List Delivery) (lost : List DropLine) (core : ℕ → Option NodeState) → ((v : ℕ) → clocks v ≡ others v)
+same_run : (s : ScenarioParts) (clocks others : ℕ → ℕ → ℕ) (air : List Entry) (made : List Delivery) (lost : List DropLine)
+    (core : ℕ → Option NodeState) → ((v : ℕ) → clocks v ≡ others v)
     → IsRun s clocks air made lost core → IsRun s others air made lost core
 same_run s clocks others air made lost core same run = subst (λ (c : ℕ → ℕ → ℕ). IsRun s c air made lost core) (fun_ext same) run
 
 -- so the run of a new world over clocks that read as stated is one over the stated clocks
-pub stated_run : (s : ScenarioParts) (cs : List SegmentClock) (old new : WorldState) → old ≡ new_world s → ((v : ℕ) → clocks_by segment_clock_reads s.nodes cs v ≡ scenario_clock s v)
+pub stated_run : (s : ScenarioParts) (cs : List SegmentClock) (old new : WorldState) → old ≡ new_world s
+    → ((v : ℕ) → clocks_by segment_clock_reads s.nodes cs v ≡ scenario_clock s v)
     → HasRun (clocks_by segment_clock_reads old.scenario.nodes cs) old new → IsRun s (scenario_clock s) new.air new.deliveries new.drops (core_of new.cores)
 stated_run s cs old new is same has =
-    let over : WorldState → Type 0 = λ w. IsRun w.scenario (clocks_by segment_clock_reads w.scenario.nodes cs) new.air new.deliveries new.drops (core_of new.cores) in
+    let over : WorldState → Type 0 = λ w. IsRun w.scenario (clocks_by segment_clock_reads w.scenario.nodes cs) new.air new.deliveries new.drops
+    (core_of new.cores) in
     same_run s (clocks_by segment_clock_reads s.nodes cs) (scenario_clock s) new.air new.deliveries new.drops (core_of new.cores) same (subst over is has.run)
 
 -- and what was counted in it
-pub stated_charges : (s : ScenarioParts) (cs : List SegmentClock) (old new : WorldState) → old ≡ new_world s → ((v : ℕ) → clocks_by segment_clock_reads s.nodes cs v ≡ scenario_clock s v)
+pub stated_charges : (s : ScenarioParts) (cs : List SegmentClock) (old new : WorldState) → old ≡ new_world s
+    → ((v : ℕ) → clocks_by segment_clock_reads s.nodes cs v ≡ scenario_clock s v)
     → HasRun (clocks_by segment_clock_reads old.scenario.nodes cs) old new → new.charges ≡ charges_in s (scenario_clock s) new.air
 stated_charges s cs old new is same has =
     let over : WorldState → Type 0 = λ w. new.charges ≡ charges_in w.scenario (clocks_by segment_clock_reads w.scenario.nodes cs) new.air in

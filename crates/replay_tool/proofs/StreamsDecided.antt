@@ -1,5 +1,6 @@
 -- Streams that are decided one after the other.
-use Rattle.std.proofs.Common.{◌≡◌, ℕ, ◌+◌, ◌<◌, ◌≤◌, List, [], ◌∷◌, ◌++◌, Bool, true, false, ◌==◌, ◌||◌, length, take, get_or, Ok, refl, sym, ◌∙◌, ap, subst, arith}
+use Rattle.std.proofs.Common.{◌≡◌, ℕ, ◌+◌, ◌<◌, ◌≤◌, List, [], ◌∷◌, ◌++◌, Bool, true, false, ◌==◌, ◌||◌, length, take, get_or, Ok, refl, sym, ◌∙◌, ap, subst}
+use Rattle.std.proofs.Common.{arith}
 use Rattle.std.proofs.lemmas.Bool.{false≢true}
 use Rattle.std.proofs.lemmas.List.{length-append, take_more}
 use Rattle.deadline_plan.specs.Admission.{Plan, has, Answers, after_admit}
@@ -16,7 +17,8 @@ decides p s Twice new room is = absurd (false≢true (sym new ∙ is))
 decides p s Full new room is = absurd (omega (arith, is.1, room))
 
 -- a stream more
-pub decided_more : (p : Plan) (answers : List (DeadlineStream × Admit)) (q r : Plan) (s : DeadlineStream) (a : Admit) → Decided p answers q → Decides q s a → r ≡ after_admit q s (Ok a) → Decided p (answers ++ (s, a) ∷ []) r
+pub decided_more : (p : Plan) (answers : List (DeadlineStream × Admit)) (q r : Plan) (s : DeadlineStream) (a : Admit) → Decided p answers q
+    → Decides q s a → r ≡ after_admit q s (Ok a) → Decided p (answers ++ (s, a) ∷ []) r
 decided_more p [] q r s a is one next = (subst (λ (x : Plan). Decides x s a) is one, next ∙ ap (λ (x : Plan). after_admit x s (Ok a)) is)
 decided_more p (b ∷ answers) q r s a is one next = (is.0, decided_more (after_admit p b.0 (Ok b.1)) answers q r s a is.1 one next)
 
@@ -34,7 +36,8 @@ has_more (t ∷ ss) s owner = by_first (t.owner == owner) (has (ss ++ s ∷ []) 
     by_first false a b c same = same
 
 -- who is admitted behind an answer was before it, or is this stream
-pub not_admitted : (q : Plan) (s : DeadlineStream) (a : Admit) (owner : ℕ) → has q.streams owner ≡ false → (s.owner == owner) ≡ false → has (after_admit q s (Ok a)).streams owner ≡ false
+pub not_admitted : (q : Plan) (s : DeadlineStream) (a : Admit) (owner : ℕ) → has q.streams owner ≡ false → (s.owner == owner) ≡ false
+    → has (after_admit q s (Ok a)).streams owner ≡ false
 not_admitted q s Yes owner before other = has_more q.streams s owner ∙ rw (before, other) refl
 not_admitted q s Twice owner before other = before
 not_admitted q s Full owner before other = before
@@ -52,10 +55,12 @@ pub new_behind : (ss : List DeadlineStream) (i : ℕ) (s : DeadlineStream) (admi
 new_behind ss i s admitted below at differ new = new s.owner (differ i s below at)
 
 pub new_after : (ss : List DeadlineStream) (i : ℕ) (s : DeadlineStream) (q : Plan) (a : Admit) → i < length ss → s ≡ get_or ss i s
-    → ((owner : ℕ) → has (take i ss) owner ≡ false → has q.streams owner ≡ false) → (owner : ℕ) → has (take (i + 1) ss) owner ≡ false → has (after_admit q s (Ok a)).streams owner ≡ false
+    → ((owner : ℕ) → has (take i ss) owner ≡ false → has q.streams owner ≡ false) → (owner : ℕ) → has (take (i + 1) ss) owner ≡ false
+    → has (after_admit q s (Ok a)).streams owner ≡ false
 new_after ss i s q a below at new owner none =
     let more : take (i + 1) ss ≡ take i ss ++ s ∷ [] = take_more ss i s below ∙ ap (λ (x : DeadlineStream). take i ss ++ x ∷ []) (sym at) in
-    let neither = neither_of (has (take i ss) owner) (s.owner == owner) (sym (has_more (take i ss) s owner) ∙ ap (λ (l : List DeadlineStream). has l owner) (sym more) ∙ none) in
+    let neither = neither_of (has (take i ss) owner) (s.owner == owner)
+    (sym (has_more (take i ss) s owner) ∙ ap (λ (l : List DeadlineStream). has l owner) (sym more) ∙ none) in
     not_admitted q s a owner (new owner neither.0) neither.1
   where
     neither_of : (a b : Bool) → (a || b) ≡ false → (a ≡ false) × (b ≡ false)

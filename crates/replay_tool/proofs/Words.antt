@@ -1,5 +1,6 @@
 -- A command line of one word.
-use Rattle.std.proofs.Common.{◌≡◌, ℕ, ◌<◌, ◌^◌, List, [], ◌∷◌, Bool, false, Option, Some, None, length, map, get_or, ◌↔◌, IsTrue, String, string_bytes, codes, decimal, refl, sym, ◌∙◌, ap, subst, arith}
+use Rattle.std.proofs.Common.{◌≡◌, ℕ, ◌<◌, ◌^◌, List, [], ◌∷◌, Bool, false, Option, Some, None, length, map, get_or, ◌↔◌, IsTrue, String, string_bytes, codes}
+use Rattle.std.proofs.Common.{decimal, refl, sym, ◌∙◌, ap, subst, arith}
 use Rattle.std.specs.Prelude.{SomeIff}
 use Rattle.std.specs.declared.alloc.Global.{Global}
 use Rattle.std.specs.Str.{bytes_eq}
@@ -19,7 +20,8 @@ one_of (x ∷ y ∷ words) w one is = absurd (omega arith)
 head_is : (xs ys : List ℕ) → xs ∷ [] ≡ ys ∷ [] → xs ≡ ys
 head_is xs ys same = cc
 
-pub one_word : (words : List (String Global)) (w : String Global) (text : List ℕ) (b : Bool) → length words ≡ 1 → w ≡ get_or words 0 w → b ≡ bytes_eq (string_bytes w) text → IsTrue b ↔ (map string_bytes words ≡ text ∷ [])
+pub one_word : (words : List (String Global)) (w : String Global) (text : List ℕ) (b : Bool) → length words ≡ 1 → w ≡ get_or words 0 w
+    → b ≡ bytes_eq (string_bytes w) text → IsTrue b ↔ (map string_bytes words ≡ text ∷ [])
 one_word words w text b one is test =
     let whole : map string_bytes words ≡ string_bytes w ∷ [] = ap (λ (l : List (String Global)). map string_bytes l) (one_of words w one is) in
     let decides = bytes_eq-Decides (string_bytes w) text in (
@@ -28,7 +30,8 @@ one_word words w text b one is test =
     )
 
 -- a command line of four words
-pub four_words : (words : List (String Global)) (w a b d : String Global) → length words ≡ 4 → w ≡ get_or words 0 w → a ≡ get_or words 1 a → b ≡ get_or words 2 b → d ≡ get_or words 3 d
+pub four_words : (words : List (String Global)) (w a b d : String Global) → length words ≡ 4 → w ≡ get_or words 0 w → a ≡ get_or words 1 a
+    → b ≡ get_or words 2 b → d ≡ get_or words 3 d
     → map string_bytes words ≡ string_bytes w ∷ string_bytes a ∷ string_bytes b ∷ string_bytes d ∷ []
 four_words [] w a b d four at_w at_a at_b at_d = absurd (omega arith)
 four_words (p ∷ []) w a b d four at_w at_a at_b at_d = absurd (omega arith)
@@ -58,7 +61,9 @@ found_by : (found : Option Command) (P : Type 0) (v : Command) → SomeIff found
 found_by None P v is holds = absurd (is holds)
 found_by (Some x) P v is holds = ap (λ (c : Command). Some c) is.1
 
-module _ (ws : List (List ℕ)) (seed nodes frames : ℕ) (found : Option Command) (spells : ws ≡ codes "demo" ∷ decimal seed ∷ decimal nodes ∷ decimal frames ∷ []) (few_s : seed < 10 ^ 13) (few_n : nodes < 10 ^ 13) (few_f : frames < 10 ^ 13) (is : SomeIff found (IsSize nodes frames) (Demo seed nodes frames)) where
+module _ (ws : List (List ℕ)) (seed nodes frames : ℕ) (found : Option Command)
+    (spells : ws ≡ codes "demo" ∷ decimal seed ∷ decimal nodes ∷ decimal frames ∷ []) (few_s : seed < 10 ^ 13) (few_n : nodes < 10 ^ 13)
+    (few_f : frames < 10 ^ 13) (is : SomeIff found (IsSize nodes frames) (Demo seed nodes frames)) where
   asked_for : (c : Command) → reads c ≡ false → Asks ws c → found ≡ Some c
   asked_for Flood reading asks = absurd (false≢true (sym reading))
   asked_for Run reading asks = absurd (false≢true (sym reading))
@@ -66,13 +71,17 @@ module _ (ws : List (List ℕ)) (seed nodes frames : ℕ) (found : Option Comman
   asked_for Bus reading asks = absurd (false≢true (sym reading))
   asked_for Deadlines reading asks = absurd (false≢true (sym reading))
   asked_for (Demo s n f) reading (words, few, size) =
-      let at_seed : seed ≡ s = same_number 1 seed s ws few_s few (ap (λ (l : List (List ℕ)). get_or l 1 []) spells) (ap (λ (l : List (List ℕ)). get_or l 1 []) words) in
-      let at_nodes : nodes ≡ n = same_number 2 nodes n ws few_n (omega (arith, size)) (ap (λ (l : List (List ℕ)). get_or l 2 []) spells) (ap (λ (l : List (List ℕ)). get_or l 2 []) words) in
-      let at_frames : frames ≡ f = same_number 3 frames f ws few_f (omega (arith, size)) (ap (λ (l : List (List ℕ)). get_or l 3 []) spells) (ap (λ (l : List (List ℕ)). get_or l 3 []) words) in
+      let at_seed : seed ≡ s = same_number 1 seed s ws few_s few (ap (λ (l : List (List ℕ)). get_or l 1 []) spells)
+      (ap (λ (l : List (List ℕ)). get_or l 1 []) words) in
+      let at_nodes : nodes ≡ n = same_number 2 nodes n ws few_n (omega (arith, size)) (ap (λ (l : List (List ℕ)). get_or l 2 []) spells)
+      (ap (λ (l : List (List ℕ)). get_or l 2 []) words) in
+      let at_frames : frames ≡ f = same_number 3 frames f ws few_f (omega (arith, size)) (ap (λ (l : List (List ℕ)). get_or l 3 []) spells)
+      (ap (λ (l : List (List ℕ)). get_or l 3 []) words) in
       rw (← at_seed, ← at_nodes, ← at_frames) (found_by found (IsSize nodes frames) (Demo seed nodes frames) is (rw (at_nodes, at_frames) size))
 
   pub demo_asked : (c : Command) → (found ≡ Some c) ↔ ((reads c ≡ false) × Asks ws c)
   demo_asked c = (
-    (λ got. let at = there found (IsSize nodes frames) (Demo seed nodes frames) c is got in subst (λ (d : Command). (reads d ≡ false) × Asks ws d) (sym at.1) (refl, (spells, few_s, at.0))),
+    (λ got. let at = there found (IsSize nodes frames) (Demo seed nodes frames) c is got in
+        subst (λ (d : Command). (reads d ≡ false) × Asks ws d) (sym at.1) (refl, (spells, few_s, at.0))),
     λ both. asked_for c both.0 both.1,
   )

@@ -1,6 +1,6 @@
 -- The bytes of the report of a scenario's run on the bus.
 use Rattle.std.specs.Prelude.{ℕ, List, [], ◌∷◌, ◌++◌, codes, flat_map}
-use Rattle.scenario_text.specs.Canonical.{line_text, numbered}
+use Rattle.text_writers.specs.Lines.{line_text, numbered}
 use Rattle.scenario_text.specs.ScenarioParts.{ScenarioParts}
 use Rattle.scenario_text.specs.declared.lines.NodeLine.{NodeLine}
 use Rattle.bus_model.specs.Bus.{Cost, bus_cost, bus_deliveries, bus_drops}

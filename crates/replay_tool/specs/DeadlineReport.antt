@@ -2,7 +2,7 @@
 use Rattle.std.specs.Prelude.{◌≡◌, ◌<◌, ℕ, List, [], ◌∷◌, ◌++◌, false, codes, flat_map, map, take, length, get_or, Ok}
 use Rattle.std.specs.List.{enumerate_from}
 use Rattle.lwb_base.specs.Messages.{node_of, stream_of}
-use Rattle.scenario_text.specs.Canonical.{line_text, numbered}
+use Rattle.text_writers.specs.Lines.{line_text, numbered}
 use Rattle.deadline_plan.specs.Admission.{Plan, has, with_last, Fit, DontFit, after_admit, rounds_of, grants_of}
 use Rattle.deadline_plan.specs.Grants.{AreKept}
 use Rattle.deadline_plan.specs.Jobs.{jobs}

@@ -1,7 +1,7 @@
 -- The bytes of the report of a run.
 use Rattle.std.specs.Prelude.{ℕ, List, [], ◌∷◌, ◌++◌, codes, flat_map}
-use Rattle.scenario_text.specs.Canonical.{line_text, numbered}
-use Rattle.scenario_text.specs.Payloads.{payload_word}
+use Rattle.text_writers.specs.Lines.{line_text, numbered}
+use Rattle.text_writers.specs.HexWords.{payload_word}
 use Rattle.scenario_text.specs.ScenarioParts.{ScenarioParts}
 use Rattle.scenario_text.specs.declared.lines.NodeLine.{NodeLine}
 use Rattle.bus_rules.specs.declared.delivery.Delivery.{Delivery}

@@ -1,6 +1,6 @@
 -- The summary of a run.
 use Rattle.std.specs.Prelude.{ℕ, ◌-◌, List, [], ◌∷◌, ◌++◌, codes, length, sum_by}
-use Rattle.scenario_text.specs.Canonical.{line_text, numbered}
+use Rattle.text_writers.specs.Lines.{line_text, numbered}
 use Rattle.scenario_text.specs.ScenarioParts.{ScenarioParts}
 use Rattle.air_log.specs.declared.entry.Entry.{Entry}
 use Rattle.air_log.specs.declared.entry.Entry.TheVariants.{Sent, Heard, Tuned}

@@ -9,6 +9,7 @@ use lwb_base::Memory;
 use scenario_text::FaultKind;
 use std::alloc::{AllocError, Global};
 use std::fmt::Write;
+use text_writers::write_words;
 
 /// What a command writes, and the log of what it ran.
 #[derive(Drop)]
@@ -28,6 +29,7 @@ fn fault_line(alloc: Global, line: u32, kind: FaultKind) -> Result<String, Alloc
     ensures { IfOk result (λ text. string_bytes text ≡ fault_line_of line kind) }
 {
     let mut text = String::new(alloc);
-    write!(text, "fault line {line}: {kind}\n")?;
+    write_words(&mut text, "fault line", &[line])?;
+    write!(text, ": {kind}\n")?;
     Ok(text)
 }

@@ -2,9 +2,9 @@ ghost use Rattle.std.specs.Prelude.{◌≡◌, ◌++◌, IfOk, OnOk, flat_map, s
 ghost use Rattle.replay_tool.specs.RunReport.{delivery_line, drop_line, report_lines};
 
 use bus_rules::{Delivery, DropLine};
-use scenario_text::write_payload;
 use std::alloc::{AllocError, Global};
 use std::fmt::Write;
+use text_writers::write_payload;
 
 /// The report of a run: a `deliver` line for each delivery, then a `drop` line for each packet that was lost before it
 /// was queued.

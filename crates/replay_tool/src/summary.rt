@@ -3,7 +3,7 @@ ghost use Rattle.replay_tool.specs.Summary.{summary_lines, sent_ticks as sent_ti
 
 use air_log::{Air, Entry};
 use std::alloc::{AllocError, Global};
-use std::fmt::Write;
+use text_writers::write_line;
 
 /// The summary of a run with so many deliveries and drops: both numbers, and the ticks in which all nodes sent and in which
 /// their radios were on.
@@ -17,10 +17,10 @@ pub fn summary(
 {
     let (sent, on) = ticks(air);
     let mut text = String::new(alloc);
-    write!(text, "deliveries {deliveries}\n")?;
-    write!(text, "drops {drops}\n")?;
-    write!(text, "sent {sent}\n")?;
-    write!(text, "on {on}\n")?;
+    write_line(&mut text, "deliveries", &[deliveries])?;
+    write_line(&mut text, "drops", &[drops])?;
+    write_line(&mut text, "sent", &[sent])?;
+    write_line(&mut text, "on", &[on])?;
     Ok(text)
 }
 

@@ -26,9 +26,13 @@ last_of r = last_with r.owners r.contend
 abbrev pub kind_of_slot : Round → ℕ → Kind
 kind_of_slot r j = if (j == 0) || (j == last_of r) then Schedule else if nat_le j r.owners then Payload else Request
 
-abbrev pub window_of : Round → ℕ → Window
-window_of r j = record {
-  begin = slot_time r.times j;
-  start = stopped (slot_time r.times j + r.listen);
-  until = stopped (slot_time r.times j + r.close);
+-- the window of slot j: it opens where the slot begins
+abbrev pub window_at : RoundTimes → ℕ → ℕ → ℕ → Window
+window_at times j listen close = record {
+  begin = slot_time times j;
+  start = stopped (slot_time times j + listen);
+  until = stopped (slot_time times j + close);
 }
+
+abbrev pub window_of : Round → ℕ → Window
+window_of r j = window_at r.times j r.listen r.close

@@ -7,7 +7,7 @@ use bus_rules::last_slot;
 use lwb_base::Profile;
 use lwb_packets::Kind;
 use std::marker::Model;
-use time_reference::{Reference, stopped};
+use time_reference::Reference;
 
 /// One round as a node goes by it: the times of its slots, and what each slot is for.
 ///
@@ -56,12 +56,7 @@ impl Round {
         requires { slot ≤ last_of self.now }
         ensures { result ≡ window_of self.now slot }
     {
-        let begin = self.reference.slot_start(slot);
-        Window {
-            begin,
-            start: stopped(begin + self.listen),
-            until: stopped(begin + self.close),
-        }
+        Window::of_slot(&self.reference, slot, self.listen, self.close)
     }
 
     /// The slot that closes the round, 2 to 45.

@@ -4,10 +4,11 @@ use bus_frames::Bus;
 use bus_rules::{Delivery, DropLine};
 use lwb_base::INPUT_LIMIT;
 use lwb_world::World;
-use scenario_text::{NodeLine, Scenario, parse, write_payload};
+use scenario_text::{NodeLine, Scenario, parse};
 use std::alloc::{AllocError, Global};
 use std::fmt::Write;
 use std::test::Fail;
+use text_writers::write_payload;
 use tick_clock::JumpClock;
 
 /// Which of the clocks gain; the others lose.

@@ -68,7 +68,7 @@ module _ (s : ScenarioParts) (clocks : ℕ → ℕ → ℕ) (air : List Entry) (
       (subst (λ (n : ℕ). Near y.start (also.origin.start + counter_of y * step p n) (counter_of y)) long also.near))
 
   -- of steps of one slot
-  steps_apart : (x y : Sending) (is : IsOfFlood s clocks air x) (also : IsOfFlood s clocks air y) → SameSlot s.profile x y
+  pub steps_apart : (x y : Sending) (is : IsOfFlood s clocks air x) (also : IsOfFlood s clocks air y) → SameSlot s.profile x y
       → counter_of x < counter_of y → x.end < y.start
   steps_apart x y is also same less =
       let room = (run_fits s whole.run.driven.sound).turn_apart in

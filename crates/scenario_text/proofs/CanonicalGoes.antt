@@ -16,7 +16,8 @@ use Rattle.scenario_text.specs.FloodParts.{knows}
 use Rattle.scenario_text.specs.FloodDrafts.{Climbs, Rises, Follows}
 use Rattle.scenario_text.specs.Words.{has_minus, magnitude, number}
 use Rattle.scenario_text.specs.Network.{is_id, are_ends, last_rate}
-use Rattle.scenario_text.specs.Canonical.{numbered, node_words, rate_words, host_lines, link_words}
+use Rattle.text_writers.specs.Lines.{numbered}
+use Rattle.scenario_text.specs.Canonical.{node_words, rate_words, host_lines, link_words}
 use Rattle.scenario_text.specs.ScenarioGrammar.{Scenario, last_tick}
 use Rattle.scenario_text.specs.ScenarioParts.{ScenarioParts}
 use Rattle.scenario_text.specs.declared.lines.NodeLine.{NodeLine}

@@ -1,25 +1,17 @@
 -- The canonical text as it is written, list by list.
-use Rattle.std.proofs.Common.{◌≡◌, ℕ, ◌+◌, ◌<◌, List, [], ◌∷◌, ◌++◌, take, length, get_or, map, flat_map, codes, sym, ◌∙◌, ap, arith}
+use Rattle.std.proofs.Common.{◌≡◌, ℕ, ◌+◌, List, [], ◌∷◌, ◌++◌, map, flat_map, codes, refl, sym, ◌∙◌, ap}
+use Rattle.std.specs.List.{enumerate_from}
 use Rattle.std.proofs.lemmas.Grind.{flat_map-append}
-use Rattle.std.proofs.lemmas.List.{take_more, append-nil, append_assoc, length-take-le}
+use Rattle.std.proofs.lemmas.List.{append-nil, append_assoc}
 use Rattle.std.proofs.lemmas.List.Folds.{flat_map-map}
-use Rattle.scenario_text.specs.Canonical.{canonical, canonical_lines, render, line_text, numbered, profile_number, contend_lines, node_words, rate_words, host_lines, link_words, script_words, loss_words, cut_words, capture_words}
+use Rattle.text_writers.specs.Lines.{render, line_text, numbered}
+use Rattle.scenario_text.specs.Canonical.{canonical, canonical_lines, profile_number, contend_lines, node_words, rate_words, host_lines, link_words, script_words, loss_words, cut_words, capture_words}
 use Rattle.scenario_text.specs.ScenarioParts.{ScenarioParts}
 
-one_host_more : (rank : ℕ) (hosts : List ℕ) (host : ℕ) → host_lines rank (hosts ++ host ∷ []) ≡ host_lines rank hosts ++ numbered (codes "host") ((rank + length hosts) ∷ host ∷ []) ∷ []
-one_host_more rank [] host = ap (λ (n : ℕ). numbered (codes "host") (n ∷ host ∷ []) ∷ []) (omega arith)
-one_host_more rank (h ∷ hosts) host =
-    ap (λ (l : List (List (List ℕ))). numbered (codes "host") (rank ∷ h ∷ []) ∷ l)
-    (one_host_more (rank + 1) hosts host ∙ ap (λ (n : ℕ). host_lines (rank + 1) hosts ++ numbered (codes "host") (n ∷ host ∷ []) ∷ []) (omega arith))
-
--- the lines of one host more
-pub hosts_more : (hosts : List ℕ) (i host : ℕ) → i < length hosts → host ≡ get_or hosts i host
-    → render (host_lines 0 (take (i + 1) hosts)) ≡ render (host_lines 0 (take i hosts)) ++ line_text (numbered (codes "host") (i ∷ host ∷ []))
-hosts_more hosts i host below at =
-    ap (λ (l : List ℕ). render (host_lines 0 l)) (take_more hosts i host below ∙ ap (λ (n : ℕ). take i hosts ++ n ∷ []) (sym at))
-    ∙ ap render (one_host_more 0 (take i hosts) host ∙ ap (λ (n : ℕ). host_lines 0 (take i hosts) ++ numbered (codes "host") (n ∷ host ∷ []) ∷ []) (omega (arith, length-take-le i hosts (omega arith))))
-    ∙ flat_map-append line_text (host_lines 0 (take i hosts)) (numbered (codes "host") (i ∷ host ∷ []) ∷ [])
-    ∙ ap (λ (l : List ℕ). render (host_lines 0 (take i hosts)) ++ l) (append-nil (line_text (numbered (codes "host") (i ∷ host ∷ []))))
+-- the hosts are written with their places
+pub hosts_by_rank : (rank : ℕ) (hosts : List ℕ) → flat_map (λ (p : ℕ × ℕ). line_text (numbered (codes "host") (p.0 ∷ p.1 ∷ []))) (enumerate_from rank hosts) ≡ render (host_lines rank hosts)
+hosts_by_rank rank [] = refl
+hosts_by_rank rank (h ∷ hosts) = ap (λ (l : List ℕ). line_text (numbered (codes "host") (rank ∷ h ∷ [])) ++ l) (hosts_by_rank (rank + 1) hosts)
 
 -- a list of lines more
 after : {A : Type 0} (words : A → List (List ℕ)) (xs : List A) (lines : List (List (List ℕ))) (text : List ℕ) → text ≡ render lines

@@ -3,8 +3,10 @@ use Rattle.std.proofs.Common.{◌≡◌, ℕ, zero, suc, ◌+◌, ◌*◌, ◌�
 use Rattle.std.proofs.lemmas.Bool.{cond-true, cond-false, and_from, le-leb, ne_eqb}
 use Rattle.lwb_base.specs.Profile.{Numbers, IsProfile, one, contended}
 use Rattle.link_trace.specs.Passes.{Lines}
-use Rattle.scenario_text.specs.Canonical.{canonical, canonical_lines, profile_number, contend_lines, numbered, node_words, rate_words, host_lines, link_words, script_words, loss_words, cut_words, capture_words}
-use Rattle.scenario_text.specs.ScenarioGrammar.{Scenario, no_scenario, after_line, finished, finished_parts, if_small, scenario_of}
+use Rattle.text_writers.specs.Lines.{numbered}
+use Rattle.scenario_text.specs.Canonical.{canonical, canonical_lines, profile_number, contend_lines, node_words, rate_words, host_lines, link_words, script_words, loss_words, cut_words, capture_words}
+use Rattle.scenario_text.specs.ScenarioGrammar.{Scenario, no_scenario, after_words, finished, finished_parts, if_small, scenario_of}
+use Rattle.scenario_text.specs.Reading.{after_line}
 use Rattle.scenario_text.specs.ScenarioParts.{ScenarioParts}
 use Rattle.scenario_text.specs.declared.lines.RateLine.{RateLine}
 use Rattle.scenario_text.specs.declared.network_line.NetworkLine.TheVariants.{Sends}
@@ -147,6 +149,6 @@ canonical_says s is =
     let text : List ℕ = canonical s in
     let d : Scenario = with_captures s s.trace.captures in
     let cut = lines_back (canonical_lines s) (goes_words no_scenario d (canonical_lines s) goes) in
-    let read : after_lines after_line 1 no_scenario (lines text) ≡ Ok d = ap (after_lines after_line 1 no_scenario) cut ∙ goes_after 1 no_scenario d (canonical_lines s) goes in
+    let read : after_lines (after_line after_words) 1 no_scenario (lines text) ≡ Ok d = ap (after_lines (after_line after_words) 1 no_scenario) cut ∙ goes_after 1 no_scenario d (canonical_lines s) goes in
     ap (λ (r : Result Scenario (ℕ × FaultKind)). r >>= (λ e. in_line (length (lines text) + 1) (finished e))) read
     ∙ ap (λ (r : Result ScenarioParts FaultKind). in_line (length (lines text) + 1) r) (ends s is)

@@ -5,21 +5,22 @@ use Rattle.std.proofs.lemmas.List.Elements.{All-from_recursion}
 use Rattle.std.proofs.lemmas.Option.{IfSome_then, cond_some}
 use Rattle.std.specs.Int.RustNames.{unsigned_abs}
 use Rattle.std.specs.Option.{option_map_or}
-use Rattle.std.specs.Str.{is_utf8}
 use Rattle.scenario_text.specs.FloodParts.{IsSound, knows}
-use Rattle.scenario_text.specs.Words.{words, is_skipped}
+use Rattle.scenario_text.specs.Words.{words}
 use Rattle.scenario_text.specs.Network.{Drafted, Parts, network_fault, with_line, with_node, network_parts, rates_by_node, is_id, last_rate, ppm}
-use Rattle.scenario_text.specs.FloodGrammar.{Flood, rule_fault, with_flood_line, after_spelled, after_words, after_line, flood_line, flood_numbers, no_flood}
-use Rattle.scenario_text.specs.Faults.{unless_fault}
+use Rattle.scenario_text.specs.FloodGrammar.{Flood, rule_fault, with_flood_line, after_spelled, after_words, flood_line, flood_numbers, no_flood}
+use Rattle.scenario_text.specs.Faults.{unless_fault, spelled, ◌>>=◌, after_lines}
+use Rattle.scenario_text.specs.Reading.{after_line}
 use Rattle.scenario_text.specs.FloodDrafts.{Rises, IsRate, IsNetwork, IsFlood}
 use Rattle.scenario_text.specs.declared.fault.FaultKind.{FaultKind}
-use Rattle.scenario_text.specs.declared.fault.FaultKind.TheVariants.{NotUtf8, BadNumber, Range, UnknownNode, Order, Twice, TooMany}
+use Rattle.scenario_text.specs.declared.fault.FaultKind.TheVariants.{BadNumber, Range, UnknownNode, Order, Twice, TooMany}
 use Rattle.scenario_text.specs.declared.flood_line.FloodLine.{FloodLine}
 use Rattle.scenario_text.specs.declared.flood_line.FloodLine.TheVariants.{InNetwork, Lose, Start}
 use Rattle.scenario_text.specs.declared.lines.NodeLine.{NodeLine}
 use Rattle.scenario_text.specs.declared.lines.RateLine.{RateLine}
 use Rattle.scenario_text.specs.declared.network_line.NetworkLine.{NetworkLine}
 use Rattle.scenario_text.specs.declared.network_line.NetworkLine.TheVariants.{Sends, Node, Rate, Link, Pair}
+use Rattle.scenario_text.proofs.LinesRead.{line_keeps, lines_keep}
 use Rattle.scenario_text.proofs.NodeIds.{with_node-all, with_node-rises, with_node-length, with_node-knows, pairs_rise}
 use Rattle.scenario_text.proofs.RatesKept.{map_all, later_all, all_append, climbs_more, all_by_node, each_ascends, ppm_small}
 
@@ -32,7 +33,14 @@ pub network_keeps : (last : ℕ) (d : Drafted) (l : NetworkLine) → last < 2 ^ 
 network_keeps last d (Sends x) early sound none =
     let range = passed (nat_le 1 x && nat_le x 4) Range _ none in
     let ends = and_parts (nat_le 1 x) (nat_le x 4) range.0 in
-    record { sends = (leb-true _ _ ends.0, leb-true _ _ ends.1); few_nodes = sound.few_nodes; rises = sound.rises; offsets = sound.offsets; follows = sound.follows; rates = sound.rates }
+    record {
+      sends = (leb-true _ _ ends.0, leb-true _ _ ends.1);
+      few_nodes = sound.few_nodes;
+      rises = sound.rises;
+      offsets = sound.offsets;
+      follows = sound.follows;
+      rates = sound.rates;
+    }
 network_keeps last d (Node i o) early sound none =
     let n : NodeLine = record { node = i; offset = o } in
     let range = passed (is_id i && nat_le o 256000) Range _ none in
@@ -64,8 +72,10 @@ network_keeps last d (Rate i t slow p) early sound none =
       rates = all_append (IsRate d.nodes) d.rates (r ∷ []) sound.rates
           (record { known = known.0; early = omega (arith, tick, early); small = ppm_small slow p (leb-true p 20 ends.1) }, tt);
     }
-network_keeps last d (Link u v) early sound none = record { sends = sound.sends; few_nodes = sound.few_nodes; rises = sound.rises; offsets = sound.offsets; follows = sound.follows; rates = sound.rates }
-network_keeps last d (Pair u v) early sound none = record { sends = sound.sends; few_nodes = sound.few_nodes; rises = sound.rises; offsets = sound.offsets; follows = sound.follows; rates = sound.rates }
+network_keeps last d (Link u v) early sound none =
+    record { sends = sound.sends; few_nodes = sound.few_nodes; rises = sound.rises; offsets = sound.offsets; follows = sound.follows; rates = sound.rates }
+network_keeps last d (Pair u v) early sound none =
+    record { sends = sound.sends; few_nodes = sound.few_nodes; rises = sound.rises; offsets = sound.offsets; follows = sound.follows; rates = sound.rates }
 
 -- a node that is known stays so
 nodes_stay : (d : Drafted) (l : NetworkLine) (v : ℕ) → Rises d.nodes → knows d.nodes v ≡ true → knows (with_line d l).nodes v ≡ true
@@ -82,7 +92,10 @@ flood_keeps f (InNetwork l) sound none = record {
 }
 flood_keeps f (Lose k u v) sound none =
     let n = sound.network in
-    record { network = record { sends = n.sends; few_nodes = n.few_nodes; rises = n.rises; offsets = n.offsets; follows = n.follows; rates = n.rates }; start_known = sound.start_known }
+    record {
+      network = record { sends = n.sends; few_nodes = n.few_nodes; rises = n.rises; offsets = n.offsets; follows = n.follows; rates = n.rates };
+      start_known = sound.start_known;
+    }
 flood_keeps f (Start i) sound none =
     let range = passed (is_id i) Range _ none in
     let known = passed (knows f.network.nodes i) UnknownNode _ range.1 in
@@ -92,31 +105,40 @@ pub unless_keeps : {D : Type 0} (P : D → Type 0) (o : Option FaultKind) (d : D
 unless_keeps P None d sound = sound refl
 unless_keeps P (Some k) d sound = tt
 
-words_keep : (f : Flood) (ws : List (List ℕ)) (o : Option FloodLine) → IsFlood f → IfOk (after_words f ws o) IsFlood
-words_keep f ws None sound = tt
-words_keep f ws (Some l) sound = cond_both (flood_numbers l ws) (after_spelled f l) (Err BadNumber) (λ r. IfOk r IsFlood) (λ is. unless_keeps IsFlood (rule_fault f l) (with_flood_line f l) (λ none. flood_keeps f l sound none)) (λ not. tt)
+-- what follows of a line that is spelled right
+pub spelled_keeps : {L D : Type 0} (P : D → Type 0) (o : Option L) (right : L → Bool) (after : L → Result D FaultKind)
+    → ((l : L) → o ≡ Some l → IfOk (after l) P) → IfOk (spelled o right >>= after) P
+spelled_keeps P None right after keeps = tt
+spelled_keeps P (Some l) right after keeps =
+    cond_both (right l) (Ok l) (Err BadNumber) (λ (r : Result _ FaultKind). IfOk (r >>= after) P) (λ is. keeps l refl) (λ not. tt)
 
-pub line_keeps : (f : Flood) (line : List ℕ) → IsFlood f → IfOk (after_line f line) IsFlood
-unfolding after_line
-line_keeps f line sound =
-    cond_both (is_skipped (words line)) (Ok f) _ (λ r. IfOk r IsFlood) (λ is. sound)
-    (λ not. cond_both (is_utf8 line) (after_words f (words line) (flood_line (words line))) (Err NotUtf8) (λ r. IfOk r IsFlood) (λ is. words_keep f (words line) _ sound) (λ not. tt))
+words_keep : (f : Flood) (ws : List (List ℕ)) → IsFlood f → IfOk (after_words f ws) IsFlood
+unfolding after_words
+words_keep f ws sound =
+    spelled_keeps IsFlood (flood_line ws) (λ (l : FloodLine). flood_numbers l ws) (after_spelled f)
+    (λ l is. unless_keeps IsFlood (rule_fault f l) (with_flood_line f l) (λ none. flood_keeps f l sound none))
 
 pub at_ok : {A E : Type 0} (P : A → Type 0) (r : Result A E) (x : A) → r ≡ Ok x → IfOk r P → P x
 at_ok P r x is holds = subst (λ (q : Result _ _). IfOk q P) is holds
 
--- behind an allowed line
-pub read_keeps : (f g : Flood) (line : List ℕ) → IsFlood f → after_line f line ≡ Ok g → IsFlood g
-read_keeps f g line sound is = at_ok IsFlood (after_line f line) g is (line_keeps f line sound)
+nothing_sound : IsFlood no_flood
+nothing_sound = record {
+  network = record { sends = tt; few_nodes = omega arith; rises = tt; offsets = tt; follows = tt; rates = tt };
+  start_known = tt;
+}
 
-pub nothing_sound : IsFlood no_flood
-nothing_sound = record { network = record { sends = tt; few_nodes = omega arith; rises = tt; offsets = tt; follows = tt; rates = tt }; start_known = tt }
+-- behind allowed lines
+pub text_sound : (f : Flood) (ls : List (List ℕ)) → after_lines (after_line after_words) 1 no_flood ls ≡ Ok f → IsFlood f
+text_sound f ls is =
+    lines_keep IsFlood (after_line after_words)
+    (λ d line sound. line_keeps IsFlood after_words d line sound (words_keep d (words line) sound)) 1 no_flood f ls nothing_sound is
 
 abbrev parts_at : Drafted → ℕ → Parts
 parts_at d n = record { sends = n; nodes = d.nodes; rates = rates_by_node d.nodes d.rates; trace = d.trace }
 
 -- the parts of a draft that misses nothing
-pub parts_sound : (d : Drafted) (o : Option ℕ) (p : Parts) (s : ℕ) → IsNetwork d → IfSome o (λ n. (1 ≤ n) × (n ≤ 4)) → knows d.nodes s ≡ true → Some p ≡ network_parts d o
+pub parts_sound : (d : Drafted) (o : Option ℕ) (p : Parts) (s : ℕ) → IsNetwork d → IfSome o (λ n. (1 ≤ n) × (n ≤ 4)) → knows d.nodes s ≡ true
+    → Some p ≡ network_parts d o
     → IsSound (record { sends = p.sends; nodes = p.nodes; rates = p.rates; trace = p.trace; start = s })
 parts_sound d None p s sound few known is = cc
 parts_sound d (Some n) p s sound few known is =
@@ -131,12 +153,14 @@ parts_sound d (Some n) p s sound few known is =
       offsets = All-from_recursion (λ (m : NodeLine). m.offset ≤ 256000) d.nodes sound.offsets;
       start_known = known;
       rates_known = All-from_recursion (λ (r : RateLine). knows d.nodes r.node ≡ true) (rates_by_node d.nodes d.rates)
-          (all_by_node (λ r. knows d.nodes r.node ≡ true) d.nodes d.rates (map_all (IsRate d.nodes) (λ r. knows d.nodes r.node ≡ true) d.rates (λ r is. is.known) sound.rates));
+          (all_by_node (λ r. knows d.nodes r.node ≡ true) d.nodes d.rates
+          (map_all (IsRate d.nodes) (λ r. knows d.nodes r.node ≡ true) d.rates (λ r is. is.known) sound.rates));
       rates_ascend = λ i. each_ascends d.nodes d.rates i sound.rises sound.follows;
       rates_early = All-from_recursion (λ (r : RateLine). r.from < 2 ^ 47) (rates_by_node d.nodes d.rates)
           (all_by_node (λ r. r.from < 2 ^ 47) d.nodes d.rates (map_all (IsRate d.nodes) (λ r. r.from < 2 ^ 47) d.rates (λ r is. is.early) sound.rates));
       rates_small = All-from_recursion (λ (r : RateLine). unsigned_abs r.ppm ≤ 20) (rates_by_node d.nodes d.rates)
-          (all_by_node (λ r. unsigned_abs r.ppm ≤ 20) d.nodes d.rates (map_all (IsRate d.nodes) (λ r. unsigned_abs r.ppm ≤ 20) d.rates (λ r is. is.small) sound.rates));
+          (all_by_node (λ r. unsigned_abs r.ppm ≤ 20) d.nodes d.rates
+          (map_all (IsRate d.nodes) (λ r. unsigned_abs r.ppm ≤ 20) d.rates (λ r is. is.small) sound.rates));
     })
 
 pub at_start : (P : ℕ → Type 0) (o : Option ℕ) (i : ℕ) → o ≡ Some i → IfSome o P → P i

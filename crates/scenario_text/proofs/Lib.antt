@@ -11,6 +11,8 @@ pub mod FloodKeeps
 pub mod ScenarioExamples
 pub mod CanonicalExamples
 -- for this crate alone
+pub mod NumbersRead
+pub mod WordsRead
 pub mod Known
 pub mod FloodExamples
 pub mod CanonicalParts

@@ -9,7 +9,8 @@ use Rattle.std.specs.declared.cmp.Ordering.TheVariants.{Less}
 use Rattle.link_trace.specs.Order.{with_line}
 use Rattle.scenario_text.specs.Faults.{first_fault, after_lines}
 use Rattle.scenario_text.specs.FloodDrafts.{Climbs}
-use Rattle.scenario_text.specs.ScenarioGrammar.{Scenario, with_scenario_line, after_line, line_in_range, line_knows_ids, line_in_order, line_is_new, line_has_room}
+use Rattle.scenario_text.specs.ScenarioGrammar.{Scenario, with_scenario_line, after_words, line_in_range, line_knows_ids, line_in_order, line_is_new, line_has_room}
+use Rattle.scenario_text.specs.Reading.{after_line}
 use Rattle.scenario_text.specs.declared.fault.FaultKind.TheVariants.{Range, UnknownNode, Order, Twice, TooMany}
 use Rattle.scenario_text.specs.declared.scenario_line.ScenarioLine.{ScenarioLine}
 use Rattle.scenario_text.proofs.TextBack.{IsWord}
@@ -19,7 +20,7 @@ use Rattle.scenario_text.proofs.LinesRead.{one_line_more}
 -- one line
 pub record Step (d : Scenario) (ws : List (List ℕ)) (e : Scenario) : Type 0 where
   pub are_words : AllByRecursion IsWord ws
-  pub after : after_line d (join_with_byte 32 ws) ≡ Ok e
+  pub after : after_line after_words d (join_with_byte 32 ws) ≡ Ok e
 
 -- the lines, from one draft to another
 abbrev pub Goes : Scenario → List (List (List ℕ)) → Scenario → Type 0
@@ -34,10 +35,12 @@ pub goes_words : (d e : Scenario) (ls : List (List (List ℕ))) → Goes d ls e 
 goes_words d e [] goes = tt
 goes_words d e (ws ∷ ls) goes = (goes.1.0.are_words, goes_words goes.0 e ls goes.1.1)
 
-pub goes_after : (n : ℕ) (d e : Scenario) (ls : List (List (List ℕ))) → Goes d ls e → after_lines after_line n d (map (join_with_byte 32) ls) ≡ Ok e
+pub goes_after : (n : ℕ) (d e : Scenario) (ls : List (List (List ℕ))) → Goes d ls e
+    → after_lines (after_line after_words) n d (map (join_with_byte 32) ls) ≡ Ok e
 goes_after n d e [] goes = ap Ok goes
 goes_after n d e (ws ∷ ls) goes =
-    one_line_more after_line n d goes.0 (join_with_byte 32 ws) (map (join_with_byte 32) ls) goes.1.0.after ∙ goes_after (n + 1) goes.0 e ls goes.1.1
+    one_line_more (after_line after_words) n d goes.0 (join_with_byte 32 ws) (map (join_with_byte 32) ls) goes.1.0.after
+    ∙ goes_after (n + 1) goes.0 e ls goes.1.1
 
 -- an allowed line
 pub record Allowed (d : Scenario) (l : ScenarioLine) : Type 0 where
@@ -59,7 +62,11 @@ no_fault a b c d e p q r s t =
 pub step : (d : Scenario) (ws : List (List ℕ)) (l : ScenarioLine) (e : Scenario) → Says ws l → Allowed d l → with_scenario_line d l ≡ e → Step d ws e
 step d ws l e says allowed is = record {
   are_words = says.are_words;
-  after = said d ws l says (no_fault (line_in_range d l) (line_knows_ids d l) (line_in_order d l) (line_is_new d l) (line_has_room d l) allowed.range allowed.known allowed.order allowed.fresh allowed.room) ∙ ap Ok is;
+  after =
+      said d ws l says
+      (no_fault (line_in_range d l) (line_knows_ids d l) (line_in_order d l) (line_is_new d l)
+      (line_has_room d l) allowed.range allowed.known allowed.order allowed.fresh allowed.room)
+      ∙ ap Ok is;
 }
 
 -- the lines of a list, where each step appends an element
@@ -67,7 +74,8 @@ pub goes_list : {A : Type 0} (words : A → List (List ℕ)) (state : List A →
     → ((xs : List A) (x : A) (ys : List A) → xs ++ x ∷ ys ≡ whole → Step (state xs) (words x) (state (xs ++ x ∷ [])))
     → (xs ys : List A) → xs ++ ys ≡ whole → Goes (state xs) (map words ys) (state whole)
 goes_list words state whole one xs [] is = ap state (sym (append-nil xs) ∙ is)
-goes_list words state whole one xs (y ∷ ys) is = (state (xs ++ y ∷ []), (one xs y ys is, goes_list words state whole one (xs ++ y ∷ []) ys (append_assoc xs (y ∷ []) ys ∙ is)))
+goes_list words state whole one xs (y ∷ ys) is =
+    (state (xs ++ y ∷ []), (one xs y ys is, goes_list words state whole one (xs ++ y ∷ []) ys (append_assoc xs (y ∷ []) ys ∙ is)))
 
 -- an element among others
 pub middle : {A : Type 0} (P : A → Type 0) (xs : List A) (x : A) (ys : List A) → AllByRecursion P (xs ++ x ∷ ys) → P x
@@ -87,7 +95,8 @@ climbs_front R [] ys climbs = tt
 climbs_front R (x ∷ xs) ys climbs = (front_all (R x) xs ys climbs.0, climbs_front R xs ys climbs.1)
 
 -- a line above all others is the last
-pub with_line_last : {L : Type 0} (order : L → L → Ordering) (l : L) (ls : List L) → AllByRecursion (λ x. order x l ≡ Less) ls → with_line order l ls ≡ ls ++ l ∷ []
+pub with_line_last : {L : Type 0} (order : L → L → Ordering) (l : L) (ls : List L) → AllByRecursion (λ x. order x l ≡ Less) ls
+    → with_line order l ls ≡ ls ++ l ∷ []
 with_line_last order l [] all = refl
 with_line_last order l (x ∷ xs) all =
     cond-true (is_lt (order x l)) (x ∷ with_line order l xs) (l ∷ x ∷ xs) (ap is_lt all.0) ∙ ap (λ (r : List _). x ∷ r) (with_line_last order l xs all.1)

@@ -1,16 +1,18 @@
 -- What the words of each canonical line say.
-use Rattle.std.proofs.Common.{◌≡◌, ℕ, ◌<◌, ◌≤◌, ℤ, List, [], ◌∷◌, ◌++◌, true, false, if◌then◌else◌, Option, Some, None, Ok, Err, map, codes, decimal, refl, ◌∙◌, ap, arith}
+use Rattle.std.proofs.Common.{◌≡◌, ℕ, ◌<◌, ◌≤◌, ℤ, List, [], ◌∷◌, ◌++◌, Bool, true, false, if◌then◌else◌, Option, Some, None, Ok, Err, Result, map, codes, decimal, refl, ◌∙◌, ap, arith}
 use Rattle.std.proofs.lemmas.Bool.{cond-true, cond-false, and_from}
 use Rattle.std.specs.Fmt.{signed_decimal}
 use Rattle.std.specs.Int.RustNames.{unsigned_abs}
 use Rattle.std.specs.List.{AllByRecursion, list_all, join_with_byte}
 use Rattle.std.specs.Str.{is_utf8}
 use Rattle.scenario_text.specs.Words.{is_skipped, is_number, number, has_minus, magnitude}
-use Rattle.scenario_text.specs.Faults.{unless_fault}
+use Rattle.scenario_text.specs.Faults.{unless_fault, spelled, ◌>>=◌}
+use Rattle.scenario_text.specs.Reading.{after_line}
 use Rattle.scenario_text.specs.Network.{network_line}
-use Rattle.scenario_text.specs.Payloads.{is_payload, payload, payload_word}
-use Rattle.scenario_text.specs.Canonical.{numbered}
-use Rattle.scenario_text.specs.ScenarioGrammar.{Scenario, scenario_line, scenario_numbers, line_fault, with_scenario_line, after_words, after_line}
+use Rattle.text_writers.specs.HexWords.{payload_word}
+use Rattle.scenario_text.specs.Payloads.{is_payload, payload}
+use Rattle.text_writers.specs.Lines.{numbered}
+use Rattle.scenario_text.specs.ScenarioGrammar.{Scenario, scenario_line, script_line, step_line, put_line, scenario_numbers, line_fault, with_scenario_line, after_spelled, after_words}
 use Rattle.scenario_text.specs.declared.fault.FaultKind.{FaultKind}
 use Rattle.scenario_text.specs.declared.fault.FaultKind.TheVariants.{NotUtf8, BadNumber}
 use Rattle.scenario_text.specs.declared.network_line.NetworkLine.TheVariants.{Sends, Node, Rate, Link}
@@ -27,15 +29,18 @@ pub record Says (ws : List (List ℕ)) (l : ScenarioLine) : Type 0 where
   pub right : scenario_numbers l ws ≡ true
 
 -- behind a line of such words that is allowed
-pub said : (d : Scenario) (ws : List (List ℕ)) (l : ScenarioLine) → Says ws l → line_fault d l ≡ None → after_line d (join_with_byte 32 ws) ≡ Ok (with_scenario_line d l)
-unfolding after_line
+pub said : (d : Scenario) (ws : List (List ℕ)) (l : ScenarioLine) → Says ws l → line_fault d l ≡ None
+    → after_line after_words d (join_with_byte 32 ws) ≡ Ok (with_scenario_line d l)
+unfolding after_line after_words
 said d ws l says none =
     let text = join_with_byte 32 ws in
-    ap (λ (vs : List (List ℕ)). if is_skipped vs then Ok d else if is_utf8 text then after_words d vs (scenario_line vs) else Err NotUtf8) (words_back ws says.are_words)
-    ∙ cond-false (is_skipped ws) (Ok d) (if is_utf8 text then after_words d ws (scenario_line ws) else Err NotUtf8) says.unskipped
-    ∙ cond-true (is_utf8 text) (after_words d ws (scenario_line ws)) (Err NotUtf8) (line_is_text ws says.are_words)
-    ∙ ap (after_words d ws) says.line
-    ∙ cond-true (scenario_numbers l ws) (unless_fault (line_fault d l) (with_scenario_line d l)) (Err BadNumber) says.right
+    let right : ScenarioLine → Bool = λ m. scenario_numbers m ws in
+    ap (λ (vs : List (List ℕ)). if is_skipped vs then Ok d else if is_utf8 text then after_words d vs else Err NotUtf8)
+    (words_back ws says.are_words)
+    ∙ cond-false (is_skipped ws) (Ok d) (if is_utf8 text then after_words d ws else Err NotUtf8) says.unskipped
+    ∙ cond-true (is_utf8 text) (after_words d ws) (Err NotUtf8) (line_is_text ws says.are_words)
+    ∙ ap (λ (o : Option ScenarioLine). spelled o right >>= after_spelled d) says.line
+    ∙ ap (λ (r : Result ScenarioLine FaultKind). r >>= after_spelled d) (cond-true (right l) (Ok l) (Err BadNumber) says.right)
     ∙ ap (λ (o : Option FaultKind). unless_fault o (with_scenario_line d l)) none
 
 abbrev pub Small : ℕ → Type 0
@@ -51,7 +56,8 @@ number_words (n ∷ ns) all = (decimal_word n all.0, number_words ns all.1)
 
 -- a first word and numbers
 with_numbers : (letters : List ℕ) (ns : List ℕ) (l : ScenarioLine) → IsWord letters → AllByRecursion Small ns → is_skipped (numbered letters ns) ≡ false
-    → scenario_line (numbered letters ns) ≡ Some l → scenario_numbers l (numbered letters ns) ≡ list_all is_number (map decimal ns) → Says (numbered letters ns) l
+    → scenario_line (numbered letters ns) ≡ Some l → scenario_numbers l (numbered letters ns) ≡ list_all is_number (map decimal ns)
+    → Says (numbered letters ns) l
 with_numbers letters ns l is small unskipped line numbers = record {
   are_words = (is, number_words ns small);
   unskipped = unskipped;
@@ -78,85 +84,85 @@ five : (L : ℕ → ℕ → ℕ → ℕ → ℕ → ScenarioLine) (a b c d e : �
 five L a b c d e s t u v w = one (λ x. L x (number (decimal b)) (number (decimal c)) (number (decimal d)) (number (decimal e))) a s ∙ four (L a) b c d e t u v w
 
 pub says_profile : (a : ℕ) → Small a → Says (numbered (codes "profile") (a ∷ [])) (Profile a)
-unfolding scenario_line
+unfolding scenario_line script_line step_line put_line
 says_profile a sa =
     with_numbers (codes "profile") (a ∷ []) (Profile a) (omega arith, ((omega arith, omega arith), ((omega arith, omega arith), ((omega arith, omega arith), ((omega arith, omega arith), ((omega arith, omega arith), ((omega arith, omega arith), ((omega arith, omega arith), tt)))))))) (sa, tt) refl
     (one (λ x0. Profile x0) a sa) refl
 
 pub says_contend : (a : ℕ) → Small a → Says (numbered (codes "contend") (a ∷ [])) (Contend a)
-unfolding scenario_line
+unfolding scenario_line script_line step_line put_line
 says_contend a sa =
     with_numbers (codes "contend") (a ∷ []) (Contend a) (omega arith, ((omega arith, omega arith), ((omega arith, omega arith), ((omega arith, omega arith), ((omega arith, omega arith), ((omega arith, omega arith), ((omega arith, omega arith), ((omega arith, omega arith), tt)))))))) (sa, tt) refl
     (one (λ x0. Contend x0) a sa) refl
 
 pub says_frames : (a : ℕ) → Small a → Says (numbered (codes "frames") (a ∷ [])) (Frames a)
-unfolding scenario_line
+unfolding scenario_line script_line step_line put_line
 says_frames a sa =
     with_numbers (codes "frames") (a ∷ []) (Frames a) (omega arith, ((omega arith, omega arith), ((omega arith, omega arith), ((omega arith, omega arith), ((omega arith, omega arith), ((omega arith, omega arith), ((omega arith, omega arith), tt))))))) (sa, tt) refl
     (one (λ x0. Frames x0) a sa) refl
 
 pub says_sends : (a : ℕ) → Small a → Says (numbered (codes "sends") (a ∷ [])) (InNetwork (Sends a))
-unfolding scenario_line network_line
+unfolding scenario_line script_line step_line put_line network_line
 says_sends a sa =
     with_numbers (codes "sends") (a ∷ []) (InNetwork (Sends a)) (omega arith, ((omega arith, omega arith), ((omega arith, omega arith), ((omega arith, omega arith), ((omega arith, omega arith), ((omega arith, omega arith), tt)))))) (sa, tt) refl
     (one (λ x0. InNetwork (Sends x0)) a sa) refl
 
 pub says_node : (a b : ℕ) → Small a → Small b → Says (numbered (codes "node") (a ∷ b ∷ [])) (InNetwork (Node a b))
-unfolding scenario_line network_line
+unfolding scenario_line script_line step_line put_line network_line
 says_node a b sa sb =
     with_numbers (codes "node") (a ∷ b ∷ []) (InNetwork (Node a b)) (omega arith, ((omega arith, omega arith), ((omega arith, omega arith), ((omega arith, omega arith), ((omega arith, omega arith), tt))))) (sa, (sb, tt)) refl
     (two (λ x0 x1. InNetwork (Node x0 x1)) a b sa sb) refl
 
 pub says_host : (a b : ℕ) → Small a → Small b → Says (numbered (codes "host") (a ∷ b ∷ [])) (Host a b)
-unfolding scenario_line
+unfolding scenario_line script_line step_line put_line
 says_host a b sa sb =
     with_numbers (codes "host") (a ∷ b ∷ []) (Host a b) (omega arith, ((omega arith, omega arith), ((omega arith, omega arith), ((omega arith, omega arith), ((omega arith, omega arith), tt))))) (sa, (sb, tt)) refl
     (two (λ x0 x1. Host x0 x1) a b sa sb) refl
 
 pub says_link : (a b : ℕ) → Small a → Small b → Says (numbered (codes "link") (a ∷ b ∷ [])) (InNetwork (Link a b))
-unfolding scenario_line network_line
+unfolding scenario_line script_line step_line put_line network_line
 says_link a b sa sb =
     with_numbers (codes "link") (a ∷ b ∷ []) (InNetwork (Link a b)) (omega arith, ((omega arith, omega arith), ((omega arith, omega arith), ((omega arith, omega arith), ((omega arith, omega arith), tt))))) (sa, (sb, tt)) refl
     (two (λ x0 x1. InNetwork (Link x0 x1)) a b sa sb) refl
 
 pub says_on : (a b : ℕ) → Small a → Small b → Says (numbered (codes "on") (a ∷ b ∷ [])) (On a b)
-unfolding scenario_line
+unfolding scenario_line script_line step_line put_line
 says_on a b sa sb =
     with_numbers (codes "on") (a ∷ b ∷ []) (On a b) (omega arith, ((omega arith, omega arith), ((omega arith, omega arith), tt))) (sa, (sb, tt)) refl
     (two (λ x0 x1. On x0 x1) a b sa sb) refl
 
 pub says_off : (a b : ℕ) → Small a → Small b → Says (numbered (codes "off") (a ∷ b ∷ [])) (Off a b)
-unfolding scenario_line
+unfolding scenario_line script_line step_line put_line
 says_off a b sa sb =
     with_numbers (codes "off") (a ∷ b ∷ []) (Off a b) (omega arith, ((omega arith, omega arith), ((omega arith, omega arith), ((omega arith, omega arith), tt)))) (sa, (sb, tt)) refl
     (two (λ x0 x1. Off x0 x1) a b sa sb) refl
 
 pub says_stream : (a b c d : ℕ) → Small a → Small b → Small c → Small d → Says (numbered (codes "stream") (a ∷ b ∷ c ∷ d ∷ [])) (Stream a b c d)
-unfolding scenario_line
+unfolding scenario_line script_line step_line put_line
 says_stream a b c d sa sb sc sd =
     with_numbers (codes "stream") (a ∷ b ∷ c ∷ d ∷ []) (Stream a b c d) (omega arith, ((omega arith, omega arith), ((omega arith, omega arith), ((omega arith, omega arith), ((omega arith, omega arith), ((omega arith, omega arith), ((omega arith, omega arith), tt))))))) (sa, (sb, (sc, (sd, tt)))) refl
     (four (λ x0 x1 x2 x3. Stream x0 x1 x2 x3) a b c d sa sb sc sd) refl
 
 pub says_leave : (a b c : ℕ) → Small a → Small b → Small c → Says (numbered (codes "leave") (a ∷ b ∷ c ∷ [])) (Leave a b c)
-unfolding scenario_line
+unfolding scenario_line script_line step_line put_line
 says_leave a b c sa sb sc =
     with_numbers (codes "leave") (a ∷ b ∷ c ∷ []) (Leave a b c) (omega arith, ((omega arith, omega arith), ((omega arith, omega arith), ((omega arith, omega arith), ((omega arith, omega arith), ((omega arith, omega arith), tt)))))) (sa, (sb, (sc, tt))) refl
     (three (λ x0 x1 x2. Leave x0 x1 x2) a b c sa sb sc) refl
 
 pub says_lose : (a b c d e : ℕ) → Small a → Small b → Small c → Small d → Small e → Says (numbered (codes "lose") (a ∷ b ∷ c ∷ d ∷ e ∷ [])) (Lose a b c d e)
-unfolding scenario_line
+unfolding scenario_line script_line step_line put_line
 says_lose a b c d e sa sb sc sd se =
     with_numbers (codes "lose") (a ∷ b ∷ c ∷ d ∷ e ∷ []) (Lose a b c d e) (omega arith, ((omega arith, omega arith), ((omega arith, omega arith), ((omega arith, omega arith), ((omega arith, omega arith), tt))))) (sa, (sb, (sc, (sd, (se, tt))))) refl
     (five (λ x0 x1 x2 x3 x4. Lose x0 x1 x2 x3 x4) a b c d e sa sb sc sd se) refl
 
 pub says_cut : (a b c d : ℕ) → Small a → Small b → Small c → Small d → Says (numbered (codes "cut") (a ∷ b ∷ c ∷ d ∷ [])) (Cut a b c d)
-unfolding scenario_line
+unfolding scenario_line script_line step_line put_line
 says_cut a b c d sa sb sc sd =
     with_numbers (codes "cut") (a ∷ b ∷ c ∷ d ∷ []) (Cut a b c d) (omega arith, ((omega arith, omega arith), ((omega arith, omega arith), ((omega arith, omega arith), tt)))) (sa, (sb, (sc, (sd, tt)))) refl
     (four (λ x0 x1 x2 x3. Cut x0 x1 x2 x3) a b c d sa sb sc sd) refl
 
 pub says_capture : (a b c d e : ℕ) → Small a → Small b → Small c → Small d → Small e → Says (numbered (codes "capture") (a ∷ b ∷ c ∷ d ∷ e ∷ [])) (Capture a b c d e)
-unfolding scenario_line
+unfolding scenario_line script_line step_line put_line
 says_capture a b c d e sa sb sc sd se =
     with_numbers (codes "capture") (a ∷ b ∷ c ∷ d ∷ e ∷ []) (Capture a b c d e) (omega arith, ((omega arith, omega arith), ((omega arith, omega arith), ((omega arith, omega arith), ((omega arith, omega arith), ((omega arith, omega arith), ((omega arith, omega arith), ((omega arith, omega arith), tt)))))))) (sa, (sb, (sc, (sd, (se, tt))))) refl
     (five (λ x0 x1 x2 x3 x4. Capture x0 x1 x2 x3 x4) a b c d e sa sb sc sd se) refl
@@ -164,7 +170,7 @@ says_capture a b c d e sa sb sc sd se =
 -- a rate's millionths may have a `-`
 pub says_rate : (i t : ℕ) (z : ℤ) → Small i → Small t → unsigned_abs z ≤ 20
     → Says (numbered (codes "rate") (i ∷ t ∷ []) ++ signed_decimal z ∷ []) (InNetwork (Rate i t (has_minus (signed_decimal z)) (number (magnitude (signed_decimal z)))))
-unfolding scenario_line network_line
+unfolding scenario_line script_line step_line put_line network_line
 says_rate i t z si st few =
     let w : List ℕ = signed_decimal z in
     let reads = signed_back z few in
@@ -178,7 +184,7 @@ says_rate i t z si st few =
 -- the last word of a `put` is a payload
 pub says_put : (f i s : ℕ) (p : List ℕ) → Small f → Small i → Small s → ReadsPayload p (payload_word p)
     → Says (numbered (codes "put") (f ∷ i ∷ s ∷ []) ++ payload_word p ∷ []) (Put f i s (Some p))
-unfolding scenario_line
+unfolding scenario_line script_line step_line put_line
 says_put f i s p sf si ss reads =
     let w : List ℕ = payload_word p in
     record {

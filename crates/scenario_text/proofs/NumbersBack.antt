@@ -11,7 +11,8 @@ use Rattle.std.specs.Str.{bytes_eq}
 use Rattle.std.specs.Str.Parse.{digits_value}
 use Rattle.scenario_text.specs.Words.{is_number, number, has_minus, magnitude, is_signed}
 use Rattle.scenario_text.specs.Network.{ppm}
-use Rattle.scenario_text.specs.Payloads.{is_payload, payload, payload_bytes, payload_word, hex_digits, hex_bytes, hex_value}
+use Rattle.text_writers.specs.HexWords.{payload_word, hex_digits}
+use Rattle.scenario_text.specs.Payloads.{is_payload, payload, payload_bytes, hex_bytes, hex_value}
 use Rattle.scenario_text.proofs.RatesKept.{map_all}
 use Rattle.scenario_text.proofs.TextBack.{IsGlyph, IsWord}
 

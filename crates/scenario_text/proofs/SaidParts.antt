@@ -4,25 +4,27 @@ use Rattle.std.proofs.lemmas.Bool.{cond_both, or_cases, leb-true, eqb-true, eqb-
 use Rattle.std.proofs.lemmas.Bool.Decides.{nat_tests}
 use Rattle.std.specs.Char.{is_ascii_hexdigit, digit_value}
 use Rattle.std.specs.List.{AllByRecursion}
-use Rattle.std.specs.Str.{bytes_eq, is_utf8}
+use Rattle.std.specs.Str.{bytes_eq}
 use Rattle.std.specs.Str.Lines.{lines}
 use Rattle.lwb_base.specs.Profile.{Numbers}
 use Rattle.scenario_text.specs.FloodParts.{knows}
 use Rattle.scenario_text.specs.FloodDrafts.{IsRate}
-use Rattle.scenario_text.specs.Words.{words, word, is_skipped, counted, number_at}
-use Rattle.scenario_text.specs.Faults.{unless_fault, after_lines, in_line, ◌>>=◌}
+use Rattle.scenario_text.specs.Words.{words, word, counted, number_at}
+use Rattle.scenario_text.specs.Faults.{after_lines, in_line, ◌>>=◌}
+use Rattle.scenario_text.specs.Reading.{after_line}
 use Rattle.scenario_text.specs.Network.{is_id, network_parts, network_line, rates_by_node}
 use Rattle.scenario_text.specs.Payloads.{is_payload, payload, payload_bytes, hex_bytes, hex_value}
-use Rattle.scenario_text.specs.ScenarioGrammar.{Scenario, no_scenario, last_tick, line_fault, with_scenario_line, after_words, after_line, scenario_line, scenario_numbers, begins, finished, finished_parts, if_small, scenario_of, IsScenario}
+use Rattle.scenario_text.specs.ScenarioGrammar.{Scenario, no_scenario, last_tick, line_fault, with_scenario_line, after_spelled, after_words, scenario_line, script_line, step_line, put_line, scenario_numbers, begins, finished, finished_parts, if_small, scenario_of, IsScenario}
 use Rattle.scenario_text.specs.ScenarioParts.{ScenarioParts}
 use Rattle.scenario_text.specs.Canonical.{canonical}
 use Rattle.scenario_text.specs.declared.fault.FaultKind.{FaultKind}
-use Rattle.scenario_text.specs.declared.fault.FaultKind.TheVariants.{NotUtf8, BadNumber, Missing, TooBig}
+use Rattle.scenario_text.specs.declared.fault.FaultKind.TheVariants.{Missing, TooBig}
 use Rattle.scenario_text.specs.declared.lines.NodeLine.{NodeLine}
 use Rattle.scenario_text.specs.declared.lines.RateLine.{RateLine}
 use Rattle.scenario_text.specs.declared.scenario_line.ScenarioLine.{ScenarioLine}
 use Rattle.scenario_text.specs.declared.scenario_line.ScenarioLine.TheVariants.{InNetwork, Profile, Contend, Frames, Host, On, Off, Stream, Leave, Put, Lose, Cut, Capture}
-use Rattle.scenario_text.proofs.FloodKeeps.{unless_keeps}
+use Rattle.scenario_text.proofs.FloodKeeps.{unless_keeps, spelled_keeps}
+use Rattle.scenario_text.proofs.LinesRead.{line_keeps, lines_keep}
 use Rattle.scenario_text.proofs.RatesKept.{map_all, all_by_node}
 use Rattle.scenario_text.proofs.RatesInTurn.{in_turn_again, no_more, turns_follow}
 use Rattle.scenario_text.proofs.CanonicalFacts.{IsNode, IsRateOf, IsHost, KeepsRules}
@@ -59,7 +61,7 @@ network_read None = tt
 network_read (Some l) = tt
 
 line_read : (ws : List (List ℕ)) → IfSome (scenario_line ws) IsRead
-unfolding scenario_line
+unfolding scenario_line script_line step_line put_line
 line_read ws =
     either (begins ws (codes "profile")) _ _ (counted_read 2 ws (Profile (number_at ws 1)) tt)
     (either (begins ws (codes "contend")) _ _ (counted_read 2 ws (Contend (number_at ws 1)) tt)
@@ -71,36 +73,28 @@ line_read ws =
     (either (begins ws (codes "leave")) _ _ (counted_read 4 ws (Leave (number_at ws 1) (number_at ws 2) (number_at ws 3)) tt)
     (either (begins ws (codes "put")) _ _
     (either (is_payload (word ws 4)) _ None
-    (counted_read 5 ws (Put (number_at ws 1) (number_at ws 2) (number_at ws 3) (payload (word ws 4))) (payload_read (number_at ws 1) (number_at ws 2) (number_at ws 3) (word ws 4))) tt)
+    (counted_read 5 ws (Put (number_at ws 1) (number_at ws 2) (number_at ws 3) (payload (word ws 4)))
+    (payload_read (number_at ws 1) (number_at ws 2) (number_at ws 3) (word ws 4))) tt)
     (either (begins ws (codes "lose")) _ _ (counted_read 6 ws (Lose (number_at ws 1) (number_at ws 2) (number_at ws 3) (number_at ws 4) (number_at ws 5)) tt)
     (either (begins ws (codes "cut")) _ _ (counted_read 5 ws (Cut (number_at ws 1) (number_at ws 2) (number_at ws 3) (number_at ws 4)) tt)
-    (either (begins ws (codes "capture")) _ _ (counted_read 6 ws (Capture (number_at ws 1) (number_at ws 2) (number_at ws 3) (number_at ws 4) (number_at ws 5)) tt)
+    (either (begins ws (codes "capture")) _ _
+    (counted_read 6 ws (Capture (number_at ws 1) (number_at ws 2) (number_at ws 3) (number_at ws 4) (number_at ws 5)) tt)
     (network_read (network_line ws)))))))))))))
 
 -- behind a line
-words_fine : (d : Scenario) (ws : List (List ℕ)) (o : Option ScenarioLine) → IsFine d → IfSome o IsRead → IfOk (after_words d ws o) IsFine
-words_fine d ws None fine read = tt
-words_fine d ws (Some l) fine read =
-    cond_both (scenario_numbers l ws) (unless_fault (line_fault d l) (with_scenario_line d l)) (Err BadNumber) (λ r. IfOk r IsFine)
-    (λ is. unless_keeps IsFine (line_fault d l) (with_scenario_line d l) (λ none. line_fine d l fine read none)) (λ not. tt)
-
-read_fine : (d : Scenario) (text : List ℕ) → IsFine d → IfOk (after_line d text) IsFine
-unfolding after_line
-read_fine d text fine =
-    cond_both (is_skipped (words text)) (Ok d) (if is_utf8 text then after_words d (words text) (scenario_line (words text)) else Err NotUtf8) (λ r. IfOk r IsFine) (λ is. fine)
-    (λ not. cond_both (is_utf8 text) (after_words d (words text) (scenario_line (words text))) (Err NotUtf8) (λ r. IfOk r IsFine) (λ is. words_fine d (words text) (scenario_line (words text)) fine (line_read (words text))) (λ not. tt))
-
-lines_fine : (n : ℕ) (d e : Scenario) (texts : List (List ℕ)) → IsFine d → after_lines after_line n d texts ≡ Ok e → IsFine e
-lines_fine n d e [] fine is = subst (λ (r : Result Scenario (ℕ × FaultKind)). IfOk r IsFine) is fine
-lines_fine n d e (text ∷ texts) fine is = one (after_line d text) (read_fine d text fine) (λ x fine is. lines_fine (n + 1) x e texts fine is) is
+words_fine : (d : Scenario) (ws : List (List ℕ)) → IsFine d → IfOk (after_words d ws) IsFine
+unfolding after_words
+words_fine d ws fine =
+    spelled_keeps IsFine (scenario_line ws) (λ (l : ScenarioLine). scenario_numbers l ws) (after_spelled d)
+    (λ l is. unless_keeps IsFine (line_fault d l) (with_scenario_line d l) (λ none. line_fine d l fine (read_as ws l is) none))
   where
-    one : (r : Result Scenario FaultKind) → IfOk r IsFine → ((x : Scenario) → IsFine x → after_lines after_line (n + 1) x texts ≡ Ok e → IsFine e)
-        → (in_line n r >>= (λ x. after_lines after_line (n + 1) x texts)) ≡ Ok e → IsFine e
-    one (Ok x) fine others is = others x fine is
-    one (Err k) fine others is = cc
+    read_as : (ws : List (List ℕ)) (l : ScenarioLine) → scenario_line ws ≡ Some l → IsRead l
+    read_as ws l is = subst (λ (o : Option ScenarioLine). IfSome o IsRead) is (line_read ws)
 
-pub fine_lines : (d : Scenario) (texts : List (List ℕ)) → after_lines after_line 1 no_scenario texts ≡ Ok d → IsFine d
-fine_lines d texts is = lines_fine 1 no_scenario d texts fine_first is
+pub fine_lines : (d : Scenario) (texts : List (List ℕ)) → after_lines (after_line after_words) 1 no_scenario texts ≡ Ok d → IsFine d
+fine_lines d texts is =
+    lines_keep IsFine (after_line after_words)
+    (λ e text fine. line_keeps IsFine after_words e text fine (words_fine e (words text) fine)) 1 no_scenario d texts fine_first is
 
 -- ids of known nodes
 pub known_id : (ns : List NodeLine) (v : ℕ) → AllByRecursion (λ n. is_id n.node ≡ true) ns → knows ns v ≡ true → is_id v ≡ true
@@ -112,7 +106,8 @@ nodes_are : (ns : List NodeLine) → AllByRecursion (λ n. is_id n.node ≡ true
 nodes_are [] ids offsets = tt
 nodes_are (n ∷ ns) ids offsets = (record { id = ids.0; offset = offsets.0 }, nodes_are ns ids.1 offsets.1)
 
-rates_are : (p : Numbers) (ns : List NodeLine) (rs : List RateLine) → AllByRecursion (λ n. is_id n.node ≡ true) ns → AllByRecursion (IsRate ns) rs → AllByRecursion (λ r. r.from ≤ last_tick p) rs
+rates_are : (p : Numbers) (ns : List NodeLine) (rs : List RateLine) → AllByRecursion (λ n. is_id n.node ≡ true) ns → AllByRecursion (IsRate ns) rs
+    → AllByRecursion (λ r. r.from ≤ last_tick p) rs
     → AllByRecursion (IsRateOf p ns) rs
 rates_are p ns [] ids rates ticks = tt
 rates_are p ns (r ∷ rs) ids rates ticks =
@@ -131,7 +126,8 @@ whole d n f = record {
   script = d.script;
 }
 
-whole_said : (d : Scenario) (n f : ℕ) → IsFine d → d.network.sends ≡ Some n → d.frames ≡ Some f → 2 ≤ length d.network.nodes → 1 ≤ length d.hosts → length d.network.nodes * f ≤ 16384 → KeepsRules (whole d n f)
+whole_said : (d : Scenario) (n f : ℕ) → IsFine d → d.network.sends ≡ Some n → d.frames ≡ Some f → 2 ≤ length d.network.nodes → 1 ≤ length d.hosts
+    → length d.network.nodes * f ≤ 16384 → KeepsRules (whole d n f)
 whole_said d n f fine sends frames two host small =
     let ns = d.network.nodes in
     let rs = d.network.rates in
@@ -174,7 +170,8 @@ ok_unless : {A E : Type 0} (b : Bool) (r : Result A E) (k : E) (s : A) → (if b
 ok_unless true r k s is = cc
 ok_unless false r k s is = (refl, is)
 
-ok_where : (b : Bool) (x : ScenarioParts) (k : FaultKind) (s : ScenarioParts) → ◌≡◌ {A = Result ScenarioParts FaultKind} (if b then Ok x else Err k) (Ok s) → (b ≡ true) × (x ≡ s)
+ok_where : (b : Bool) (x : ScenarioParts) (k : FaultKind) (s : ScenarioParts) → ◌≡◌ {A = Result ScenarioParts FaultKind} (if b then Ok x else Err k) (Ok s)
+    → (b ≡ true) × (x ≡ s)
 ok_where true x k s is = (refl, subst (λ (r : Result ScenarioParts FaultKind). IfOk r (λ y. x ≡ y)) is refl)
 ok_where false x k s is = cc
 
@@ -185,30 +182,40 @@ finished_said d s fine is = by_parts d.network.sends d.frames refl refl is
     by_parts None g sends frames is = cc
     by_parts (Some n) None sends frames is = by_two (nat_le 2 (length d.network.nodes)) is
       where
-        by_two : (b : Bool) → finished_parts d (if b then Some (record { sends = n; nodes = d.network.nodes; rates = rates_by_node d.network.nodes d.network.rates; trace = d.network.trace }) else None) None ≡ Ok s → KeepsRules s
+        by_two : (b : Bool)
+            → finished_parts d (if b then Some (record
+            { sends = n; nodes = d.network.nodes; rates = rates_by_node d.network.nodes d.network.rates; trace = d.network.trace }) else None) None ≡ Ok s
+            → KeepsRules s
         by_two true is = cc
         by_two false is = cc
     by_parts (Some n) (Some f) sends frames is = by_two (nat_le 2 (length d.network.nodes)) refl is
       where
         by_two : (b : Bool) → nat_le 2 (length d.network.nodes) ≡ b
-            → finished_parts d (if b then Some (record { sends = n; nodes = d.network.nodes; rates = rates_by_node d.network.nodes d.network.rates; trace = d.network.trace }) else None) (Some f) ≡ Ok s → KeepsRules s
+            → finished_parts d (if b then Some (record
+            { sends = n; nodes = d.network.nodes; rates = rates_by_node d.network.nodes d.network.rates; trace = d.network.trace }) else None) (Some f) ≡ Ok s
+            → KeepsRules s
         by_two false two is = cc
         by_two true two is =
             let hosts = ok_unless (length d.hosts == 0) (if_small (whole d n f)) Missing s is in
             let small = ok_where (nat_le (length d.network.nodes * f) 16384) (whole d n f) TooBig s hosts.1 in
             let some = eqb-false (length d.hosts) 0 hosts.0 in
-            subst KeepsRules small.1 (whole_said d n f fine sends frames (leb-true 2 (length d.network.nodes) two) (omega (arith, some)) (leb-true (length d.network.nodes * f) 16384 small.0))
+            subst KeepsRules small.1
+            (whole_said d n f fine sends frames (leb-true 2 (length d.network.nodes) two) (omega (arith, some))
+            (leb-true (length d.network.nodes * f) 16384 small.0))
 
 pub said_is : (s : ScenarioParts) → IsScenario s → KeepsRules s
-said_is s said = by_lines (after_lines after_line 1 no_scenario (lines said.0)) refl said.1
+said_is s said = by_lines (after_lines (after_line after_words) 1 no_scenario (lines said.0)) refl said.1
   where
-    by_lines : (r : Result Scenario (ℕ × FaultKind)) → after_lines after_line 1 no_scenario (lines said.0) ≡ r → (r >>= (λ e. in_line (length (lines said.0) + 1) (finished e))) ≡ Ok s → KeepsRules s
+    by_lines : (r : Result Scenario (ℕ × FaultKind)) → after_lines (after_line after_words) 1 no_scenario (lines said.0) ≡ r
+        → (r >>= (λ e. in_line (length (lines said.0) + 1) (finished e))) ≡ Ok s → KeepsRules s
     by_lines (Err k) read is = cc
     by_lines (Ok d) read is = by_end (finished d) refl is
       where
         by_end : (q : Result ScenarioParts FaultKind) → finished d ≡ q → in_line (length (lines said.0) + 1) q ≡ Ok s → KeepsRules s
         by_end (Err k) done is = cc
-        by_end (Ok x) done is = finished_said d s (fine_lines d (lines said.0) read) (done ∙ ap Ok (subst (λ (q : Result ScenarioParts (ℕ × FaultKind)). IfOk q (λ y. x ≡ y)) is refl))
+        by_end (Ok x) done is =
+            finished_said d s (fine_lines d (lines said.0) read)
+            (done ∙ ap Ok (subst (λ (q : Result ScenarioParts (ℕ × FaultKind)). IfOk q (λ y. x ≡ y)) is refl))
 
 -- a text that is the canonical one
 pub says_again : (s : ScenarioParts) (text : List ℕ) → text ≡ canonical s → IsScenario s → scenario_of text ≡ Ok s

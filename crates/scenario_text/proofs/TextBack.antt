@@ -9,7 +9,7 @@ use Rattle.std.specs.List.{AllByRecursion, slice_split, slice_index, join_with_b
 use Rattle.std.specs.Str.{IsAscii, is_utf8}
 use Rattle.std.specs.Str.Lines.{lines, lines_of_parts, strip_carriage_return}
 use Rattle.scenario_text.specs.Words.{words, is_blank}
-use Rattle.scenario_text.specs.Canonical.{render}
+use Rattle.text_writers.specs.Lines.{render}
 use Rattle.scenario_text.proofs.RatesKept.{map_all, all_append}
 use Rattle.scenario_text.proofs.LineFeeds.{part_is_line, is_feed}
 

@@ -1,14 +1,14 @@
 -- The canonical text of a scenario, as lines of words: the lines are in one order, each number and payload has one spelling,
 -- one space stands between words, and a line feed behind each line.
-use Rattle.std.specs.Prelude.{◌≡◌, ℕ, ◌+◌, List, [], ◌∷◌, ◌++◌, map, ◌==◌, if◌then◌else◌, codes, decimal, flat_map, Ok}
+use Rattle.std.specs.Prelude.{◌≡◌, ℕ, ◌+◌, List, [], ◌∷◌, ◌++◌, map, ◌==◌, if◌then◌else◌, codes, Ok}
 use Rattle.std.specs.Fmt.{signed_decimal}
-use Rattle.std.specs.List.{join_with_byte}
+use Rattle.text_writers.specs.Lines.{numbered, render}
+use Rattle.text_writers.specs.HexWords.{payload_word}
 use Rattle.lwb_base.specs.Profile.{Numbers}
 use Rattle.link_trace.specs.declared.lines.LinkLine.{LinkLine}
 use Rattle.link_trace.specs.declared.lines.LoseLine.{LoseLine}
 use Rattle.link_trace.specs.declared.lines.CutLine.{CutLine}
 use Rattle.link_trace.specs.declared.lines.CaptureLine.{CaptureLine}
-use Rattle.scenario_text.specs.Payloads.{payload_word}
 use Rattle.scenario_text.specs.ScenarioGrammar.{scenario_of}
 use Rattle.scenario_text.specs.ScenarioParts.{ScenarioParts}
 use Rattle.scenario_text.specs.declared.lines.NodeLine.{NodeLine}
@@ -16,10 +16,6 @@ use Rattle.scenario_text.specs.declared.lines.RateLine.{RateLine}
 use Rattle.scenario_text.specs.declared.script.ScriptLine.{ScriptLine}
 use Rattle.scenario_text.specs.declared.script.Act.{Act}
 use Rattle.scenario_text.specs.declared.script.Act.TheVariants.{On, Off, Declare, Leave, Put}
-
--- a first word, and numbers behind it
-abbrev pub numbered : List ℕ → List ℕ → List (List ℕ)
-numbered letters numbers = letters ∷ map decimal numbers
 
 -- the profile by the seconds of its frames: 4 in the first, 5 in the second, which may have contention slots
 abbrev pub profile_number : Numbers → ℕ
@@ -68,14 +64,6 @@ canonical_lines s =
     ++ numbered (codes "frames") (s.frames ∷ []) ∷ numbered (codes "sends") (s.sends ∷ []) ∷ map node_words s.nodes ++ map rate_words s.rates
     ++ host_lines 0 s.hosts ++ map link_words s.trace.links ++ map script_words s.script
     ++ map loss_words s.trace.losses ++ map cut_words s.trace.cuts ++ map capture_words s.trace.captures
-
--- a line of these words
-abbrev pub line_text : List (List ℕ) → List ℕ
-line_text words = join_with_byte 32 words ++ 10 ∷ []
-
--- lines of these words
-abbrev pub render : List (List (List ℕ)) → List ℕ
-render lines = flat_map line_text lines
 
 abbrev pub canonical : ScenarioParts → List ℕ
 canonical s = render (canonical_lines s)

@@ -1,6 +1,7 @@
 -- Refusals: which fault comes first, and in which line.
 use Rattle.std.specs.Prelude.{◌≡◌, ℕ, ◌+◌, List, [], ◌∷◌, Bool, if◌then◌else◌, Some, None, Option, Ok, Err, Result}
 use Rattle.scenario_text.specs.declared.fault.FaultKind.{FaultKind}
+use Rattle.scenario_text.specs.declared.fault.FaultKind.TheVariants.{BadWord, BadNumber}
 use Rattle.scenario_text.specs.declared.fault.Refusal.{Refusal}
 use Rattle.scenario_text.specs.declared.fault.Refusal.TheVariants.{Fault, NoMemory}
 use Rattle.scenario_text.specs.declared.fault.ParseFault.{ParseFault}
@@ -14,6 +15,11 @@ first_fault (t ∷ ts) = if t.0 then first_fault ts else Some t.1
 abbrev pub unless_fault : {A : Type 0} → Option FaultKind → A → Result A FaultKind
 unless_fault None x = Ok x
 unless_fault (Some k) x = Err k
+
+-- what is said, where it is and is spelled right
+abbrev pub spelled : {L : Type 0} → Option L → (L → Bool) → Result L FaultKind
+spelled None right = Err BadWord
+spelled (Some l) right = if right l then Ok l else Err BadNumber
 
 -- a fault in line n
 abbrev pub in_line : {A : Type 0} → ℕ → Result A FaultKind → Result A (ℕ × FaultKind)

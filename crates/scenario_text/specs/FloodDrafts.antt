@@ -1,12 +1,9 @@
 -- Internal: what is true of each draft.
-use Rattle.std.specs.Prelude.{◌≡◌, ◌<◌, ◌≤◌, ◌^◌, ℕ, List, [], ◌∷◌, true, length, IfSome, Result, Ok, Err}
+use Rattle.std.specs.Prelude.{◌≡◌, ◌<◌, ◌≤◌, ◌^◌, List, [], ◌∷◌, true, length, IfSome}
 use Rattle.std.specs.Int.RustNames.{unsigned_abs}
 use Rattle.std.specs.List.{AllByRecursion}
 use Rattle.scenario_text.specs.FloodParts.{knows}
 use Rattle.scenario_text.specs.FloodGrammar.{Flood}
-use Rattle.scenario_text.specs.declared.fault.FaultKind.{FaultKind}
-use Rattle.scenario_text.specs.declared.fault.ParseFault.{ParseFault}
-use Rattle.scenario_text.specs.declared.fault.ParseFault.TheVariants.{Line, Memory}
 use Rattle.scenario_text.specs.Network.{Drafted}
 use Rattle.scenario_text.specs.declared.lines.NodeLine.{NodeLine}
 use Rattle.scenario_text.specs.declared.lines.RateLine.{RateLine}
@@ -41,9 +38,3 @@ pub record IsNetwork (d : Drafted) : Type 0 where
 pub record IsFlood (f : Flood) : Type 0 where
   pub network : IsNetwork f.network
   pub start_known : IfSome f.start (λ i. knows f.network.nodes i ≡ true)
-
--- the draft of all lines with their count, or the first fault, unless memory ran out
-abbrev pub Drafts : Result (Flood × ℕ) ParseFault → Result Flood (ℕ × FaultKind) → Type 0
-Drafts (Ok d) said = said ≡ Ok d.0
-Drafts (Err Memory) said = Unit {0}
-Drafts (Err (Line n k)) said = said ≡ Err (n, k)

@@ -1,17 +1,16 @@
 -- Flood text: what its lines say, and the first line that is refused.
-use Rattle.std.specs.Prelude.{◌≡◌, ℕ, ◌+◌, List, [], ◌∷◌, Bool, not, ◌&&◌, nat_le, if◌then◌else◌, Some, None, Option, is_none, Ok, Err, Result, length, drop, codes, option_map}
+use Rattle.std.specs.Prelude.{ℕ, ◌+◌, List, [], ◌∷◌, Bool, not, ◌&&◌, nat_le, if◌then◌else◌, Some, None, Option, is_none, Result, length, drop, codes, option_map}
 use Rattle.std.specs.List.{list_all}
 use Rattle.std.specs.Option.{ok_or}
-use Rattle.std.specs.Str.{bytes_eq, is_utf8}
+use Rattle.std.specs.Str.{bytes_eq}
 use Rattle.std.specs.Str.Lines.{lines}
 use Rattle.scenario_text.specs.FloodParts.{FloodParts, knows}
-use Rattle.scenario_text.specs.Faults.{first_fault, unless_fault, in_line, ◌>>=◌, after_lines}
-use Rattle.scenario_text.specs.Words.{words, word, is_skipped, is_number, number_at, counted}
+use Rattle.scenario_text.specs.Faults.{first_fault, unless_fault, spelled, in_line, ◌>>=◌, after_lines}
+use Rattle.scenario_text.specs.Reading.{after_line}
+use Rattle.scenario_text.specs.Words.{word, is_number, number_at, counted}
 use Rattle.scenario_text.specs.Network.{Drafted, Parts, network_parts, network_line, network_numbers, no_network, is_id, are_ends, network_fault, has_loss, has_script_room, with_line, with_loss, with_script_line}
 use Rattle.scenario_text.specs.declared.fault.FaultKind.{FaultKind}
-use Rattle.scenario_text.specs.declared.fault.Refusal.{Refusal}
-use Rattle.scenario_text.specs.declared.fault.Refusal.TheVariants.{Fault, NoMemory}
-use Rattle.scenario_text.specs.declared.fault.FaultKind.TheVariants.{NotUtf8, BadWord, BadNumber, Range, UnknownNode, Twice, TooMany, Missing}
+use Rattle.scenario_text.specs.declared.fault.FaultKind.TheVariants.{Range, UnknownNode, Twice, TooMany, Missing}
 use Rattle.scenario_text.specs.declared.flood_line.FloodLine.{FloodLine}
 use Rattle.scenario_text.specs.declared.flood_line.FloodLine.TheVariants.{InNetwork, Lose, Start}
 
@@ -56,21 +55,10 @@ abbrev pub after_spelled : Flood → FloodLine → Result Flood FaultKind
 after_spelled f l = unless_fault (rule_fault f l) (with_flood_line f l)
 
 -- behind a line of these words, or its fault
-abbrev pub after_words : Flood → List (List ℕ) → Option FloodLine → Result Flood FaultKind
-after_words f ws None = Err BadWord
-after_words f ws (Some l) = if flood_numbers l ws then after_spelled f l else Err BadNumber
-
--- behind a line, or its fault
-unfoldable pub after_line : Flood → List ℕ → Result Flood FaultKind
-after_line f line =
-    let ws = words line in
-    if is_skipped ws then Ok f else if is_utf8 line then after_words f ws (flood_line ws) else Err NotUtf8
-
--- what was read of a line, seen by the draft behind it
-abbrev pub Reads : Result (Unit {0}) Refusal → Flood → Result Flood FaultKind → Type 0
-Reads (Ok x) new after = after ≡ Ok new
-Reads (Err (Fault k)) new after = after ≡ Err k
-Reads (Err NoMemory) new after = Unit {0}
+unfoldable pub after_words : Flood → List (List ℕ) → Result Flood FaultKind
+after_words f ws = do
+  l ← spelled (flood_line ws) (λ l. flood_numbers l ws)
+  after_spelled f l
 
 -- what a whole text says, which has sendings, two nodes at least, and a start
 abbrev pub parts_of : Option Parts → Option ℕ → Option FloodParts
@@ -84,5 +72,5 @@ finished f = ok_or (parts_of (network_parts f.network f.network.sends) f.start) 
 -- what the bytes say, or their first fault and its line. What is missing is missing behind the last line
 abbrev pub flood_of : List ℕ → Result FloodParts (ℕ × FaultKind)
 flood_of bytes = do
-  f ← after_lines after_line 1 no_flood (lines bytes)
+  f ← after_lines (after_line after_words) 1 no_flood (lines bytes)
   in_line (length (lines bytes) + 1) (finished f)

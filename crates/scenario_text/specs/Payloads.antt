@@ -1,7 +1,6 @@
 -- How payloads are spelled.
-use Rattle.std.specs.Prelude.{ℕ, ◌+◌, ◌*◌, ◌/◌, ◌%◌, List, [], ◌∷◌, Bool, false, ◌&&◌, ◌||◌, ◌==◌, nat_le, if◌then◌else◌, Some, None, Option, length, codes, flat_map}
+use Rattle.std.specs.Prelude.{ℕ, ◌+◌, ◌*◌, ◌%◌, List, [], ◌∷◌, Bool, ◌&&◌, ◌||◌, ◌==◌, nat_le, if◌then◌else◌, Some, None, Option, length, codes}
 use Rattle.std.specs.Char.{is_ascii_hexdigit, digit_value}
-use Rattle.std.specs.Fmt.{digit_glyph}
 use Rattle.std.specs.List.{list_all}
 use Rattle.std.specs.Str.{bytes_eq}
 
@@ -24,11 +23,3 @@ payload_bytes w = if bytes_eq w (codes "-") then [] else hex_bytes w
 -- the payload, if it has 96 bytes at most
 abbrev pub payload : List ℕ → Option (List ℕ)
 payload w = if nat_le (length (payload_bytes w)) 96 then Some (payload_bytes w) else None
-
--- a byte as two digits in lower case
-abbrev pub hex_digits : ℕ → List ℕ
-hex_digits b = digit_glyph false (b / 16) ∷ digit_glyph false (b % 16) ∷ []
-
--- the one spelling of a payload in lower case
-abbrev pub payload_word : List ℕ → List ℕ
-payload_word bytes = if length bytes == 0 then codes "-" else flat_map hex_digits bytes

@@ -2,20 +2,20 @@
 use Rattle.std.specs.Prelude.{◌≡◌, ℕ, ◌+◌, ◌-◌, ◌*◌, List, [], ◌∷◌, ◌++◌, Bool, true, false, not, ◌&&◌, ◌||◌, ◌==◌, nat_lt, nat_le, if◌then◌else◌, Some, None, Option, is_none, is_some, Ok, Err, Result, length, drop, codes, option_map, replicate, slice_get, slice_set, slice_index, slice_index_or}
 use Rattle.std.specs.List.{list_all, list_any}
 use Rattle.std.specs.Option.{option_map_or}
-use Rattle.std.specs.Str.{bytes_eq, is_utf8}
+use Rattle.std.specs.Str.{bytes_eq}
 use Rattle.std.specs.Str.Lines.{lines}
 use Rattle.lwb_base.specs.Profile.{Numbers, one, contended}
+use Rattle.lwb_base.specs.Messages.{greatest_slot}
 use Rattle.link_trace.specs.Passes.{Lines}
 use Rattle.scenario_text.specs.FloodParts.{knows}
 use Rattle.scenario_text.specs.ScenarioParts.{ScenarioParts}
-use Rattle.scenario_text.specs.Faults.{first_fault, unless_fault, in_line, ◌>>=◌, after_lines}
+use Rattle.scenario_text.specs.Faults.{first_fault, unless_fault, spelled, in_line, ◌>>=◌, after_lines}
+use Rattle.scenario_text.specs.Reading.{after_line}
 use Rattle.scenario_text.specs.Payloads.{is_payload, payload}
-use Rattle.scenario_text.specs.Words.{words, word, is_skipped, is_number, number_at, counted}
+use Rattle.scenario_text.specs.Words.{word, is_number, number_at, counted}
 use Rattle.scenario_text.specs.Network.{Drafted, Parts, network_parts, network_line, network_numbers, no_network, is_id, are_ends, has_loss, has_cut, has_capture, has_script_room, with_line, with_loss, with_cut, with_capture, with_script_line, in_range, knows_ids, in_order, is_new, has_room}
 use Rattle.scenario_text.specs.declared.fault.FaultKind.{FaultKind}
-use Rattle.scenario_text.specs.declared.fault.Refusal.{Refusal}
-use Rattle.scenario_text.specs.declared.fault.Refusal.TheVariants.{Fault, NoMemory}
-use Rattle.scenario_text.specs.declared.fault.FaultKind.TheVariants.{NotUtf8, BadWord, BadNumber, Range, UnknownNode, Order, Twice, TooMany, Missing, TooBig}
+use Rattle.scenario_text.specs.declared.fault.FaultKind.TheVariants.{Range, UnknownNode, Order, Twice, TooMany, Missing, TooBig}
 use Rattle.scenario_text.specs.declared.scenario_line.ScenarioLine.{ScenarioLine}
 use Rattle.scenario_text.specs.declared.scenario_line.ScenarioLine.TheVariants.{InNetwork, Profile, Contend, Frames, Host, On, Off, Stream, Leave, Put, Lose, Cut, Capture}
 use Rattle.scenario_text.specs.declared.script.ScriptLine.{ScriptLine}
@@ -25,6 +25,31 @@ use Rattle.scenario_text.specs.declared.script.Act.TheVariants as act
 abbrev pub begins : List (List ℕ) → List ℕ → Bool
 begins ws letters = bytes_eq (word ws 0) letters
 
+-- what the words behind `put` say, if they are those of such a line
+unfoldable pub put_line : List (List ℕ) → Option ScenarioLine
+put_line ws =
+    if is_payload (word ws 4)
+    then counted 5 ws (Put (number_at ws 1) (number_at ws 2) (number_at ws 3) (payload (word ws 4)))
+    else None
+
+-- a line that names a step, or one that flood texts have too
+unfoldable pub step_line : List (List ℕ) → Option ScenarioLine
+step_line ws =
+    if begins ws (codes "lose") then counted 6 ws (Lose (number_at ws 1) (number_at ws 2) (number_at ws 3) (number_at ws 4) (number_at ws 5))
+    else if begins ws (codes "cut") then counted 5 ws (Cut (number_at ws 1) (number_at ws 2) (number_at ws 3) (number_at ws 4))
+    else if begins ws (codes "capture") then counted 6 ws (Capture (number_at ws 1) (number_at ws 2) (number_at ws 3) (number_at ws 4) (number_at ws 5))
+    else option_map InNetwork (network_line ws)
+
+-- a line of the script, or one of those
+unfoldable pub script_line : List (List ℕ) → Option ScenarioLine
+script_line ws =
+    if begins ws (codes "on") then counted 3 ws (On (number_at ws 1) (number_at ws 2))
+    else if begins ws (codes "off") then counted 3 ws (Off (number_at ws 1) (number_at ws 2))
+    else if begins ws (codes "stream") then counted 5 ws (Stream (number_at ws 1) (number_at ws 2) (number_at ws 3) (number_at ws 4))
+    else if begins ws (codes "leave") then counted 4 ws (Leave (number_at ws 1) (number_at ws 2) (number_at ws 3))
+    else if begins ws (codes "put") then put_line ws
+    else step_line ws
+
 -- what the words say, if they are those of a line
 unfoldable pub scenario_line : List (List ℕ) → Option ScenarioLine
 scenario_line ws =
@@ -32,16 +57,7 @@ scenario_line ws =
     else if begins ws (codes "contend") then counted 2 ws (Contend (number_at ws 1))
     else if begins ws (codes "frames") then counted 2 ws (Frames (number_at ws 1))
     else if begins ws (codes "host") then counted 3 ws (Host (number_at ws 1) (number_at ws 2))
-    else if begins ws (codes "on") then counted 3 ws (On (number_at ws 1) (number_at ws 2))
-    else if begins ws (codes "off") then counted 3 ws (Off (number_at ws 1) (number_at ws 2))
-    else if begins ws (codes "stream") then counted 5 ws (Stream (number_at ws 1) (number_at ws 2) (number_at ws 3) (number_at ws 4))
-    else if begins ws (codes "leave") then counted 4 ws (Leave (number_at ws 1) (number_at ws 2) (number_at ws 3))
-    else if begins ws (codes "put")
-    then (if is_payload (word ws 4) then counted 5 ws (Put (number_at ws 1) (number_at ws 2) (number_at ws 3) (payload (word ws 4))) else None)
-    else if begins ws (codes "lose") then counted 6 ws (Lose (number_at ws 1) (number_at ws 2) (number_at ws 3) (number_at ws 4) (number_at ws 5))
-    else if begins ws (codes "cut") then counted 5 ws (Cut (number_at ws 1) (number_at ws 2) (number_at ws 3) (number_at ws 4))
-    else if begins ws (codes "capture") then counted 6 ws (Capture (number_at ws 1) (number_at ws 2) (number_at ws 3) (number_at ws 4) (number_at ws 5))
-    else option_map InNetwork (network_line ws)
+    else script_line ws
 
 -- the numbers of the line are spelled right
 abbrev pub scenario_numbers : ScenarioLine → List (List ℕ) → Bool
@@ -80,7 +96,7 @@ abbrev pub last_tick : Numbers → ℕ
 last_tick p = 4096 * p.frame
 
 abbrev pub last_slot : Numbers → ℕ
-last_slot p = if p.contend == 0 then 42 else 45
+last_slot p = greatest_slot p.contend
 
 -- a frame number, which is below the number of frames once that is known
 abbrev pub is_frame : Option ℕ → ℕ → Bool
@@ -231,22 +247,15 @@ is_profile_two other = false
 abbrev pub with_scenario_line : Scenario → ScenarioLine → Scenario
 with_scenario_line d l = record (line_added d l) { first = false; after_two = is_profile_two l }
 
+-- behind a line that is spelled right, or its fault
+abbrev pub after_spelled : Scenario → ScenarioLine → Result Scenario FaultKind
+after_spelled d l = unless_fault (line_fault d l) (with_scenario_line d l)
+
 -- behind a line of these words, or its fault
-abbrev pub after_words : Scenario → List (List ℕ) → Option ScenarioLine → Result Scenario FaultKind
-after_words d ws None = Err BadWord
-after_words d ws (Some l) = if scenario_numbers l ws then unless_fault (line_fault d l) (with_scenario_line d l) else Err BadNumber
-
--- behind a line, or its fault
-unfoldable pub after_line : Scenario → List ℕ → Result Scenario FaultKind
-after_line d line =
-    let ws = words line in
-    if is_skipped ws then Ok d else if is_utf8 line then after_words d ws (scenario_line ws) else Err NotUtf8
-
--- what was read of a line, seen by the draft behind it
-abbrev pub Reads : Result (Unit {0}) Refusal → Scenario → Result Scenario FaultKind → Type 0
-Reads (Ok x) new after = after ≡ Ok new
-Reads (Err (Fault k)) new after = after ≡ Err k
-Reads (Err NoMemory) new after = Unit {0}
+unfoldable pub after_words : Scenario → List (List ℕ) → Result Scenario FaultKind
+after_words d ws = do
+  l ← spelled (scenario_line ws) (λ l. scenario_numbers l ws)
+  after_spelled d l
 
 -- there are not too many nodes for the frames
 abbrev pub if_small : ScenarioParts → Result ScenarioParts FaultKind
@@ -275,7 +284,7 @@ finished d = finished_parts d (network_parts d.network d.network.sends) d.frames
 -- what the bytes say, or their first fault and its line. What is missing is missing behind the last line
 abbrev pub scenario_of : List ℕ → Result ScenarioParts (ℕ × FaultKind)
 scenario_of bytes = do
-  d ← after_lines after_line 1 no_scenario (lines bytes)
+  d ← after_lines (after_line after_words) 1 no_scenario (lines bytes)
   in_line (length (lines bytes) + 1) (finished d)
 
 -- some text says it

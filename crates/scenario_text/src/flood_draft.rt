@@ -1,14 +1,15 @@
 ghost use Rattle.std.specs.Prelude.{◌≡◌, IfOk, OnOk};
 ghost use Rattle.scenario_text.specs.Faults.{Refuses, RefusesBy};
-ghost use Rattle.scenario_text.specs.FloodGrammar.{no_flood, rule_fault, with_flood_line, after_line, Reads, parts_of};
+ghost use Rattle.scenario_text.specs.FloodGrammar.{no_flood, rule_fault, with_flood_line, after_words, parts_of};
 ghost use Rattle.scenario_text.specs.FloodDrafts.{IsFlood};
 ghost use Rattle.scenario_text.specs.Network.{network_parts};
 ghost use Rattle.scenario_text.specs.declared.flood_line.FloodLine.TheVariants.{Lose, Start};
 
+use crate::draft::Draft;
 use crate::fault::{Refusal, refuse_unless};
 use crate::flood_line::FloodLine;
-use crate::network_draft::{NetworkDraft, are_two_ids, is_id};
-use crate::words::{is_skipped, is_text, words};
+use crate::known_nodes::{are_two_ids, is_id};
+use crate::network_draft::NetworkDraft;
 use crate::{FaultKind, FloodText};
 use lwb_base::{Memory, NodeId};
 use std::alloc::Global;
@@ -29,6 +30,16 @@ impl Model for FloodDraft {
     ghost view = { λ d. record { network = d.network; start = d.start } };
 }
 
+impl Draft for FloodDraft {
+    ghost after = { after_words };
+
+    #[tactic(auto, unfolding(crate::specs::FloodGrammar::after_words))]
+    fn read(&mut self, words: &[&[u8]]) -> Result<(), Refusal> {
+        let line = FloodLine::new(words)?;
+        self.add(line)
+    }
+}
+
 impl FloodDraft {
     /// A draft of no lines. It takes no memory.
     pub fn new(alloc: Global) -> FloodDraft
@@ -40,29 +51,14 @@ impl FloodDraft {
         }
     }
 
-    /// Goes on by one line, unless it is refused.
-    #[tactic(auto, unfolding(crate::specs::FloodGrammar::after_line))]
-    pub fn read(&mut self, alloc: Global, line: &[u8]) -> Result<(), Refusal>
-        ensures { Reads result self.new (after_line self.old line.now) }
-    {
-        let words = words(alloc, line)?;
-        if is_skipped(&words) {
-            return Ok(());
-        }
-        refuse_unless(is_text(line), FaultKind::NotUtf8)?;
-        let said = FloodLine::new(&words).ok_or(FaultKind::BadWord)?;
-        refuse_unless(said.spells_numbers(&words), FaultKind::BadNumber)?;
-        self.add(said)
-    }
-
     fn add(&mut self, line: FloodLine) -> Result<(), Refusal>
         ensures fault { Refuses result (rule_fault self.old line) }
         ensures added { OnOk result (self.new ≡ with_flood_line self.old line) }
     {
         match line {
             FloodLine::InNetwork(line) => self.network.add(1_048_576_000_000, line),
-            FloodLine::Lose(step, from, to) => self.add_loss(step, from, to),
-            FloodLine::Start(id) => Ok(self.add_start(id)?),
+            FloodLine::Lose { step, from, to } => self.add_loss(step, from, to),
+            FloodLine::Start { id } => Ok(self.add_start(id)?),
         }
     }
 

@@ -1,11 +1,13 @@
 //! Texts of floods and scenarios: what they say, and the first line that is refused.
 #![tactic(auto)]
 
+mod draft;
 mod fault;
 mod flood;
 mod flood_draft;
 mod flood_line;
 mod flood_text;
+mod known_nodes;
 pub mod laws;
 mod line_writers;
 mod lines;
@@ -14,8 +16,8 @@ mod network;
 mod network_draft;
 mod network_line;
 mod numbers;
+mod parsing;
 mod payloads;
-mod plain_writers;
 mod printing;
 mod rates;
 mod reading;
@@ -30,9 +32,7 @@ pub use fault::{FaultKind, ParseFault};
 pub use flood::parse_flood;
 pub use flood_text::FloodText;
 pub use lines::{NodeLine, RateLine};
-pub use plain_writers::{write_hex, write_number};
+pub use parsing::parse;
 pub use printing::print;
-pub use reading::parse;
 pub use scenario::Scenario;
 pub use script::{Act, ScriptLine};
-pub use script_writers::write_payload;

@@ -1,17 +1,16 @@
-ghost use Rattle.std.specs.Prelude.{◌≡◌, ◌≢◌, ◌≤◌, ◌<◌, ◌&&◌, ◌==◌, not, nat_lt, nat_le, if◌then◌else◌, [], ◌∷◌, Ok, Some, None, true, false, ℕ, List, IfOk, OnOk, count_by, reverse, map, length};
-ghost use Rattle.std.specs.List.{find, list_any};
-ghost use Rattle.std.specs.Option.{option_copied, option_map_or};
+ghost use Rattle.std.specs.Prelude.{◌≡◌, ◌≢◌, ◌&&◌, not, if◌then◌else◌, [], ◌∷◌, Ok, Some, None, true, IfOk, OnOk};
 ghost use Rattle.scenario_text.specs.FloodDrafts.{IsNetwork};
 ghost use Rattle.scenario_text.specs.FloodParts.{knows as knows_of};
-ghost use Rattle.scenario_text.specs.Network.{no_network, network_parts, network_fault, with_line, with_node, with_link, has_link, has_loss, with_loss, has_cut, with_cut, has_capture, with_capture, with_script_line, has_script_room, are_ends, last_rate as last_rate_of, ppm as ppm_of, is_id as is_id_of};
+ghost use Rattle.scenario_text.specs.Network.{no_network, network_parts, network_fault, with_line, with_node, with_link, has_link, has_loss, with_loss, has_cut, with_cut, has_capture, with_capture, with_script_line, has_script_room};
 ghost use Rattle.scenario_text.specs.Faults.{first_fault, Refuses, RefusesBy};
 ghost use Rattle.scenario_text.specs.declared.fault.FaultKind.TheVariants.{Twice, TooMany};
 ghost use Rattle.scenario_text.specs.declared.network_line.NetworkLine.TheVariants.{Sends, Node, Rate, Link, Pair};
 
 use crate::fault::{Refusal, refuse_unless};
+use crate::known_nodes::{are_two_ids, count_below, ids, is_id, known, node_id, two_nodes};
 use crate::network::Network;
 use crate::network_line::NetworkLine;
-use crate::rates::by_node;
+use crate::rates::{by_node, is_later, ppm};
 use crate::{FaultKind, NodeLine, RateLine};
 use link_trace::Trace;
 use lwb_base::{Memory, NodeId};
@@ -56,13 +55,16 @@ impl NetworkDraft {
         ensures added { OnOk result (self.new ≡ with_line self.old line) }
     {
         match line {
-            NetworkLine::Sends(count) => Ok(self.add_sends(count)?),
-            NetworkLine::Node(id, offset) => self.add_node(id, offset),
-            NetworkLine::Rate(id, tick, slow, parts) => self.add_rate(
-                last_tick, id, tick, slow, parts,
-            ),
-            NetworkLine::Link(from, to) => self.add_link(from, to),
-            NetworkLine::Pair(one_end, other_end) => self.add_pair(one_end, other_end),
+            NetworkLine::Sends { count } => Ok(self.add_sends(count)?),
+            NetworkLine::Node { id, offset } => self.add_node(id, offset),
+            NetworkLine::Rate {
+                id,
+                tick,
+                slow,
+                parts,
+            } => self.add_rate(last_tick, id, tick, slow, parts),
+            NetworkLine::Link { from, to } => self.add_link(from, to),
+            NetworkLine::Pair { one, other } => self.add_pair(one, other),
         }
     }
 
@@ -237,87 +239,6 @@ impl NetworkDraft {
         let is_new = pair(&mut self.trace, one, other)?;
         Ok(refuse_unless(is_new, FaultKind::Twice)?)
     }
-}
-
-fn ids(alloc: Global, nodes: &[NodeLine]) -> Result<Vec<NodeId>, Memory>
-    ensures { IfOk result (λ v. v.items ≡ map (λ n. n.node) nodes.now) }
-{
-    Ok(nodes.iter().map(|n| n.node).collect(alloc)?)
-}
-
-/// Whether it is the id of a node.
-pub fn is_id(id: u64) -> bool
-    ensures { result ≡ is_id_of id }
-{
-    1 <= id && id <= 200
-}
-
-/// The node with that id.
-fn node_id(id: u64) -> Option<NodeId>
-    ensures { result ≡ (if is_id_of id then Some id else None) }
-{
-    NodeId::new(u8::try_from(id).ok()?)
-}
-
-/// Whether both are ids, and they differ.
-pub fn are_two_ids(from: u64, to: u64) -> bool
-    ensures { result ≡ are_ends from to }
-{
-    is_id(from) && is_id(to) && from != to
-}
-
-fn count_below(nodes: &[NodeLine], id: NodeId) -> usize
-    ensures count { result ≡ count_by (λ n. nat_lt n.node id) nodes.now }
-    ensures within { result ≤ length nodes.now }
-{
-    nodes.iter().filter(|n| n.node < id).count()
-}
-
-fn find_line(nodes: &[NodeLine], id: u64) -> Option<&NodeLine>
-    ensures { option_copied result ≡ find (λ n. n.node == id) nodes.now }
-{
-    nodes.iter().find(|n| u64::from(n.node.number()) == id)
-}
-
-/// The node of that id, if it is one of these.
-pub fn known(nodes: &[NodeLine], id: u64) -> Option<NodeId>
-    ensures { result ≡ (if knows_of nodes.now id then Some id else None) }
-{
-    let line = find_line(nodes, id)?;
-    Some(line.node)
-}
-
-/// Two of these nodes, by their ids.
-pub fn two_nodes(nodes: &[NodeLine], from: u64, to: u64) -> Option<(NodeId, NodeId)>
-    ensures { result ≡ (if knows_of nodes.now from && knows_of nodes.now to then Some (from, to) else None) }
-{
-    let from = known(nodes, from)?;
-    let to = known(nodes, to)?;
-    Some((from, to))
-}
-
-fn last_rate(rates: &[RateLine], node: NodeId) -> Option<&RateLine>
-    ensures { option_copied result ≡ last_rate_of rates.now node }
-{
-    rates.iter().rev().find(|r| r.node == node)
-}
-
-// Whether the tick is above that of the node's last rate.
-fn is_later(rates: &[RateLine], node: NodeId, tick: u64) -> bool
-    ensures { result ≡ option_map_or (λ r. nat_lt r.from tick) (last_rate_of rates.now node) true }
-{
-    match last_rate(rates, node) {
-        Some(rate) => rate.from < tick,
-        None => true,
-    }
-}
-
-fn ppm(slow: bool, parts: u8) -> i8
-    requires { parts ≤ 20 }
-    ensures { result ≡ ppm_of slow parts }
-{
-    let parts = parts as i8;
-    if slow { -parts } else { parts }
 }
 
 fn link(trace: &mut Trace, from: NodeId, to: NodeId) -> Result<bool, Memory>

@@ -1,60 +1,87 @@
 ghost use Rattle.std.specs.Prelude.{◌≡◌, map};
+ghost use Rattle.scenario_text.specs.Faults.{spelled};
 ghost use Rattle.scenario_text.specs.Network.{network_line as network_line_of, network_numbers};
+ghost use Rattle.scenario_text.specs.Words.{counted, has_minus, magnitude, number as number_of, number_at, word as word_of};
+ghost use Rattle.scenario_text.specs.declared.network_line.NetworkLine.TheVariants.{Rate};
 
-use crate::numbers::{are_numbers, has_minus, is_number, is_signed, magnitude, number, number_at};
-use crate::words::{behind_first, counted, is, word};
+use crate::FaultKind;
+use crate::numbers::{number, one_number, signed_number, two_numbers};
+use crate::words::{is, word};
 
 /// A line that both texts have, with its numbers as they stand there.
 #[derive(Clone, Copy, Debug, PartialEq, Eq)]
 pub enum NetworkLine {
-    Sends(u64),
-    Node(u64, u64),
-    /// The node, the tick, whether the clock is slow from there on, and by how many millionths it is fast or slow.
-    Rate(u64, u64, bool, u64),
-    Link(u64, u64),
-    Pair(u64, u64),
+    /// How often a node sends at most.
+    Sends {
+        count: u64,
+    },
+    /// A node, and what its clock reads at tick 0.
+    Node {
+        id: u64,
+        offset: u64,
+    },
+    /// From that tick on the node's clock is so many millionths fast, or slow.
+    Rate {
+        id: u64,
+        tick: u64,
+        slow: bool,
+        parts: u64,
+    },
+    /// A link in one direction.
+    Link {
+        from: u64,
+        to: u64,
+    },
+    /// A link in both directions.
+    Pair {
+        one: u64,
+        other: u64,
+    },
 }
 
 impl NetworkLine {
-    /// What the words say. None where they are not those of such a line.
+    /// What the words say. `BadWord` comes where they are not those of such a line, and else `BadNumber` where a number
+    /// is misspelled.
     #[tactic(auto, unfolding(crate::specs::Network::network_line))]
-    pub fn new(words: &[&[u8]]) -> Option<NetworkLine>
-        ensures { result ≡ network_line_of (map (λ w. w.now) words.now) }
+    pub fn new(words: &[&[u8]]) -> Result<NetworkLine, FaultKind>
+        ensures { result ≡ spelled (network_line_of (map (λ w. w.now) words.now)) (λ l. network_numbers l (map (λ w. w.now) words.now)) }
     {
         let first = word(words, 0);
-        let (a, b) = (number_at(words, 1), number_at(words, 2));
         if is(first, b"sends") {
-            return counted(2, words, NetworkLine::Sends(a));
+            let count = one_number(words)?;
+            Ok(NetworkLine::Sends { count })
+        } else if is(first, b"node") {
+            let (id, offset) = two_numbers(words)?;
+            Ok(NetworkLine::Node { id, offset })
+        } else if is(first, b"rate") {
+            rate_line(words)
+        } else if is(first, b"link") {
+            let (from, to) = two_numbers(words)?;
+            Ok(NetworkLine::Link { from, to })
+        } else if is(first, b"pair") {
+            let (one, other) = two_numbers(words)?;
+            Ok(NetworkLine::Pair { one, other })
+        } else {
+            Err(FaultKind::BadWord)
         }
-        if is(first, b"node") {
-            return counted(3, words, NetworkLine::Node(a, b));
-        }
-        if is(first, b"rate") {
-            let ppm = word(words, 3);
-            let rate = NetworkLine::Rate(a, b, has_minus(ppm), number(magnitude(ppm)));
-            return counted(4, words, rate);
-        }
-        if is(first, b"link") {
-            return counted(3, words, NetworkLine::Link(a, b));
-        }
-        if is(first, b"pair") {
-            return counted(3, words, NetworkLine::Pair(a, b));
-        }
-        None
     }
+}
 
-    /// Whether the numbers of the line are spelled right.
-    pub fn spells_numbers(&self, words: &[&[u8]]) -> bool
-        ensures { result ≡ network_numbers self.now (map (λ w. w.now) words.now) }
-    {
-        match self {
-            NetworkLine::Rate(_, _, _, _) => is_number(word(words, 1))
-                && is_number(word(words, 2))
-                && is_signed(word(words, 3)),
-            NetworkLine::Sends(_)
-            | NetworkLine::Node(_, _)
-            | NetworkLine::Link(_, _)
-            | NetworkLine::Pair(_, _) => are_numbers(behind_first(words)),
-        }
-    }
+// The words behind `rate`. Only the last number may have a `-`.
+fn rate_line(words: &[&[u8]]) -> Result<NetworkLine, FaultKind>
+    ensures { let ws = map (λ w. w.now) words.now in
+        result ≡ spelled (counted 4 ws (Rate (number_at ws 1) (number_at ws 2) (has_minus (word_of ws 3)) (number_of (magnitude (word_of ws 3))))) (λ l. network_numbers l ws) }
+{
+    let [_, id, tick, ppm] = words else {
+        return Err(FaultKind::BadWord);
+    };
+    let id = number(id)?;
+    let tick = number(tick)?;
+    let (slow, parts) = signed_number(ppm)?;
+    Ok(NetworkLine::Rate {
+        id,
+        tick,
+        slow,
+        parts,
+    })
 }

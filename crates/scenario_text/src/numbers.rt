@@ -1,10 +1,13 @@
-ghost use Rattle.std.specs.Prelude.{◌≡◌, ◌≤◌, ℕ, length, map, drop, All};
+ghost use Rattle.std.specs.Prelude.{◌≡◌, ◌≤◌, ℕ, Ok, Err, if◌then◌else◌, length, map, drop, All};
 ghost use Rattle.std.specs.Char.{is_ascii_digit};
 ghost use Rattle.std.specs.List.{list_all};
 ghost use Rattle.std.specs.Str.Parse.{digits_value};
-ghost use Rattle.scenario_text.specs.Words.{is_number as is_number_of, number as number_of, has_minus as has_minus_of, magnitude as magnitude_of, is_signed as is_signed_of, number_at as number_at_of};
+ghost use Rattle.scenario_text.specs.Faults.{spelled};
+ghost use Rattle.scenario_text.specs.Words.{is_number as is_number_of, number as number_of, has_minus as has_minus_of, magnitude as magnitude_of, is_signed as is_signed_of, number_at, counted};
+ghost use Rattle.scenario_text.specs.declared.fault.FaultKind.TheVariants.{BadNumber};
 
-use crate::words::word;
+use crate::FaultKind;
+use crate::fault::refuse_unless;
 
 fn are_digits(word: &[u8]) -> bool
     ensures { result ≡ list_all is_ascii_digit word.now }
@@ -12,8 +15,8 @@ fn are_digits(word: &[u8]) -> bool
     word.iter().all(|b| b.is_ascii_digit())
 }
 
-/// Whether the word is one digit, or up to 13 digits of which the first is not 0.
-pub fn is_number(word: &[u8]) -> bool
+// Whether the word is one digit, or up to 13 digits of which the first is not 0.
+fn is_number(word: &[u8]) -> bool
     ensures { result ≡ is_number_of word.now }
 {
     are_digits(word) && !word.is_empty() && word.len() <= 13 && (word.len() == 1 || word[0] != b'0')
@@ -31,43 +34,92 @@ fn value(digits: &[u8]) -> u64
     value
 }
 
-/// The number that the word is, or 0.
-pub fn number(word: &[u8]) -> u64
-    ensures { result ≡ number_of word.now }
+/// The number that the word is: one digit, or up to 13 digits of which the first is not 0. Else `BadNumber`.
+pub fn number(word: &[u8]) -> Result<u64, FaultKind>
+    ensures { result ≡ (if is_number_of word.now then Ok (number_of word.now) else Err BadNumber) }
 {
-    if is_number(word) { value(word) } else { 0 }
+    if is_number(word) {
+        Ok(value(word))
+    } else {
+        Err(FaultKind::BadNumber)
+    }
 }
 
-pub fn has_minus(word: &[u8]) -> bool
+fn has_minus(word: &[u8]) -> bool
     ensures { result ≡ has_minus_of word.now }
 {
     word.first() == Some(&b'-')
 }
 
-/// The word without the `-` before it.
-pub fn magnitude(word: &[u8]) -> &[u8]
+// The word without the `-` before it.
+fn magnitude(word: &[u8]) -> &[u8]
     ensures { result.now ≡ magnitude_of word.now }
 {
     if has_minus(word) { &word[1..] } else { word }
 }
 
-/// Whether the word is a number, or `-` and a number that is not 0.
-pub fn is_signed(word: &[u8]) -> bool
-    ensures { result ≡ is_signed_of word.now }
+/// Whether the word has a `-`, and the number behind that, which is not 0 then. `BadNumber` where it is no such word.
+pub fn signed_number(word: &[u8]) -> Result<(bool, u64), FaultKind>
+    ensures { result ≡ (if is_signed_of word.now then Ok (has_minus_of word.now, number_of (magnitude_of word.now)) else Err BadNumber) }
 {
-    is_number(magnitude(word)) && !(has_minus(word) && number(magnitude(word)) == 0)
+    let minus = has_minus(word);
+    let size = number(magnitude(word))?;
+    refuse_unless(!(minus && size == 0), FaultKind::BadNumber)?;
+    Ok((minus, size))
 }
 
-/// The number that word i is, or 0.
-pub fn number_at(words: &[&[u8]], i: usize) -> u64
-    ensures { result ≡ number_at_of (map (λ w. w.now) words.now) i }
+/// The number behind the first word. `BadWord` unless it is the only word there, and else `BadNumber` where it is
+/// misspelled.
+pub fn one_number(words: &[&[u8]]) -> Result<u64, FaultKind>
+    ensures { let ws = map (λ w. w.now) words.now in
+        result ≡ spelled (counted 2 ws (number_at ws 1)) (λ _. list_all is_number_of (drop 1 ws)) }
 {
-    number(word(words, i))
+    let [_, a] = words else {
+        return Err(FaultKind::BadWord);
+    };
+    number(a)
 }
 
-/// Whether each of the words is a number.
-pub fn are_numbers(words: &[&[u8]]) -> bool
-    ensures { result ≡ list_all is_number_of (map (λ w. w.now) words.now) }
+/// The two numbers behind the first word, with the faults of `one_number`.
+pub fn two_numbers(words: &[&[u8]]) -> Result<(u64, u64), FaultKind>
+    ensures { let ws = map (λ w. w.now) words.now in
+        result ≡ spelled (counted 3 ws (number_at ws 1, number_at ws 2)) (λ _. list_all is_number_of (drop 1 ws)) }
 {
-    words.iter().all(|w| is_number(w))
+    let [_, a, b] = words else {
+        return Err(FaultKind::BadWord);
+    };
+    Ok((number(a)?, number(b)?))
+}
+
+/// The three numbers behind the first word, with the faults of `one_number`.
+pub fn three_numbers(words: &[&[u8]]) -> Result<(u64, u64, u64), FaultKind>
+    ensures { let ws = map (λ w. w.now) words.now in
+        result ≡ spelled (counted 4 ws (number_at ws 1, number_at ws 2, number_at ws 3)) (λ _. list_all is_number_of (drop 1 ws)) }
+{
+    let [_, a, b, c] = words else {
+        return Err(FaultKind::BadWord);
+    };
+    Ok((number(a)?, number(b)?, number(c)?))
+}
+
+/// The four numbers behind the first word, with the faults of `one_number`.
+pub fn four_numbers(words: &[&[u8]]) -> Result<(u64, u64, u64, u64), FaultKind>
+    ensures { let ws = map (λ w. w.now) words.now in
+        result ≡ spelled (counted 5 ws (number_at ws 1, number_at ws 2, number_at ws 3, number_at ws 4)) (λ _. list_all is_number_of (drop 1 ws)) }
+{
+    let [_, a, b, c, d] = words else {
+        return Err(FaultKind::BadWord);
+    };
+    Ok((number(a)?, number(b)?, number(c)?, number(d)?))
+}
+
+/// The five numbers behind the first word, with the faults of `one_number`.
+pub fn five_numbers(words: &[&[u8]]) -> Result<(u64, u64, u64, u64, u64), FaultKind>
+    ensures { let ws = map (λ w. w.now) words.now in
+        result ≡ spelled (counted 6 ws (number_at ws 1, number_at ws 2, number_at ws 3, number_at ws 4, number_at ws 5)) (λ _. list_all is_number_of (drop 1 ws)) }
+{
+    let [_, a, b, c, d, e] = words else {
+        return Err(FaultKind::BadWord);
+    };
+    Ok((number(a)?, number(b)?, number(c)?, number(d)?, number(e)?))
 }

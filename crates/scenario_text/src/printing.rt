@@ -1,6 +1,7 @@
 ghost use Rattle.std.specs.Prelude.{◌≡◌, ◌++◌, Ok, IfOk, OnOk, string_bytes, codes, [], ◌∷◌};
+ghost use Rattle.text_writers.specs.Lines.{line_text, render, numbered};
 ghost use Rattle.scenario_text.specs.ScenarioGrammar.{scenario_of, IsScenario};
-ghost use Rattle.scenario_text.specs.Canonical.{canonical, line_text, render, numbered, profile_number, contend_lines};
+ghost use Rattle.scenario_text.specs.Canonical.{canonical, profile_number, contend_lines};
 
 use crate::list_writers::{
     write_captures, write_cuts, write_hosts, write_links, write_losses, write_nodes, write_rates,
@@ -9,7 +10,7 @@ use crate::list_writers::{
 use crate::scenario::Scenario;
 use lwb_base::{Memory, Profile};
 use std::alloc::{AllocError, Global};
-use std::fmt::Write;
+use text_writers::write_line;
 
 /// The canonical text of a scenario: one space between words, a line feed after each line, the lines in one order,
 /// and each number and payload in its one spelling. Parsed again it gives the same scenario.
@@ -46,7 +47,7 @@ fn write_profile(text: &mut String, profile: Profile) -> Result<(), AllocError>
     ensures { OnOk result (string_bytes text.new ≡ string_bytes text.old ++ line_text (numbered (codes "profile") (profile_number profile ∷ []))) }
 {
     let number = if profile.seconds() == 4 { 1u8 } else { 2u8 };
-    write!(text, "profile {number}\n")
+    write_line(text, "profile", &[number])
 }
 
 fn write_contend(text: &mut String, profile: Profile) -> Result<(), AllocError>
@@ -56,17 +57,17 @@ fn write_contend(text: &mut String, profile: Profile) -> Result<(), AllocError>
     if slots == 0 {
         return Ok(());
     }
-    write!(text, "contend {slots}\n")
+    write_line(text, "contend", &[slots])
 }
 
 fn write_frames(text: &mut String, frames: u32) -> Result<(), AllocError>
     ensures { OnOk result (string_bytes text.new ≡ string_bytes text.old ++ line_text (numbered (codes "frames") (frames ∷ []))) }
 {
-    write!(text, "frames {frames}\n")
+    write_line(text, "frames", &[frames])
 }
 
 fn write_sends(text: &mut String, sends: u8) -> Result<(), AllocError>
     ensures { OnOk result (string_bytes text.new ≡ string_bytes text.old ++ line_text (numbered (codes "sends") (sends ∷ []))) }
 {
-    write!(text, "sends {sends}\n")
+    write_line(text, "sends", &[sends])
 }

@@ -1,5 +1,6 @@
-ghost use Rattle.std.specs.Prelude.{◌≡◌, ◌==◌, ◌++◌, IfOk, OnOk, filter};
-ghost use Rattle.scenario_text.specs.Network.{rates_by_node};
+ghost use Rattle.std.specs.Prelude.{◌≡◌, ◌≤◌, ◌==◌, ◌++◌, nat_lt, true, IfOk, OnOk, filter};
+ghost use Rattle.std.specs.Option.{option_copied, option_map_or};
+ghost use Rattle.scenario_text.specs.Network.{rates_by_node, last_rate as last_rate_of, ppm as ppm_of};
 
 use crate::{NodeLine, RateLine};
 use lwb_base::{Memory, NodeId};
@@ -29,4 +30,29 @@ fn push_rates(sorted: &mut Vec<RateLine>, rates: &[RateLine], node: NodeId) -> R
         }
     }
     Ok(())
+}
+
+fn last_rate(rates: &[RateLine], node: NodeId) -> Option<&RateLine>
+    ensures { option_copied result ≡ last_rate_of rates.now node }
+{
+    rates.iter().rev().find(|r| r.node == node)
+}
+
+/// Whether the tick is above that of the node's last rate.
+pub fn is_later(rates: &[RateLine], node: NodeId, tick: u64) -> bool
+    ensures { result ≡ option_map_or (λ r. nat_lt r.from tick) (last_rate_of rates.now node) true }
+{
+    match last_rate(rates, node) {
+        Some(rate) => rate.from < tick,
+        None => true,
+    }
+}
+
+/// A rate of so many millionths, fast or slow.
+pub fn ppm(slow: bool, parts: u8) -> i8
+    requires { parts ≤ 20 }
+    ensures { result ≡ ppm_of slow parts }
+{
+    let parts = parts as i8;
+    if slow { -parts } else { parts }
 }

@@ -1,41 +1,27 @@
 ghost use Rattle.std.specs.Prelude.{◌≡◌, ◌<◌, ◌≤◌, ◌^◌, ℕ, IfOk, length};
 ghost use Rattle.std.specs.Str.Lines.{lines};
-ghost use Rattle.scenario_text.specs.Faults.{Gives, after_lines};
-ghost use Rattle.scenario_text.specs.ScenarioDrafts.{Drafts, IsDraft};
-ghost use Rattle.scenario_text.specs.ScenarioGrammar.{scenario_of, after_line, no_scenario};
+ghost use Rattle.scenario_text.specs.Faults.{after_lines};
+ghost use Rattle.scenario_text.specs.Reading.{after_line, Reads, Drafts};
 
-use crate::ParseFault;
-use crate::scenario::Scenario;
-use crate::scenario_draft::ScenarioDraft;
-use crate::words::first_line;
+use crate::draft::Draft;
+use crate::fault::{Refusal, refuse_unless};
+use crate::words::{first_line, is_skipped, is_text, words};
+use crate::{FaultKind, ParseFault};
 use std::alloc::Global;
 
-/// Reads the text of a scenario of fewer than 2^31 bytes. `Line` names the first line that is refused and why, or, with
-/// the number of lines plus 1, what is missing or too big at the end.
-pub fn parse(alloc: Global, bytes: &[u8]) -> Result<Scenario, ParseFault>
+/// Goes on from a draft by all lines of a text of fewer than 2^31 bytes. The draft behind them comes with their number,
+/// and `Line` names the first line that is refused and why.
+pub fn read_lines<D: Draft>(alloc: Global, draft: D, bytes: &[u8]) -> Result<(D, u32), ParseFault>
     requires { length bytes.now < 2 ^ 31 }
-    ensures { Gives result (scenario_of bytes.now) }
-{
-    let (draft, count) = read_lines(alloc, bytes)?;
-    match draft.finish(alloc) {
-        Ok(scenario) => Ok(scenario),
-        Err(refusal) => Err(refusal.in_line(count + 1)),
-    }
-}
-
-// What all lines say, and how many there are.
-fn read_lines(alloc: Global, bytes: &[u8]) -> Result<(ScenarioDraft, u32), ParseFault>
-    requires { length bytes.now < 2 ^ 31 }
-    ensures draft { Drafts result (after_lines after_line 1 no_scenario (lines bytes.now)) }
-    ensures sound { IfOk result (λ d. IsDraft d.0) }
+    ensures draft { Drafts result (after_lines (after_line D.after) 1 draft (lines bytes.now)) }
     ensures count { IfOk result (λ d. (d.1 ≡ length (lines bytes.now)) × (d.1 ≤ length bytes.now)) }
 {
-    let mut draft = ScenarioDraft::new(alloc);
+    let mut draft = draft;
     let mut rest = bytes;
     let mut count = 0;
     while !rest.is_empty() {
         let (line, others) = first_line(rest);
-        match draft.read(alloc, line) {
+        match read_line(alloc, &mut draft, line) {
             Ok(()) => {}
             Err(refusal) => return Err(refusal.in_line(count + 1)),
         }
@@ -43,4 +29,17 @@ fn read_lines(alloc: Global, bytes: &[u8]) -> Result<(ScenarioDraft, u32), Parse
         count += 1;
     }
     Ok((draft, count))
+}
+
+// Goes on by one line, unless it is refused.
+#[tactic(auto, unfolding(crate::specs::Reading::after_line))]
+fn read_line<D: Draft>(alloc: Global, draft: &mut D, line: &[u8]) -> Result<(), Refusal>
+    ensures { Reads result draft.new (after_line D.after draft.old line.now) }
+{
+    let words = words(alloc, line)?;
+    if is_skipped(&words) {
+        return Ok(());
+    }
+    refuse_unless(is_text(line), FaultKind::NotUtf8)?;
+    draft.read(&words)
 }

@@ -5,18 +5,19 @@ ghost use Rattle.scenario_text.specs.FloodParts.{knows};
 ghost use Rattle.scenario_text.specs.Faults.{first_fault, Refuses, RefusesBy, Finishes};
 ghost use Rattle.scenario_text.specs.ScenarioDrafts.{IsDraft};
 ghost use Rattle.scenario_text.specs.Network.{has_script_room, is_id as is_id_of};
-ghost use Rattle.scenario_text.specs.ScenarioGrammar.{no_scenario, line_fault, line_added, with_scenario_line, after_line, Reads, last_tick as last_tick_of, last_slot as last_slot_of, last_script_line, is_frame, is_step, in_script_order, with_act, with_boot, is_on, boots_of, finished, IsScenario};
+ghost use Rattle.scenario_text.specs.ScenarioGrammar.{no_scenario, line_fault, line_added, with_scenario_line, after_words, last_tick as last_tick_of, last_slot as last_slot_of, last_script_line, is_frame, is_step, in_script_order, with_act, with_boot, is_on, boots_of, finished, IsScenario};
 ghost use Rattle.scenario_text.specs.ScenarioParts.{ScenarioParts};
 ghost use Rattle.scenario_text.specs.declared.fault.FaultKind.TheVariants.{Range, UnknownNode, Order, TooMany};
 ghost use Rattle.scenario_text.specs.declared.scenario_line.ScenarioLine.TheVariants.{Profile as ProfileLine, Contend, Frames, Host, On, Off, Stream, Leave, Put, Lose, Cut, Capture};
 
+use crate::draft::Draft;
 use crate::fault::{Refusal, refuse_unless};
-use crate::network_draft::{NetworkDraft, are_two_ids, is_id};
+use crate::known_nodes::{are_two_ids, is_id};
+use crate::network_draft::NetworkDraft;
 use crate::scenario::Scenario;
 use crate::scenario_line::ScenarioLine;
-use crate::words::{is_skipped, is_text, words};
 use crate::{Act, FaultKind, ScriptLine};
-use lwb_base::{NodeId, Payload, Profile};
+use lwb_base::{NodeId, Payload, Profile, greatest_slot};
 use std::alloc::Global;
 use std::marker::Model;
 
@@ -44,6 +45,16 @@ impl Model for ScenarioDraft {
     ghost view = { λ d. record { network = d.network; first = d.first; after_two = d.after_two; profile = d.profile; frames = d.frames; hosts = d.hosts.items; script = d.script.items; on = d.on; boots = d.boots } };
 }
 
+impl Draft for ScenarioDraft {
+    ghost after = { after_words };
+
+    #[tactic(auto, unfolding(crate::specs::ScenarioGrammar::after_words))]
+    fn read(&mut self, words: &[&[u8]]) -> Result<(), Refusal> {
+        let line = ScenarioLine::new(words)?;
+        self.add(line)
+    }
+}
+
 impl ScenarioDraft {
     /// A draft of no lines. It takes no memory.
     pub fn new(alloc: Global) -> ScenarioDraft
@@ -60,21 +71,6 @@ impl ScenarioDraft {
             on: [false; 201],
             boots: [0; 201],
         }
-    }
-
-    /// Goes on by one line, unless it is refused.
-    #[tactic(auto, unfolding(crate::specs::ScenarioGrammar::after_line))]
-    pub fn read(&mut self, alloc: Global, line: &[u8]) -> Result<(), Refusal>
-        ensures { Reads result self.new (after_line self.old line.now) }
-    {
-        let words = words(alloc, line)?;
-        if is_skipped(&words) {
-            return Ok(());
-        }
-        refuse_unless(is_text(line), FaultKind::NotUtf8)?;
-        let said = ScenarioLine::new(&words).ok_or(FaultKind::BadWord)?;
-        refuse_unless(said.spells_numbers(&words), FaultKind::BadNumber)?;
-        self.add(said)
     }
 
     fn add(&mut self, line: ScenarioLine) -> Result<(), Refusal>
@@ -94,26 +90,45 @@ impl ScenarioDraft {
     {
         match line {
             ScenarioLine::InNetwork(line) => self.network.add(last_tick(&self.profile), line),
-            ScenarioLine::Profile(profile) => Ok(self.add_profile(profile)?),
-            ScenarioLine::Contend(slots) => Ok(self.add_contend(slots)?),
-            ScenarioLine::Frames(frames) => Ok(self.add_frames(frames)?),
-            ScenarioLine::Host(rank, id) => self.add_host(rank, id),
-            ScenarioLine::On(frame, id) => self.add_on(frame, id),
-            ScenarioLine::Off(frame, id) => self.add_off(frame, id),
-            ScenarioLine::Stream(frame, id, stream, interval) => {
-                self.add_stream(frame, id, stream, interval)
-            }
-            ScenarioLine::Leave(frame, id, stream) => self.add_leave(frame, id, stream),
-            ScenarioLine::Put(frame, id, stream, payload) => {
-                self.add_put(frame, id, stream, payload)
-            }
-            ScenarioLine::Lose(frame, slot, step, from, to) => {
-                self.add_loss(frame, slot, step, from, to)
-            }
-            ScenarioLine::Cut(frame, slot, step, id) => self.add_cut(frame, slot, step, id),
-            ScenarioLine::Capture(frame, slot, step, at, from) => {
-                self.add_capture(frame, slot, step, at, from)
-            }
+            ScenarioLine::Profile { number } => Ok(self.add_profile(number)?),
+            ScenarioLine::Contend { slots } => Ok(self.add_contend(slots)?),
+            ScenarioLine::Frames { count } => Ok(self.add_frames(count)?),
+            ScenarioLine::Host { rank, id } => self.add_host(rank, id),
+            ScenarioLine::On { frame, id } => self.add_on(frame, id),
+            ScenarioLine::Off { frame, id } => self.add_off(frame, id),
+            ScenarioLine::Stream {
+                frame,
+                id,
+                stream,
+                interval,
+            } => self.add_stream(frame, id, stream, interval),
+            ScenarioLine::Leave { frame, id, stream } => self.add_leave(frame, id, stream),
+            ScenarioLine::Put {
+                frame,
+                id,
+                stream,
+                payload,
+            } => self.add_put(frame, id, stream, payload),
+            ScenarioLine::Lose {
+                frame,
+                slot,
+                step,
+                from,
+                to,
+            } => self.add_loss(frame, slot, step, from, to),
+            ScenarioLine::Cut {
+                frame,
+                slot,
+                step,
+                id,
+            } => self.add_cut(frame, slot, step, id),
+            ScenarioLine::Capture {
+                frame,
+                slot,
+                step,
+                at,
+                from,
+            } => self.add_capture(frame, slot, step, at, from),
         }
     }
 
@@ -404,7 +419,7 @@ fn last_slot(profile: &Profile) -> u64
     ensures value { result ≡ last_slot_of profile.now }
     ensures small { result ≤ 45 }
 {
-    if profile.contend() == 0 { 42 } else { 45 }
+    u64::from(greatest_slot(profile.contend()))
 }
 
 fn is_host(hosts: &[NodeId], node: NodeId) -> bool

@@ -1,108 +1,114 @@
 ghost use Rattle.std.specs.Prelude.{◌≡◌, map};
-ghost use Rattle.scenario_text.specs.ScenarioGrammar.{scenario_line as scenario_line_of, scenario_numbers, is_profile_two};
+ghost use Rattle.scenario_text.specs.Faults.{spelled};
+ghost use Rattle.scenario_text.specs.ScenarioGrammar.{scenario_line as scenario_line_of, script_line as script_line_of, step_line as step_line_of, put_line as put_line_of, scenario_numbers, is_profile_two};
 
+use crate::FaultKind;
+use crate::fault::refuse_unless;
 use crate::network_line::NetworkLine;
-use crate::numbers::{are_numbers, is_number, number_at};
+use crate::numbers::{five_numbers, four_numbers, number, one_number, three_numbers, two_numbers};
 use crate::payloads::{is_payload, payload};
-use crate::words::{behind_first, counted, is, word};
+use crate::words::{is, word};
 use lwb_base::Payload;
 
 /// A line of a scenario, with its numbers as they stand there.
 #[derive(Drop)]
 pub enum ScenarioLine {
+    /// A line that flood texts have too.
     InNetwork(NetworkLine),
-    Profile(u64),
-    Contend(u64),
-    Frames(u64),
-    Host(u64, u64),
-    On(u64, u64),
-    Off(u64, u64),
-    Stream(u64, u64, u64, u64),
-    Leave(u64, u64, u64),
-    /// None where the payload is longer than any may be.
-    Put(u64, u64, u64, Option<Payload>),
-    Lose(u64, u64, u64, u64, u64),
-    Cut(u64, u64, u64, u64),
-    Capture(u64, u64, u64, u64, u64),
+    /// The profile, by its number.
+    Profile {
+        number: u64,
+    },
+    /// The number of contention slots.
+    Contend {
+        slots: u64,
+    },
+    /// The number of frames.
+    Frames {
+        count: u64,
+    },
+    /// A host, and its rank.
+    Host {
+        rank: u64,
+        id: u64,
+    },
+    /// At the start of the frame the node boots.
+    On {
+        frame: u64,
+        id: u64,
+    },
+    /// At the start of the frame the node is powered off.
+    Off {
+        frame: u64,
+        id: u64,
+    },
+    /// From the frame on the node's stream has an interval of so many seconds.
+    Stream {
+        frame: u64,
+        id: u64,
+        stream: u64,
+        interval: u64,
+    },
+    /// At the start of the frame the node's stream ends.
+    Leave {
+        frame: u64,
+        id: u64,
+        stream: u64,
+    },
+    /// The node's stream gets a payload to send. None where that is longer than any may be.
+    Put {
+        frame: u64,
+        id: u64,
+        stream: u64,
+        payload: Option<Payload>,
+    },
+    /// In that step the link is lost.
+    Lose {
+        frame: u64,
+        slot: u64,
+        step: u64,
+        from: u64,
+        to: u64,
+    },
+    /// From that step on the node is cut off, until its slot is over.
+    Cut {
+        frame: u64,
+        slot: u64,
+        step: u64,
+        id: u64,
+    },
+    /// The sender that the node hears in that step where several meet.
+    Capture {
+        frame: u64,
+        slot: u64,
+        step: u64,
+        at: u64,
+        from: u64,
+    },
 }
 
 impl ScenarioLine {
-    /// What the words say. None where they are not those of a line.
+    /// What the words say. `BadWord` comes where they are not those of a line, and else `BadNumber` where a number is
+    /// misspelled.
     #[tactic(auto, unfolding(crate::specs::ScenarioGrammar::scenario_line))]
-    pub fn new(words: &[&[u8]]) -> Option<ScenarioLine>
-        ensures { result ≡ scenario_line_of (map (λ w. w.now) words.now) }
+    pub fn new(words: &[&[u8]]) -> Result<ScenarioLine, FaultKind>
+        ensures { result ≡ spelled (scenario_line_of (map (λ w. w.now) words.now)) (λ l. scenario_numbers l (map (λ w. w.now) words.now)) }
     {
         let first = word(words, 0);
-        let (a, b, c) = (
-            number_at(words, 1),
-            number_at(words, 2),
-            number_at(words, 3),
-        );
-        let (d, e) = (number_at(words, 4), number_at(words, 5));
         if is(first, b"profile") {
-            return counted(2, words, ScenarioLine::Profile(a));
-        }
-        if is(first, b"contend") {
-            return counted(2, words, ScenarioLine::Contend(a));
-        }
-        if is(first, b"frames") {
-            return counted(2, words, ScenarioLine::Frames(a));
-        }
-        if is(first, b"host") {
-            return counted(3, words, ScenarioLine::Host(a, b));
-        }
-        if is(first, b"on") {
-            return counted(3, words, ScenarioLine::On(a, b));
-        }
-        if is(first, b"off") {
-            return counted(3, words, ScenarioLine::Off(a, b));
-        }
-        if is(first, b"stream") {
-            return counted(5, words, ScenarioLine::Stream(a, b, c, d));
-        }
-        if is(first, b"leave") {
-            return counted(4, words, ScenarioLine::Leave(a, b, c));
-        }
-        if is(first, b"put") {
-            let payload_word = word(words, 4);
-            if !is_payload(payload_word) {
-                return None;
-            }
-            return counted(5, words, ScenarioLine::Put(a, b, c, payload(payload_word)));
-        }
-        if is(first, b"lose") {
-            return counted(6, words, ScenarioLine::Lose(a, b, c, d, e));
-        }
-        if is(first, b"cut") {
-            return counted(5, words, ScenarioLine::Cut(a, b, c, d));
-        }
-        if is(first, b"capture") {
-            return counted(6, words, ScenarioLine::Capture(a, b, c, d, e));
-        }
-        let line = NetworkLine::new(words)?;
-        Some(ScenarioLine::InNetwork(line))
-    }
-
-    /// Whether the numbers of the line are spelled right.
-    pub fn spells_numbers(&self, words: &[&[u8]]) -> bool
-        ensures { result ≡ scenario_numbers self.now (map (λ w. w.now) words.now) }
-    {
-        match self {
-            ScenarioLine::InNetwork(line) => line.spells_numbers(words),
-            ScenarioLine::Put(_, _, _, _) => {
-                is_number(word(words, 1)) && is_number(word(words, 2)) && is_number(word(words, 3))
-            }
-            ScenarioLine::Profile(_)
-            | ScenarioLine::Contend(_)
-            | ScenarioLine::Frames(_)
-            | ScenarioLine::Host(_, _)
-            | ScenarioLine::On(_, _)
-            | ScenarioLine::Off(_, _)
-            | ScenarioLine::Stream(_, _, _, _)
-            | ScenarioLine::Leave(_, _, _)
-            | ScenarioLine::Lose(_, _, _, _, _)
-            | ScenarioLine::Cut(_, _, _, _)
-            | ScenarioLine::Capture(_, _, _, _, _) => are_numbers(behind_first(words)),
+            let number = one_number(words)?;
+            Ok(ScenarioLine::Profile { number })
+        } else if is(first, b"contend") {
+            let slots = one_number(words)?;
+            Ok(ScenarioLine::Contend { slots })
+        } else if is(first, b"frames") {
+            let count = one_number(words)?;
+            Ok(ScenarioLine::Frames { count })
+        } else if is(first, b"host") {
+            let (rank, id) = two_numbers(words)?;
+            Ok(ScenarioLine::Host { rank, id })
+        } else {
+            script_line(words)
         }
     }
 
@@ -110,8 +116,100 @@ impl ScenarioLine {
         ensures { result ≡ is_profile_two self.now }
     {
         match self {
-            ScenarioLine::Profile(profile) => *profile == 2,
+            ScenarioLine::Profile { number } => *number == 2,
             _ => false,
         }
     }
+}
+
+// What the words of a line of the script say, or of one that `step_line` knows.
+#[tactic(auto, unfolding(crate::specs::ScenarioGrammar::script_line))]
+fn script_line(words: &[&[u8]]) -> Result<ScenarioLine, FaultKind>
+    ensures { let ws = map (λ w. w.now) words.now in
+        result ≡ spelled (script_line_of ws) (λ l. scenario_numbers l ws) }
+{
+    let first = word(words, 0);
+    if is(first, b"on") {
+        let (frame, id) = two_numbers(words)?;
+        Ok(ScenarioLine::On { frame, id })
+    } else if is(first, b"off") {
+        let (frame, id) = two_numbers(words)?;
+        Ok(ScenarioLine::Off { frame, id })
+    } else if is(first, b"stream") {
+        let (frame, id, stream, interval) = four_numbers(words)?;
+        Ok(ScenarioLine::Stream {
+            frame,
+            id,
+            stream,
+            interval,
+        })
+    } else if is(first, b"leave") {
+        let (frame, id, stream) = three_numbers(words)?;
+        Ok(ScenarioLine::Leave { frame, id, stream })
+    } else if is(first, b"put") {
+        put_line(words)
+    } else {
+        step_line(words)
+    }
+}
+
+// What the words of a line say that names a step, or of one that flood texts have too.
+#[tactic(auto, unfolding(crate::specs::ScenarioGrammar::step_line))]
+fn step_line(words: &[&[u8]]) -> Result<ScenarioLine, FaultKind>
+    ensures { let ws = map (λ w. w.now) words.now in
+        result ≡ spelled (step_line_of ws) (λ l. scenario_numbers l ws) }
+{
+    let first = word(words, 0);
+    if is(first, b"lose") {
+        let (frame, slot, step, from, to) = five_numbers(words)?;
+        Ok(ScenarioLine::Lose {
+            frame,
+            slot,
+            step,
+            from,
+            to,
+        })
+    } else if is(first, b"cut") {
+        let (frame, slot, step, id) = four_numbers(words)?;
+        Ok(ScenarioLine::Cut {
+            frame,
+            slot,
+            step,
+            id,
+        })
+    } else if is(first, b"capture") {
+        let (frame, slot, step, at, from) = five_numbers(words)?;
+        Ok(ScenarioLine::Capture {
+            frame,
+            slot,
+            step,
+            at,
+            from,
+        })
+    } else {
+        let line = NetworkLine::new(words)?;
+        Ok(ScenarioLine::InNetwork(line))
+    }
+}
+
+// What the words behind `put` say. A payload that is misspelled comes before a number that is.
+#[tactic(auto, unfolding(crate::specs::ScenarioGrammar::put_line))]
+fn put_line(words: &[&[u8]]) -> Result<ScenarioLine, FaultKind>
+    ensures { let ws = map (λ w. w.now) words.now in
+        result ≡ spelled (put_line_of ws) (λ l. scenario_numbers l ws) }
+{
+    let hex = word(words, 4);
+    refuse_unless(is_payload(hex), FaultKind::BadWord)?;
+    let [_, frame, id, stream, _] = words else {
+        return Err(FaultKind::BadWord);
+    };
+    let frame = number(frame)?;
+    let id = number(id)?;
+    let stream = number(stream)?;
+    Ok(ScenarioLine::Put {
+        frame,
+        id,
+        stream,
+        payload: payload(hex),
+    })
 }

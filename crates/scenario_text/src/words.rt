@@ -1,7 +1,7 @@
-ghost use Rattle.std.specs.Prelude.{◌≡◌, ◌<◌, ◌==◌, ℕ, ◌∷◌, IfOk, position, length, map, drop};
+ghost use Rattle.std.specs.Prelude.{◌≡◌, ◌<◌, ◌==◌, ℕ, ◌∷◌, IfOk, position, length, map};
 ghost use Rattle.std.specs.Str.{bytes_eq, is_utf8 as is_utf8_of};
 ghost use Rattle.std.specs.Str.Lines.{lines, strip_carriage_return};
-ghost use Rattle.scenario_text.specs.Words.{is_blank as is_blank_of, words as words_of, word as word_of, is_skipped as is_skipped_of, counted as counted_of};
+ghost use Rattle.scenario_text.specs.Words.{is_blank as is_blank_of, words as words_of, word as word_of, is_skipped as is_skipped_of};
 
 use lwb_base::Memory;
 use std::alloc::Global;
@@ -78,25 +78,4 @@ pub fn is(word: &[u8], letters: &[u8]) -> bool
     ensures { result ≡ bytes_eq word.now letters.now }
 {
     word == letters
-}
-
-/// The line, if there are so many words.
-pub fn counted<L: Drop>(count: usize, words: &[&[u8]], line: L) -> Option<L>
-    ensures { result ≡ counted_of count (map (λ w. w.now) words.now) line }
-{
-    if words.len() == count {
-        Some(line)
-    } else {
-        None
-    }
-}
-
-/// The words behind the first.
-pub fn behind_first<'a, 'w>(words: &'w [&'a [u8]]) -> &'w [&'a [u8]]
-    ensures { map (λ w. w.now) result.now ≡ drop 1 (map (λ w. w.now) words.now) }
-{
-    match words {
-        [_, others @ ..] => others,
-        [] => words,
-    }
 }

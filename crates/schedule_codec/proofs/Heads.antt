@@ -1,6 +1,6 @@
 -- The bytes of a schedule, taken apart and put together.
-use Rattle.std.proofs.Common.{◌≡◌, ℕ, ◌+◌, ◌-◌, ◌*◌, ◌/◌, ◌%◌, ◌≤◌, List, [], ◌∷◌, ◌++◌, true, length, take, drop, get_or, set, Option, Some, None, refl, sym, ◌∙◌, ap, subst, arith}
-use Rattle.std.proofs.lemmas.Bool.{and_parts, and_from}
+use Rattle.std.proofs.Common.{◌≡◌, ℕ, ◌+◌, ◌-◌, ◌*◌, ◌/◌, ◌%◌, ◌≤◌, ◌==◌, ◌⊎◌, inl, inr, List, [], ◌∷◌, ◌++◌, true, length, take, drop, get_or, set, Option, Some, None, refl, sym, ◌∙◌, ap, subst, arith}
+use Rattle.std.proofs.lemmas.Bool.{and_parts, and_from, cond_both}
 use Rattle.std.proofs.lemmas.List.{take_rest}
 use Rattle.std.specs.Option.{IfSome}
 use Rattle.std.specs.Str.{bytes_eq}
@@ -37,6 +37,24 @@ heads_of p s is =
         owned = parts.owners;
         whole = ap (λ (l : List ℕ). drop 5 l) same;
       };
+    }
+
+-- the first byte of a schedule, and the rank in its fourth
+pub record Names (p : List ℕ) (rank : ℕ) : Type 0 where
+  pub long : 5 ≤ length p
+  pub kind : (get_or p 0 0 ≡ 1) ⊎ (get_or p 0 0 ≡ 4)
+  pub host : get_or p 3 0 / 16 ≡ rank
+
+pub names_host : (p : List ℕ) (s : Schedule) → spells p s ≡ true → Names p s.plan.rank
+names_host p s is =
+    let h = heads_of p s is in
+    let head = h.head in
+    let gap = h.parts.gap in
+    let kind = h.body.acknowledged.kind_is in
+    record {
+      long = h.long;
+      kind = cond_both (s.plan.contend == 0) 1 4 (λ (n : ℕ). n ≡ get_or p 0 0 → (get_or p 0 0 ≡ 1) ⊎ (get_or p 0 0 ≡ 4)) (λ none same. inl (sym same)) (λ some same. inr (sym same)) kind;
+      host = omega arith;
     }
 
 five_and_rest : (p : List ℕ) → 5 ≤ length p → get_or p 0 0 ∷ get_or p 1 0 ∷ get_or p 2 0 ∷ get_or p 3 0 ∷ get_or p 4 0 ∷ drop 5 p ≡ p

@@ -9,5 +9,6 @@ pub mod Packs
 pub mod Lists
 pub mod Sums
 pub mod CodeBytes
+mod LeastWidths
 pub mod AckRuns
 pub mod Examples

@@ -1,7 +1,7 @@
 -- The bytes of a schedule, by slot and counter.
 use Rattle.std.specs.Prelude.{◌≡◌, ◌≤◌, true, ℕ, ◌+◌, ◌-◌, ◌*◌, List, [], ◌∷◌, ◌++◌, Bool, ◌&&◌, ◌==◌, nat_le, if◌then◌else◌, length, flat_map, slice_index, bytes_eq}
 use Rattle.std.specs.List.{list_all}
-use Rattle.lwb_base.specs.Messages.{Ask, Schedule}
+use Rattle.lwb_base.specs.Messages.{Ask, Schedule, greatest_slot}
 use Rattle.lwb_packets.specs.Ranges.{between}
 use Rattle.schedule_codec.specs.AckLists.{are_acks, ask_in_range, ask_bytes}
 use Rattle.schedule_codec.specs.OwnerLists.{are_owners, owners_bytes}
@@ -42,7 +42,7 @@ pub record SpellsBody (kind : ℕ) (bs : List ℕ) (contend : ℕ) (acks : List 
 
 -- an opening stands in slot 0, and a closing in the last slot of some round of its version
 abbrev pub slot_fits : ℕ → ℕ → ℕ → Bool
-slot_fits gap contend slot = if gap == 0 then slot == 0 else between 2 (if contend == 0 then 42 else 45) slot
+slot_fits gap contend slot = if gap == 0 then slot == 0 else between 2 (greatest_slot contend) slot
 
 -- the ranges of the fields, the slot and the counter
 abbrev pub in_range : Schedule → ℕ → ℕ → Bool

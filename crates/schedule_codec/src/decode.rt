@@ -6,7 +6,7 @@ ghost use Rattle.schedule_codec.specs.Reading.{schedule_of};
 use crate::ack_bytes::{Acknowledged, read_acks};
 use crate::owner_bytes::read_owners;
 use crate::{Owners, Schedule};
-use lwb_base::{Packet, Rank};
+use lwb_base::{Packet, Rank, greatest_slot};
 
 /// The schedule that these bytes spell, in any slot and with any counter. None exactly where they spell none.
 pub fn read(p: &Packet) -> Option<Schedule>
@@ -19,6 +19,21 @@ pub fn read(p: &Packet) -> Option<Schedule>
     ensures writable { IfSome result (λ s. IsWritable s (slice_index p.now 1)) }
 {
     spelled(p)
+}
+
+/// The rank of the host, where these bytes spell a schedule. Whether they spell one is not tested: other bytes give some
+/// number up to 15, or None.
+pub fn named_host(p: &Packet) -> Option<u8>
+    ensures { (s : Said) → spells p.now s ≡ true → result ≡ Some s.plan.rank }
+{
+    let [kind, _, _, head, ..] = p.bytes() else {
+        return None;
+    };
+    if *kind == 1 || *kind == 4 {
+        Some(*head / 16)
+    } else {
+        None
+    }
 }
 
 // The schedule whose spelling these bytes are.
@@ -48,16 +63,14 @@ fn spelled(p: &Packet) -> Option<Schedule>
     })
 }
 
-// An opening stands in slot 0, and a closing in the last slot of some round: of at most 40 owners, and of 1 contention
-// slot or of at most 4.
+// An opening stands in slot 0, and a closing in the last slot of some round of its version.
 fn slot_fits(gap: u8, contend: u8, slot: u8) -> bool
     ensures { result ≡ fits gap contend slot }
 {
-    let last = if contend == 0 { 42 } else { 45 };
     if gap == 0 {
         slot == 0
     } else {
-        2 <= slot && slot <= last
+        2 <= slot && slot <= greatest_slot(contend)
     }
 }
 

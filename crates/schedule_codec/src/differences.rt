@@ -1,4 +1,4 @@
-ghost use Rattle.std.specs.Prelude.{◌≡◌, ◌≤◌, ◌<◌, ◌∷◌, length, true};
+ghost use Rattle.std.specs.Prelude.{◌≡◌, ◌≤◌, ◌<◌, ◌==◌, ◌∷◌, length, true};
 ghost use Rattle.schedule_codec.specs.Packing.{fit};
 ghost use Rattle.schedule_codec.specs.OwnerLists.{are_owners, differences as differences_of, width_of};
 
@@ -33,6 +33,16 @@ pub fn least_width(differences: &[u16]) -> u8
         }
     }
     10
+}
+
+/// Whether no width below this one, which they all fit, would do.
+#[tactic(auto, using(crate::proofs::LeastWidths::none_needed, crate::proofs::LeastWidths::needs_all))]
+pub fn is_least(differences: &[u16], width: u8) -> bool
+    requires narrow { width ≤ 10 }
+    requires fits { fit width differences.now ≡ true }
+    ensures { result ≡ (width_of differences.now == width) }
+{
+    width == 0 || !fit_in(differences, width - 1)
 }
 
 fn fit_in(differences: &[u16], width: u8) -> bool

@@ -13,7 +13,7 @@ mod packing;
 mod schedule;
 
 pub use acks::{Ack, Acks};
-pub use decode::read;
+pub use decode::{named_host, read};
 pub use encode::write;
 pub use owners::Owners;
 pub use schedule::Schedule;

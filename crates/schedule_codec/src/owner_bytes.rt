@@ -7,7 +7,7 @@ ghost use Rattle.schedule_codec.specs.OwnerLists.{are_owners, differences as dif
 ghost use Rattle.schedule_codec.specs.Reading.{summed as summed_from};
 
 use crate::Owners;
-use crate::differences::{differences, least_width};
+use crate::differences::{differences, is_least, least_width};
 use crate::packing::{pack, unpack};
 use arrayvec::ArrayVec;
 use byteorder::{BigEndian, ByteOrder};
@@ -76,7 +76,7 @@ fn read_codes(count: u8, bytes: &[u8]) -> Option<Owners>
         return None;
     }
     let steps = unpack(packed, width, count - 1)?;
-    if least_width(steps.as_slice()) != width {
+    if !is_least(steps.as_slice(), width) {
         return None;
     }
     summed(start / 16, steps.as_slice())

@@ -1,5 +1,6 @@
 -- A slot that is a run of the flood theorem: its windows have accepted and initiated what their nodes do on the bus.
-use Rattle.std.proofs.Common.{◌≡◌, ℕ, ◌≤◌, List, [], ◌∷◌, Bool, true, false, ◌==◌, ◌||◌, if◌then◌else◌, Some, None, Option, IfSome, inl, inr, is_some, fold, slice_set, option_and_then, refl, sym, ◌∙◌, ap, subst, arith, true≢false}
+use Rattle.std.proofs.Common.{◌≡◌, ℕ, ◌≤◌, List, [], ◌∷◌, Bool, true, false, ◌==◌, ◌||◌, if◌then◌else◌, Some, None, Option, IfSome, inl, inr, is_some, fold}
+use Rattle.std.proofs.Common.{slice_set, option_and_then, refl, sym, ◌∙◌, ap, subst, arith, true≢false}
 use Rattle.std.proofs.lemmas.Bool.{cases_Bool, cond_both, false≢true}
 use Rattle.lwb_base.specs.Messages.{Plan}
 use Rattle.glossy_relay.specs.FloodState.{FloodState}
@@ -38,7 +39,7 @@ use Rattle.bus_alignment.specs.SlotRuns.{IsRunOf, RunsLaw}
 use Rattle.bus_alignment.specs.SlotSteps.{IsSlotHeard, IsSlotStart, SlotHeardLaw}
 use Rattle.bus_alignment.proofs.SlotSends.{accepts_same, listener, sends_same}
 use Rattle.slot_floods.specs.FloodedSlots.{StartedSlotLaw}
-use Rattle.slot_floods.proofs.HeardOrigins.{heard_origin}
+use Rattle.bus_model.proofs.HeardOrigins.{heard_origin}
 use Rattle.slot_floods.proofs.SayableWindows.{sayable}
 
 -- the ids of nodes

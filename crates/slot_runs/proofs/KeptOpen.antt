@@ -9,7 +9,7 @@ use Rattle.bus_rules.specs.Cores.{Setup}
 use Rattle.node_core.specs.declared.stage.Stage.{Stage}
 use Rattle.node_core.specs.declared.stage.Stage.TheVariants.{Idle, Scanning, AwaitFrame, AwaitSlot, InWindow}
 use Rattle.node_core.specs.Nodes.{Node}
-use Rattle.node_core.specs.Runs.{node_after}
+use Rattle.node_core.specs.Rows.{node_after}
 use Rattle.node_core.specs.Windows.{Window}
 use Rattle.radio_model.specs.OnAir.{Tuning}
 use Rattle.radio_model.specs.declared.sending.Sending.{Sending}

@@ -27,17 +27,7 @@ use Rattle.slot_runs.specs.SlotRun.{AreEvents, run_of_slot, size_by}
 use Rattle.slot_runs.proofs.SlotSendings.{of_slot, in_slot}
 use Rattle.slot_runs.proofs.SlotSpeakers.{IsSpeaker, speaker, speaks, said_same, message_is, start_is, first_sending}
 use Rattle.slot_runs.proofs.SlotStarts.{InSlot, is_of_window, one_length}
-
-abbrev of_parts : ℕ → ℕ → ℕ → ℕ → List ℕ → Sending
-of_parts rank node start end packet = record { rank = rank; node = node; start = start; end = end; packet = packet }
-
-pub same_sending : (x y : Sending) → x.rank ≡ y.rank → x.node ≡ y.node → x.start ≡ y.start → x.end ≡ y.end → x.packet ≡ y.packet → x ≡ y
-same_sending x y rank node start end packet =
-    ap (λ (r : ℕ). of_parts r x.node x.start x.end x.packet) rank
-    ∙ ap (λ (u : ℕ). of_parts y.rank u x.start x.end x.packet) node
-    ∙ ap (λ (k : ℕ). of_parts y.rank y.node k x.end x.packet) start
-    ∙ ap (λ (k : ℕ). of_parts y.rank y.node y.start k x.packet) end
-    ∙ ap (λ (q : List ℕ). of_parts y.rank y.node y.start y.end q) packet
+use Rattle.air_log.proofs.SameSendings.{same_sending}
 
 pub record BeginsAsSaid (r : Run) : Type 0 where
   pub lasts : (x : Sending) → Contains r.sendings x → (x.rank ≡ r.rank) × (x.end ≡ x.start + r.air)

@@ -1,11 +1,11 @@
 -- In a window no more sendings have ended than a node sends at most.
-use Rattle.std.proofs.Common.{◌≡◌, ℕ, suc, ◌<◌, ◌≤◌, inl, inr, List, [], ◌∷◌, ◌++◌, true, nat_lt, length, filter_map, Contains, refl, sym, ◌∙◌, ap}
+use Rattle.std.proofs.Common.{◌≡◌, ℕ, suc, ◌<◌, ◌≤◌, inl, inr, List, [], ◌∷◌, ◌++◌, true, length, filter_map, Contains, refl, sym, ◌∙◌, ap}
 use Rattle.std.proofs.Common.{subst, arith, length-append, true≢false}
 use Rattle.std.proofs.lemmas.Bool.{cases_eq, cond_both}
 use Rattle.std.proofs.lemmas.List.Elements.{filter_map-append}
 use Rattle.lwb_packets.specs.declared.kind.Kind as Kind
 use Rattle.glossy_relay.specs.FloodState.{FloodState, listening}
-use Rattle.glossy_relay.specs.Relaying.{after_heard, counter_of, first_of, fits, slot_of}
+use Rattle.glossy_relay.specs.Relaying.{after_heard, slot_of}
 use Rattle.bus_rules.specs.Slots.{part_of, opened}
 use Rattle.bus_rules.specs.Tuning.{rank_of}
 use Rattle.lwb_member.specs.Said.{message_of}
@@ -30,6 +30,7 @@ use Rattle.air_invariant.proofs.InvariantHolds.{all_rows}
 use Rattle.air_invariant.proofs.OpenedNodes.{flood_unsent}
 use Rattle.air_bus.specs.WindowSteps.{KeepsWindows}
 use Rattle.air_bus.proofs.WindowWalk.{on_in, windows_before}
+use Rattle.air_bus.proofs.WindowRadios.{heard_sent}
 
 -- the flood counts them
 record SendsFew (s : ScenarioParts) (w : WindowLog) : Type 0 where
@@ -50,11 +51,6 @@ more_sent es t p =
     omega (arith, all, both)
 
 -- hearings do not count
-heard_sent : (f : FloodState) (p : List ℕ) → (after_heard f p).sent ≡ f.sent
-heard_sent f p =
-    cond_both (fits f p) (record f { waiting = nat_lt (counter_of p) 11; first = first_of f.first p }) f (λ (g : FloodState). g.sent ≡ f.sent)
-    (λ is. refl) (λ is. refl)
-
 taken_sent : (rank : ℕ) (w : Window) (p : List ℕ) → (flood_by rank w p).sent ≡ w.flood.sent
 taken_sent rank w p =
     cond_both (is_foreign rank (message_of p)) w.flood (after_heard w.flood p) (λ (g : FloodState). g.sent ≡ w.flood.sent)

@@ -1,20 +1,18 @@
 -- The last of the sendings that ended in a window, and how many have ended by a tick.
-use Rattle.std.proofs.Common.{◌≡◌, ℕ, ◌<◌, ◌≤◌, inl, inr, List, [], ◌∷◌, Bool, true, false, nat_le, if◌then◌else◌, Some, None, length, filter_map}
+use Rattle.std.proofs.Common.{◌≡◌, ℕ, ◌<◌, ◌≤◌, inl, inr, List, [], ◌∷◌, Bool, true, false, nat_le, Some, None, length, filter_map}
 use Rattle.std.proofs.Common.{Contains, AllPairs, refl, sym, ◌∙◌, ap, arith}
 use Rattle.std.specs.List.{last_or}
-use Rattle.std.proofs.lemmas.Bool.{leb-true, le-leb}
+use Rattle.std.proofs.lemmas.Bool.{le-leb}
 use Rattle.air_log.specs.Charges.{sent_in}
 use Rattle.air_log.specs.WindowLogs.{Happening, HeardAt, SentAt}
 use Rattle.air_log.proofs.Elements.{not_in_none, contains_head, contains_tail, contains_cases, pairs_head, pairs_tail}
 use Rattle.air_bus.specs.WindowHistory.{tick_of}
 use Rattle.air_bus.specs.WindowRadios.{sendings_in}
+use Rattle.air_bus.proofs.CountedEnds.{one_if, not_by}
 
 -- their packets
 abbrev pub packets : List Happening → List (List ℕ)
 packets es = filter_map sent_in es
-
-abbrev one_if : Bool → ℕ
-one_if b = if b then 1 else 0
 
 one_at_most : (b : Bool) → one_if b ≤ 1
 one_at_most true = omega arith
@@ -42,13 +40,6 @@ fewer_before k (SentAt u q ∷ es) t p there later = elim (contains_cases (SentA
       )
   | inr rest ↦ (let fewer = fewer_before k es t p rest later in let one = one_at_most (nat_le u k) in omega (arith, fewer, one))
 ]
-  where
-    not_by : (t k : ℕ) → k < t → nat_le t k ≡ false
-    not_by t k after = of_test (nat_le t k) refl
-      where
-        of_test : (b : Bool) → nat_le t k ≡ b → b ≡ false
-        of_test false is = refl
-        of_test true is = absurd (let le = leb-true t k is in omega (arith, le, after))
 
 -- all of them, if none ends later
 pub all_by : (k : ℕ) (es : List Happening) → ((t : ℕ) (p : List ℕ) → Contains es (SentAt t p) → t ≤ k) → sendings_in k es ≡ length (packets es)

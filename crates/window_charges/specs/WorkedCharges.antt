@@ -10,7 +10,7 @@ use Rattle.glossy_relay.specs.FloodState.{FloodState}
 use Rattle.air_log.specs.Charges.{charge}
 use Rattle.air_log.specs.WindowLogs.{WindowLog, HeardAt, SentAt}
 use Rattle.air_safety.specs.OnePacket.{drifting, one_packet, one_packet_log, data_0, data_1, data_2, data_with}
-use Rattle.air_safety.specs.OnePacketMember.{awaits_9_2, awaits_9_3, floods_9_1, listens_9_2}
+use Rattle.air_safety.specs.OnePacketMemberNodes.{awaits_9_2, awaits_9_3, floods_9_1, listens_9_2}
 use Rattle.air_safety.specs.OnePacketNodes.{flood, node, reopened, waiting}
 use Rattle.air_bus.specs.WindowRows.{ClosesAs, IsOpened}
 use Rattle.air_bus.specs.WorkedWindows.{asking_window}

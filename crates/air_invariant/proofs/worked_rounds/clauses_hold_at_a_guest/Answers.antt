@@ -1,4 +1,5 @@
-use Rattle.air_invariant.proofs.GuestClauses.{joins, asks, holds, relays, hears_closing, holds_on}
+use Rattle.air_invariant.proofs.GuestHolds.{holds, hears_closing, holds_on, relays}
+use Rattle.air_invariant.proofs.GuestJoins.{joins, asks}
 use Rattle.air_invariant.proofs.LateWindows.{late_window, late_opening}
 use Rattle.air_invariant.proofs.worked_rounds.clauses_hold_at_a_guest.Goals as goal
 

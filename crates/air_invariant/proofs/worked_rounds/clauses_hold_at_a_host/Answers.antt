@@ -1,4 +1,5 @@
-use Rattle.air_invariant.proofs.HostClauses.{awaits, opens, sends, relays, awaits_data, closes, waits}
+use Rattle.air_invariant.proofs.HostCloses.{awaits_data, relays, closes, waits}
+use Rattle.air_invariant.proofs.HostOpens.{opens, sends, awaits}
 use Rattle.air_invariant.proofs.RestingClauses.{is_off, scans, goes_on, awaits_early}
 use Rattle.air_invariant.proofs.worked_rounds.clauses_hold_at_a_host.Goals as goal
 

@@ -1,12 +1,8 @@
-use Rattle.std.proofs.Common.{◌≡◌, List, map, rules, ap, ◌∙◌}
-use Rattle.std.specs.List.Sorted.{IsSortedBy}
+use Rattle.std.proofs.Common.{◌≡◌, rules}
 use Rattle.std.proofs.lemmas.List.Sorted.{answers_always}
-use Rattle.radio_model.specs.OnAir.{Hearing}
-use Rattle.air_log.specs.Lawful.{by_end, reception_of, hearings_by}
 use Rattle.air_log.specs.LogText.{in_order}
-use Rattle.air_log.specs.Courses.{hearing_of, reception_in}
-use Rattle.air_log.proofs.StableSorts.{sorted_by_insertion, flat_map-map}
-use Rattle.air_log.proofs.HearingsInAir.{place_of, before, is_order, sorted_same, sorted_ascends, received}
+use Rattle.air_log.proofs.StableSorts.{sorted_by_insertion}
+use Rattle.air_log.proofs.HearingsInAir.{place_of, before, is_order, sorted_ascends, received}
 use Rattle.air_log.proofs.trails.heard_by.Goals as goal
 
 pub returns-clause-heard : goal.returns-clause-heard

@@ -1,7 +1,6 @@
-use Rattle.std.proofs.Common.{◌≡◌, List, map, take, ap, ◌∙◌, arith}
+use Rattle.std.proofs.Common.{List, map, ap, ◌∙◌}
 use Rattle.std.proofs.lemmas.List.{take_all}
 use Rattle.air_log.specs.declared.entry.Entry.{Entry}
-use Rattle.air_log.specs.declared.entry.HeardEntry.{HeardEntry}
 use Rattle.air_log.specs.Lawful.{hearings_by}
 use Rattle.air_log.specs.Courses.{hearing_of}
 use Rattle.air_log.proofs.HearingsInAir.{hearings_more}

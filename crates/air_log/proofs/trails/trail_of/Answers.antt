@@ -1,15 +1,13 @@
-use Rattle.std.proofs.Common.{◌≡◌, ◌≤◌, ◌<◌, ◌*◌, ◌+◌, ℕ, List, [], ◌∷◌, ◌++◌, map, take, Option, true, false, sym, refl, ap, subst, ◌∙◌, arith}
+use Rattle.std.proofs.Common.{◌≡◌, ◌<◌, ◌*◌, ◌+◌, ℕ, List, [], map, take, Option, true, false, sym, ap, subst, ◌∙◌, arith}
 use Rattle.scenario_text.proofs.SoundScenarios.{sound}
 use Rattle.scenario_text.specs.ScenarioFacts.{turned}
 use Rattle.bus_rules.specs.Cores.{Setup}
 use Rattle.bus_rules.specs.declared.tune.Tune.{Tune}
-use Rattle.air_log.specs.Charges.{scans_with}
-use Rattle.air_log.specs.Devices.{Device, seen_power}
 use Rattle.air_log.specs.declared.entry.Entry.{Entry}
 use Rattle.air_log.specs.declared.entry.HeardEntry.{HeardEntry}
 use Rattle.air_log.specs.Lawful.{heard_by}
 use Rattle.air_log.specs.Trails.{setup_of, frame_start, at_frame, before_tick}
-use Rattle.air_log.specs.Courses.{CourseState, Shows, Ascends, IsCut, end_of, reception_in}
+use Rattle.air_log.specs.Courses.{Shows, Ascends, IsCut, end_of, reception_in}
 use Rattle.air_log.proofs.FramesOfCourses.{tick_of}
 use Rattle.air_log.proofs.TrailsOfCourses.{IsAtFrame, begins, after_lines_shows, tunes_more, scanned_more, tune_in, told_is}
 use Rattle.air_log.proofs.trails.trail_of.Goals as goal

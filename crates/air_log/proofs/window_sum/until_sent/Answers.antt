@@ -1,4 +1,4 @@
-use Rattle.std.proofs.Common.{◌≡◌, ◌+◌, ◌-◌, ◌*◌, ◌≤◌, arith, ap, ◌∙◌}
+use Rattle.std.proofs.Common.{◌+◌, ◌-◌, ◌*◌, arith, ap}
 use Rattle.air_log.proofs.SmallSendings.{small_sending}
 use Rattle.air_log.proofs.window_sum.until_sent.Goals as goal
 

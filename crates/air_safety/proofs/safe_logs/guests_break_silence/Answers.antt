@@ -2,4 +2,10 @@ use Rattle.air_safety.proofs.UnsafeSpeech.{unheard_breaks, not_the_owner_breaks,
 use Rattle.air_safety.proofs.safe_logs.guests_break_silence.Goals as goal
 
 pub returns : goal.returns
-returns c = record { unheard = unheard_breaks; not_the_owner = not_the_owner_breaks; not_due = not_due_breaks; not_opened = not_opened_breaks; gone_off = gone_off_breaks }
+returns c = record {
+  unheard = unheard_breaks;
+  not_the_owner = not_the_owner_breaks;
+  not_due = not_due_breaks;
+  not_opened = not_opened_breaks;
+  gone_off = gone_off_breaks;
+}

@@ -2,4 +2,13 @@ use Rattle.air_safety.proofs.StreamsInRange.{cleared_are, declared_are, left_are
 use Rattle.air_safety.proofs.trails_in_range.streams_stay_in_range.Goals as goal
 
 pub returns : goal.returns
-returns c = record { boot = cleared_are; declare = declared_are; leave = left_are; queue = put_are; take = taken_are; contend = contention_are; host = unbound_are; hear = heard_are }
+returns c = record {
+  boot = cleared_are;
+  declare = declared_are;
+  leave = left_are;
+  queue = put_are;
+  take = taken_are;
+  contend = contention_are;
+  host = unbound_are;
+  hear = heard_are;
+}

@@ -1,4 +1,4 @@
-use Rattle.std.proofs.Common.{◌≡◌, ◌<◌, List, length, map, take, get_or, sym, ◌∙◌, ap, arith}
+use Rattle.std.proofs.Common.{◌≡◌, ◌<◌, length, map, get_or, sym, ◌∙◌, arith}
 use Rattle.std.proofs.lemmas.List.{take_all, length-map, get_or_default}
 use Rattle.plain_bus.specs.BusNodes.{BusNode}
 use Rattle.plain_bus.proofs.ListsInPlace.{same_place, one_more_changed, rest_unchanged}

@@ -1,6 +1,5 @@
 use Rattle.std.proofs.Common.{◌≡◌, ◌<◌, ◌≤◌, ◌+◌, ℕ, List, length, map, take, get_or, subst, sym, ◌∙◌, ap, arith}
 use Rattle.std.proofs.lemmas.List.{take_all, length-map, get_or_default, get_or-map, take_more_set}
-use Rattle.bus_rules.specs.States.{State}
 use Rattle.bus_model.specs.Bus.{Cost}
 use Rattle.bus_model.specs.FloodOfText.{ids}
 use Rattle.plain_bus.specs.BusNodes.{BusNode, bus_node}

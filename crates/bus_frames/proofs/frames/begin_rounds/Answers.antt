@@ -1,11 +1,9 @@
-use Rattle.std.proofs.Common.{◌≡◌, ◌<◌, ◌≤◌, ◌+◌, ◌*◌, ◌++◌, ℕ, List, All, length, map, take, drop, subst, refl, sym, ◌∙◌, ap, arith}
+use Rattle.std.proofs.Common.{◌≡◌, ◌≤◌, List, All, length, map, subst, sym, ◌∙◌, ap, arith}
 use Rattle.std.proofs.lemmas.List.{length-map}
-use Rattle.bus_rules.specs.declared.delivery.Delivery.{Delivery}
 use Rattle.bus_model.specs.Bus.{Cost}
-use Rattle.plain_bus.specs.BusNodes.{BusNode}
 use Rattle.plain_bus.specs.Networks.{Network}
 use Rattle.plain_bus.proofs.SlotsMet.{put_back}
-use Rattle.bus_frames.specs.FrameNodes.{begun, ended_at}
+use Rattle.bus_frames.specs.FrameNodes.{begun}
 use Rattle.bus_frames.proofs.frames.begin_rounds.Goals as goal
 
 pub count_scans-requires-clause-nodes : goal.count_scans-requires-clause-nodes

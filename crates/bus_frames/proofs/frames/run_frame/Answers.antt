@@ -1,15 +1,11 @@
-use Rattle.std.proofs.Common.{◌≡◌, ◌<◌, ◌≤◌, ◌+◌, ◌*◌, ◌++◌, ℕ, List, All, length, map, get_or, subst, refl, sym, ◌∙◌, ap, arith}
-use Rattle.std.proofs.lemmas.List.{length-map}
+use Rattle.std.proofs.Common.{◌≡◌, ◌+◌, ◌*◌, ◌++◌, ℕ, List, map, sym, ◌∙◌, ap, arith}
 use Rattle.bus_rules.specs.declared.delivery.Delivery.{Delivery}
 use Rattle.bus_rules.specs.States.{State}
-use Rattle.bus_model.specs.Bus.{Cost, before_frame, state_at}
+use Rattle.bus_model.specs.Bus.{state_at}
 use Rattle.bus_model.specs.FloodOfText.{ids}
-use Rattle.bus_model.specs.Rounds.{rounds}
-use Rattle.plain_bus.specs.BusNodes.{BusNode, IsEarlyState, ranks_in}
-use Rattle.plain_bus.specs.Networks.{Network, IsReady}
-use Rattle.plain_bus.specs.SlotCosts.{IsBelow}
+use Rattle.plain_bus.specs.BusNodes.{ranks_in}
 use Rattle.scenario_text.proofs.SoundScenarios.{sound}
-use Rattle.bus_frames.specs.FrameNodes.{begun, deliveries_to, ended_at, frame_deliveries, nodes_with, prior_ranks}
+use Rattle.bus_frames.specs.FrameNodes.{begun, ended_at, frame_deliveries, nodes_with, prior_ranks}
 use Rattle.bus_frames.specs.RoundCosts.{cost_after, with_scan}
 use Rattle.bus_frames.proofs.FramesInTurn.{nodes_begun, nodes_ended, costs_more, delivered_more, power_next, all_few, ready_begun, ready_ended}
 use Rattle.bus_frames.proofs.RanksKept.{ranked}

@@ -6,10 +6,9 @@ use Rattle.lwb_base.specs.Messages.{Plan}
 use Rattle.bus_rules.specs.declared.delivery.Delivery.{Delivery}
 use Rattle.bus_rules.specs.declared.part.Part.{Part}
 use Rattle.bus_rules.specs.States.{State}
-use Rattle.bus_model.specs.Bus.{Cost}
 use Rattle.bus_model.specs.FloodOfText.{ids}
 use Rattle.bus_model.specs.Rounds.{after_round, round_plan, slot_deliveries, slots_of}
-use Rattle.plain_bus.specs.BusNodes.{BusNode, nodes_in, ranks_in}
+use Rattle.plain_bus.specs.BusNodes.{nodes_in, ranks_in}
 use Rattle.plain_bus.specs.Leaders.{parts_of}
 use Rattle.plain_bus.specs.Networks.{Network}
 use Rattle.bus_frames.proofs.RanksInTurn.{led_some, led_none, with_plan, no_round}

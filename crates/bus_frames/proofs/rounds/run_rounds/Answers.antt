@@ -1,12 +1,11 @@
-use Rattle.std.proofs.Common.{◌≡◌, ◌<◌, ◌≤◌, ◌+◌, ◌*◌, ◌++◌, ◌==◌, ℕ, List, if◌then◌else◌, length, map, flat_map, sym, ◌∙◌, ap, subst, arith, append_assoc}
+use Rattle.std.proofs.Common.{◌≡◌, ◌+◌, ◌*◌, ◌++◌, ◌==◌, ℕ, List, if◌then◌else◌, length, map, flat_map, sym, ◌∙◌, ap, arith, append_assoc}
 use Rattle.std.proofs.Common.{append-nil}
 use Rattle.std.specs.List.{range_with_len}
 use Rattle.bus_rules.specs.declared.delivery.Delivery.{Delivery}
 use Rattle.bus_rules.specs.States.{State}
-use Rattle.bus_model.specs.Bus.{Cost}
 use Rattle.bus_model.specs.FloodOfText.{ids}
 use Rattle.bus_model.specs.Rounds.{round, round_deliveries}
-use Rattle.plain_bus.specs.BusNodes.{BusNode, nodes_in, ranks_in}
+use Rattle.plain_bus.specs.BusNodes.{nodes_in, ranks_in}
 use Rattle.bus_frames.specs.FrameNodes.{nodes_with, run_below}
 use Rattle.bus_frames.specs.RoundCosts.{cost_below, with_round}
 use Rattle.bus_frames.proofs.RanksInTurn.{enters, leaves, costs_left, none_run, none_charged, all_run, all_charged}

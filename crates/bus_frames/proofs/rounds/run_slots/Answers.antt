@@ -1,15 +1,11 @@
-use Rattle.std.proofs.Common.{◌≡◌, ◌<◌, ◌≤◌, ◌+◌, ◌++◌, ◌==◌, ℕ, List, if◌then◌else◌, length, map, flat_map, get_or, sym, ◌∙◌, ap, subst, arith, append_assoc}
+use Rattle.std.proofs.Common.{◌≡◌, ◌+◌, ◌++◌, ◌==◌, ℕ, List, if◌then◌else◌, length, map, flat_map, sym, ◌∙◌, ap, subst, arith, append_assoc}
 use Rattle.std.proofs.Common.{append-nil}
 use Rattle.std.specs.List.{range_with_len}
-use Rattle.lwb_base.specs.Messages.{Plan}
 use Rattle.bus_rules.specs.declared.delivery.Delivery.{Delivery}
-use Rattle.bus_rules.specs.Plans.{last_slot}
-use Rattle.bus_rules.specs.States.{State}
-use Rattle.bus_model.specs.Bus.{Cost}
 use Rattle.bus_model.specs.FloodOfText.{ids}
 use Rattle.bus_model.specs.Rounds.{slot_deliveries}
-use Rattle.plain_bus.specs.BusNodes.{BusNode, nodes_before, ranks_in}
-use Rattle.plain_bus.specs.Networks.{Network, IsReady}
+use Rattle.plain_bus.specs.BusNodes.{nodes_before, ranks_in}
+use Rattle.plain_bus.specs.Networks.{IsReady}
 use Rattle.bus_frames.specs.RoundCosts.{with_slots}
 use Rattle.bus_frames.proofs.SlotsInTurn.{ready_more, part_at, parts_count, before_first, flat_more, costs_first, costs_more}
 use Rattle.bus_frames.proofs.rounds.run_slots.Goals as goal

@@ -1,6 +1,5 @@
 use Rattle.std.proofs.Common.{◌≡◌, ◌<◌, ◌≤◌, ◌+◌, ◌++◌, [], ℕ, List, All, false, inl, inr, length, take, get_or, set, option_to_list, subst, refl, sym, ◌∙◌, ap}
 use Rattle.std.proofs.Common.{arith}
-use Rattle.std.specs.List.{AllPairs}
 use Rattle.std.proofs.lemmas.Bool.{cases_lt}
 use Rattle.std.proofs.lemmas.List.{get_or-map, get_or_default, length-set}
 use Rattle.std.proofs.lemmas.List.Elements.{All-set}
@@ -8,16 +7,14 @@ use Rattle.scenario_text.specs.ScenarioFacts.{IsAct, turned}
 use Rattle.scenario_text.specs.declared.script.ScriptLine.{ScriptLine}
 use Rattle.scenario_text.proofs.SoundScenarios.{sound}
 use Rattle.bus_rules.specs.declared.delivery.DropLine.{DropLine}
-use Rattle.bus_rules.specs.States.{State}
-use Rattle.bus_model.specs.Bus.{Cost, before_frame, drops_below, state_at}
+use Rattle.bus_model.specs.Bus.{Cost, drops_below}
 use Rattle.bus_model.specs.FloodOfText.{ids}
 use Rattle.bus_model.specs.Flooding.{has}
 use Rattle.bus_model.specs.ScriptedStates.{lost_by}
 use Rattle.plain_bus.specs.BusNodes.{BusNode, bus_node, IsEarlyState, MayDo}
-use Rattle.plain_bus.specs.Networks.{Network, IsReady}
 use Rattle.plain_bus.specs.SlotCosts.{IsBelow}
 use Rattle.plain_bus.proofs.SlotsMet.{ids_ascend, ids_each}
-use Rattle.bus_frames.specs.FrameNodes.{HavePower, IsCut, nodes_with, power, prior_ranks, told, told_at}
+use Rattle.bus_frames.specs.FrameNodes.{IsCut, nodes_with, power, prior_ranks, told, told_at}
 use Rattle.bus_frames.proofs.LinesTold.{none_told, all_told, node_told, power_told, lost_more}
 use Rattle.bus_frames.proofs.LinesAllowed.{line_act, line_known, may_do, act_early, later_lines}
 use Rattle.bus_frames.proofs.script.tell_lines.Goals as goal

@@ -1,12 +1,13 @@
 use Rattle.std.proofs.Common.{◌≡◌, ℕ, List, take, ap, subst, sym, ◌∙◌, Some}
 use Rattle.std.specs.Prelude.{Contains}
 use Rattle.lwb_base.specs.Profile.{one}
-use Rattle.radio_model.specs.Stations.{IsTime, MediumState, after, retuned}
+use Rattle.radio_model.specs.Stations.{MediumState, after, retuned}
 use Rattle.lwb_flood.specs.FloodWorlds.{opened}
 use Rattle.lwb_flood.proofs.FloodOpening.{IsOpening, at_first, opened_is, in_time, opened_more}
 use Rattle.lwb_flood.proofs.flood_beginning.open.Goals as goal
 
-begun : (vs : List ℕ) (i : ℕ) (first m : MediumState) → first ≡ Rattle.radio_model.specs.Stations.first_state one vs → m ≡ opened (take i vs) first → IsOpening vs m
+begun : (vs : List ℕ) (i : ℕ) (first m : MediumState) → first ≡ Rattle.radio_model.specs.Stations.first_state one vs → m ≡ opened (take i vs) first
+    → IsOpening vs m
 begun vs i first m is at = subst (IsOpening vs) (sym at) (opened_is (take i vs) vs first (subst (IsOpening vs) (sym is) (at_first one vs)))
 
 pub tune-requires-clause-node : goal.tune-requires-clause-node

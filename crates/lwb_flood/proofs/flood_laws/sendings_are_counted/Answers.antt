@@ -9,8 +9,10 @@ use Rattle.lwb_flood.specs.FloodRun.{Run, FloodRun}
 use Rattle.lwb_flood.proofs.SendingCounts.{count}
 use Rattle.lwb_flood.proofs.flood_laws.sendings_are_counted.Goals as goal
 
-counted : (r : Run) (Tuned : ℕ → Sending → Type 0) → FloodRun r Tuned → AllPairs (λ x y. x ≢ y) r.sendings → AllPairs (λ u v. u ≢ v) r.setting.everyone → length r.sendings ≡ sendings r.setting
-counted r Tuned f once nodes = count r Tuned f (distinct_from_pairs r.sendings once) (distinct_from_pairs r.setting.everyone nodes) ∙ all_sendings r.setting r.setting.everyone
+counted : (r : Run) (Tuned : ℕ → Sending → Type 0) → FloodRun r Tuned → AllPairs (λ x y. x ≢ y) r.sendings → AllPairs (λ u v. u ≢ v) r.setting.everyone
+    → length r.sendings ≡ sendings r.setting
+counted r Tuned f once nodes = count r Tuned f (distinct_from_pairs r.sendings once) (distinct_from_pairs r.setting.everyone nodes)
+    ∙ all_sendings r.setting r.setting.everyone
 
 pub returns : goal.returns
 returns c = record { scene = λ a r. counted r (TunedThrough a); test = λ r tuned. counted r (λ v x. tuned v x ≡ true) }

@@ -17,11 +17,14 @@ loop-i-preserved c =
     let more = firsts_more air i firsts o (omega arith) c.loop-i.invariant c.hearing_at.ensures in
     elim c.match-hearing_at.branch [
       | in-Some w ↦
-          (let kept : c.match-hearing_at.firsts ≡ with_earlier firsts o = w.firsts-is ∙ w.keep_earlier.ensures.kept ∙ ap (λ (p : Option (ℕ × FirstHearing)). with_earlier firsts p) (sym w.in-Some.is) in
+          (let kept : c.match-hearing_at.firsts ≡ with_earlier firsts o = w.firsts-is ∙ w.keep_earlier.ensures.kept
+          ∙ ap (λ (p : Option (ℕ × FirstHearing)). with_earlier firsts p) (sym w.in-Some.is) in
           let few = w.keep_earlier.ensures.range in
-          subst (λ (l : List (Option FirstHearing)). AreFirst (take (i + 1) air) l) (sym kept) (more (λ h at. let same = some_node _ h (sym w.in-Some.is ∙ at) in omega (arith, few, same))))
+          subst (λ (l : List (Option FirstHearing)). AreFirst (take (i + 1) air) l) (sym kept)
+          (more (λ h at. let same = some_node _ h (sym w.in-Some.is ∙ at) in omega (arith, few, same))))
       | in_default w ↦
-          (let kept : c.match-hearing_at.firsts ≡ with_earlier firsts o = w.firsts-is ∙ ap (λ (p : Option (ℕ × FirstHearing)). with_earlier firsts p) (sym w.in_default.is) in
+          (let kept : c.match-hearing_at.firsts ≡ with_earlier firsts o = w.firsts-is
+          ∙ ap (λ (p : Option (ℕ × FirstHearing)). with_earlier firsts p) (sym w.in_default.is) in
           subst (λ (l : List (Option FirstHearing)). AreFirst (take (i + 1) air) l) (sym kept) (more (λ h at. absurd (no_some h (sym w.in_default.is ∙ at)))))
     ]
   where

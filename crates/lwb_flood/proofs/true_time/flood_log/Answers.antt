@@ -1,4 +1,4 @@
-use Rattle.std.proofs.Common.{◌≡◌, ℕ, ◌≤◌, List, map, get_or, sym, ◌∙◌, ap, subst}
+use Rattle.std.proofs.Common.{◌≡◌, ℕ, List, map, get_or, sym, ◌∙◌, ap, subst}
 use Rattle.std.specs.Prelude.{Contains}
 use Rattle.link_trace.specs.Passes.{Lines}
 use Rattle.air_log.specs.declared.entry.Entry.{Entry}
@@ -7,32 +7,41 @@ use Rattle.lwb_flood.specs.declared.member.Member.{Member}
 use Rattle.air_log.specs.ClockLists.{clocks_by}
 use Rattle.lwb_flood.specs.FloodLog.{HasClocks}
 use Rattle.lwb_flood.specs.FloodWorlds.{World, node_of, CanStep, Stepped, readings_at}
-use Rattle.lwb_flood.proofs.FloodLoop.{IsRunning, running_first, can_step, step_on, closing, same_clocks, has_clocks}
 use Rattle.lwb_flood.proofs.FloodClosing.{closing_time, closed_law}
 use Rattle.lwb_flood.proofs.FloodHearers.{some_member}
+use Rattle.lwb_flood.proofs.FloodLoop.{IsRunning, running_first, can_step, step_on, closing}
 use Rattle.lwb_flood.proofs.FloodSteps.{same_at}
 use Rattle.lwb_flood.proofs.true_time.flood_log.Goals as goal
+use Rattle.lwb_flood.proofs.FloodClocks.{same_readings}
+use Rattle.lwb_flood.proofs.NodeClocks.{listed_clocks}
 
 pub loop-place-init : goal.loop-place-init
 loop-place-init g c =
     let clocks = clocks_by g.C.DriftClock.readings c.args.f.now.nodes c.args.clocks.items in
-    let has : HasClocks c.args.f.now clocks = has_clocks g.C.DriftClock.readings g.met.C.DriftClock.keeps_drift_law c.args.f.now c.args.clocks.items c.in_ok-world.ensures.sound c.in_ok-world.ensures.start c.requires in
+    let has : HasClocks c.args.f.now clocks =
+    listed_clocks g.C.DriftClock.readings g.met.C.DriftClock.keeps_drift_law c.args.f.now c.args.clocks.items c.requires
+    c.in_ok-world.ensures.sound c.in_ok-world.ensures.start in
     subst (IsRunning c.args.f.now clocks) (sym c.in_ok-world.ensures.world) (running_first c.args.f.now clocks has)
 
 pub step-requires-clause-can : goal.step-requires-clause-can
 step-requires-clause-can g c =
     λ d.
     let clocks = clocks_by g.C.DriftClock.readings c.args.f.now.nodes c.args.clocks.items in
-    let has : HasClocks c.args.f.now clocks = has_clocks g.C.DriftClock.readings g.met.C.DriftClock.keeps_drift_law c.args.f.now c.args.clocks.items c.in_ok-world.ensures.sound c.in_ok-world.ensures.start c.requires in
+    let has : HasClocks c.args.f.now clocks =
+    listed_clocks g.C.DriftClock.readings g.met.C.DriftClock.keeps_drift_law c.args.f.now c.args.clocks.items c.requires
+    c.in_ok-world.ensures.sound c.in_ok-world.ensures.start in
     let w = c.loop-place.world in
     let m : Member = get_or w.members c.in-Some.place d in
     let there : Contains w.members m = (c.in-Some.place, c.in-Some.ensures.some.0, same_at w.members c.in-Some.place m d c.in-Some.ensures.some.0) in
-    subst (λ (lines : Lines). CanStep lines w m m.act) (sym c.trace.ensures.value) (can_step c.args.f.now clocks has w c.loop-place.invariant m there (c.in-Some.ensures.some.1 d))
+    subst (λ (lines : Lines). CanStep lines w m m.act) (sym c.trace.ensures.value)
+    (can_step c.args.f.now clocks has w c.loop-place.invariant m there (c.in-Some.ensures.some.1 d))
 
 pub loop-place-smaller : goal.loop-place-smaller
 loop-place-smaller g c =
     let clocks = clocks_by g.C.DriftClock.readings c.args.f.now.nodes c.args.clocks.items in
-    let has : HasClocks c.args.f.now clocks = has_clocks g.C.DriftClock.readings g.met.C.DriftClock.keeps_drift_law c.args.f.now c.args.clocks.items c.in_ok-world.ensures.sound c.in_ok-world.ensures.start c.requires in
+    let has : HasClocks c.args.f.now clocks =
+    listed_clocks g.C.DriftClock.readings g.met.C.DriftClock.keeps_drift_law c.args.f.now c.args.clocks.items c.requires
+    c.in_ok-world.ensures.sound c.in_ok-world.ensures.start in
     let R = g.C.DriftClock.readings in
     let w = c.loop-place.world in
     let some : Member = some_member w.members c.in-Some.place c.in-Some.ensures.some.0 in
@@ -41,7 +50,7 @@ loop-place-smaller g c =
     let others : ℕ → ℕ → ℕ = readings_at R c.as_slice.result.now (map node_of w.members) in
     let same : (v : ℕ) → clocks v ≡ others v =
     λ v.
-    same_clocks R c.args.f.now.nodes c.args.clocks.items v
+    same_readings R c.args.f.now.nodes c.args.clocks.items v
     ∙ ap (λ (us : List ℕ). readings_at R c.args.clocks.items us v) (sym c.loop-place.invariant.so.nodes)
     ∙ ap (λ (cs : List _). readings_at R cs (map node_of w.members) v) (sym c.as_slice.ensures.value) in
     let on = step_on c.args.f.now clocks has w c.loop-place.invariant m there (c.in-Some.ensures.some.1 some) others same c.step.new.self
@@ -51,7 +60,9 @@ loop-place-smaller g c =
 pub loop-place-preserved : goal.loop-place-preserved
 loop-place-preserved g c =
     let clocks = clocks_by g.C.DriftClock.readings c.args.f.now.nodes c.args.clocks.items in
-    let has : HasClocks c.args.f.now clocks = has_clocks g.C.DriftClock.readings g.met.C.DriftClock.keeps_drift_law c.args.f.now c.args.clocks.items c.in_ok-world.ensures.sound c.in_ok-world.ensures.start c.requires in
+    let has : HasClocks c.args.f.now clocks =
+    listed_clocks g.C.DriftClock.readings g.met.C.DriftClock.keeps_drift_law c.args.f.now c.args.clocks.items c.requires
+    c.in_ok-world.ensures.sound c.in_ok-world.ensures.start in
     let R = g.C.DriftClock.readings in
     let w = c.loop-place.world in
     let some : Member = some_member w.members c.in-Some.place c.in-Some.ensures.some.0 in
@@ -60,7 +71,7 @@ loop-place-preserved g c =
     let others : ℕ → ℕ → ℕ = readings_at R c.as_slice.result.now (map node_of w.members) in
     let same : (v : ℕ) → clocks v ≡ others v =
     λ v.
-    same_clocks R c.args.f.now.nodes c.args.clocks.items v
+    same_readings R c.args.f.now.nodes c.args.clocks.items v
     ∙ ap (λ (us : List ℕ). readings_at R c.args.clocks.items us v) (sym c.loop-place.invariant.so.nodes)
     ∙ ap (λ (cs : List _). readings_at R cs (map node_of w.members) v) (sym c.as_slice.ensures.value) in
     let on = step_on c.args.f.now clocks has w c.loop-place.invariant m there (c.in-Some.ensures.some.1 some) others same c.step.new.self
@@ -70,17 +81,24 @@ loop-place-preserved g c =
 pub close-requires : goal.close-requires
 close-requires g c =
     let clocks = clocks_by g.C.DriftClock.readings c.args.f.now.nodes c.args.clocks.items in
-    let has : HasClocks c.args.f.now clocks = has_clocks g.C.DriftClock.readings g.met.C.DriftClock.keeps_drift_law c.args.f.now c.args.clocks.items c.in_ok-world.ensures.sound c.in_ok-world.ensures.start c.requires in
-    closing_time c.args.f.now clocks has c.loop-place.world (closing c.args.f.now clocks has c.loop-place.world c.loop-place.invariant c.in_default.ensures.none)
+    let has : HasClocks c.args.f.now clocks =
+    listed_clocks g.C.DriftClock.readings g.met.C.DriftClock.keeps_drift_law c.args.f.now c.args.clocks.items c.requires
+    c.in_ok-world.ensures.sound c.in_ok-world.ensures.start in
+    closing_time c.args.f.now clocks has c.loop-place.world
+    (closing c.args.f.now clocks has c.loop-place.world c.loop-place.invariant c.in_default.ensures.none)
 
 pub returns-clause-law : goal.returns-clause-law
 returns-clause-law g c =
     let clocks = clocks_by g.C.DriftClock.readings c.args.f.now.nodes c.args.clocks.items in
-    let has : HasClocks c.args.f.now clocks = has_clocks g.C.DriftClock.readings g.met.C.DriftClock.keeps_drift_law c.args.f.now c.args.clocks.items c.in_ok-world.ensures.sound c.in_ok-world.ensures.start c.requires in
+    let has : HasClocks c.args.f.now clocks =
+    listed_clocks g.C.DriftClock.readings g.met.C.DriftClock.keeps_drift_law c.args.f.now c.args.clocks.items c.requires
+    c.in_ok-world.ensures.sound c.in_ok-world.ensures.start in
     let w = c.loop-place.world in
-    let law = closed_law c.args.f.now clocks has (map node_of w.members) c.loop-place.invariant.so.nodes w (closing c.args.f.now clocks has w c.loop-place.invariant c.in_default.ensures.none) in
+    let law = closed_law c.args.f.now clocks has (map node_of w.members) c.loop-place.invariant.so.nodes w
+    (closing c.args.f.now clocks has w c.loop-place.invariant c.in_default.ensures.none) in
     subst (λ (air : List Entry). FloodLaw c.args.f.now clocks air) (sym (c.into_air.ensures ∙ ap (λ (z : World). z.air) c.in_ok-close.ensures)) law
 
 pub returns-clause-clocks : goal.returns-clause-clocks
 returns-clause-clocks g c =
-    has_clocks g.C.DriftClock.readings g.met.C.DriftClock.keeps_drift_law c.args.f.now c.args.clocks.items c.in_ok-world.ensures.sound c.in_ok-world.ensures.start c.requires
+    listed_clocks g.C.DriftClock.readings g.met.C.DriftClock.keeps_drift_law c.args.f.now c.args.clocks.items c.requires
+    c.in_ok-world.ensures.sound c.in_ok-world.ensures.start

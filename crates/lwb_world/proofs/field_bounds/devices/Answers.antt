@@ -26,5 +26,7 @@ loop-line-preserved c =
     let sends = c.sends.ensures in
     let setup : d.setup ≡ setup_of c.args.s.now n.node = c.in_ok-device.ensures.setup ∙ search rules in
     pushed
-    ∙ map_pushed (first_device c.args.s.now) c.nodes-line-items.result.now c.loop-line.line-index n c.loop-line.devices.items d c.loop-line-test.true c.line-item.is c.loop-line.invariant
+    ∙ map_pushed
+    (first_device c.args.s.now) c.nodes-line-items.result.now c.loop-line.line-index n c.loop-line.devices.items d c.loop-line-test.true
+    c.line-item.is c.loop-line.invariant
     (new_device c.args.s.now n d setup c.in_ok-device.ensures.rest c.in_ok-device.ensures.delivery c.in_ok-device.ensures.core)

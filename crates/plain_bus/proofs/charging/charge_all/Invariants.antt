@@ -1,4 +1,4 @@
-use Rattle.std.proofs.Common.{◌≡◌, ◌≤◌, ◌+◌, ℕ, List, Bool, All, map, take, drop}
+use Rattle.std.proofs.Common.{◌≡◌, ◌≤◌, ◌+◌, ℕ, Bool, All, map, take, drop}
 use Rattle.bus_model.specs.Bus.{Cost}
 use Rattle.plain_bus.specs.BusNodes.{BusNode}
 use Rattle.plain_bus.specs.Closings.{Behind, IsBehind}

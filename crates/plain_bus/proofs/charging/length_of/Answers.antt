@@ -1,9 +1,8 @@
-use Rattle.std.proofs.Common.{◌≡◌, ℕ, Option, true, is_some, sym, ◌∙◌, ap}
-use Rattle.std.specs.Option.{option_map, option_map_or, option_and_then}
-use Rattle.bus_rules.specs.Slots.{Message, message_length}
-use Rattle.lwb_member.specs.declared.message.Heard.{Heard}
+use Rattle.std.proofs.Common.{◌≡◌, Option, true, is_some, sym, ◌∙◌, ap}
+use Rattle.std.specs.Option.{option_map_or, option_and_then}
+use Rattle.bus_rules.specs.Slots.{message_length}
 use Rattle.lwb_member.specs.Said.{message_of, meaning}
-use Rattle.plain_bus.proofs.ReadLengths.{read_long, unread, some_mapped}
+use Rattle.plain_bus.proofs.ReadLengths.{read_long, some_mapped}
 use Rattle.plain_bus.proofs.charging.length_of.Goals as goal
 
 pub returns-in-Some : goal.returns-in-Some

@@ -1,11 +1,11 @@
-use Rattle.std.proofs.Common.{◌≡◌, ◌<◌, ◌++◌, ◌∷◌, [], ℕ, List, All, Option, length, map, take, get_or, set, filter_map, option_to_list, option_map, subst, sym}
+use Rattle.std.proofs.Common.{◌≡◌, ◌<◌, ◌++◌, ℕ, List, All, Option, length, map, take, get_or, filter_map, option_map, subst, sym}
 use Rattle.std.proofs.Common.{◌∙◌, ap, arith, ◌+◌}
 use Rattle.std.proofs.lemmas.List.{take_all, length-map, get_or_default, take_more_set}
 use Rattle.std.proofs.lemmas.List.Elements.{All-push}
 use Rattle.bus_rules.specs.Slots.{Message}
 use Rattle.lwb_member.specs.Said.{meaning}
 use Rattle.plain_bus.specs.BusNodes.{BusNode, IsEarlyState}
-use Rattle.plain_bus.specs.Closings.{Behind, IsBehind, AllMay, closed_node, delivers_node}
+use Rattle.plain_bus.specs.Closings.{delivers_node}
 use Rattle.plain_bus.proofs.ListsInPlace.{same_place, rest_unchanged}
 use Rattle.plain_bus.proofs.ClosedBehind.{closed_more, delivered_more, origin_here, may_here}
 use Rattle.plain_bus.proofs.closing.close_all.Goals as goal

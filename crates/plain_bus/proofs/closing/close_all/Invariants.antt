@@ -1,4 +1,4 @@
-use Rattle.std.proofs.Common.{◌≡◌, ◌++◌, ℕ, List, All, map, take, drop, filter_map}
+use Rattle.std.proofs.Common.{◌≡◌, ◌++◌, ℕ, All, map, take, drop, filter_map}
 use Rattle.plain_bus.specs.BusNodes.{BusNode, IsEarlyState}
 use Rattle.plain_bus.specs.Closings.{Behind, IsBehind, AllMay, closed_node, delivers_node}
 use Rattle.plain_bus.proofs.closing.close_all.Given as goal

@@ -1,4 +1,4 @@
-use Rattle.std.proofs.Common.{◌≡◌, ◌<◌, ◌+◌, ◌∷◌, ◌++◌, [], ℕ, Option, Some, None, length, sym, ◌∙◌, ap, arith, length-append}
+use Rattle.std.proofs.Common.{◌+◌, ◌∷◌, [], ℕ, None, length, sym, ◌∙◌, ap, arith, length-append}
 use Rattle.std.specs.List.{last_or}
 use Rattle.bus_model.proofs.Options.{some_injective}
 use Rattle.plain_bus.specs.SlotCosts.{steps_at}

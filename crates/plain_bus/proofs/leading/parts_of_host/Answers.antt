@@ -1,4 +1,4 @@
-use Rattle.std.proofs.Common.{◌≡◌, List, Option, Some, sym, ◌∙◌, ap}
+use Rattle.std.proofs.Common.{List, Option, Some, sym, ◌∙◌, ap}
 use Rattle.std.specs.Option.{option_map}
 use Rattle.bus_rules.specs.declared.part.Part.{Part}
 use Rattle.plain_bus.specs.BusNodes.{BusNode}

@@ -7,7 +7,7 @@ use Rattle.bus_rules.specs.declared.part.Part.{Part}
 use Rattle.bus_rules.specs.States.{State}
 use Rattle.bus_model.specs.Rounds.{round_plan}
 use Rattle.plain_bus.specs.BusNodes.{nodes_in}
-use Rattle.plain_bus.specs.Leaders.{holds, leads, parts_at, parts_of}
+use Rattle.plain_bus.specs.Leaders.{holds, parts_at, parts_of}
 use Rattle.plain_bus.proofs.RoundsLed.{led}
 use Rattle.plain_bus.proofs.leading.parts_of_round.Goals as goal
 

@@ -1,4 +1,4 @@
-use Rattle.std.proofs.Common.{◌≡◌, ◌≤◌, length, ap, arith}
+use Rattle.std.proofs.Common.{length, ap, arith}
 use Rattle.scenario_text.proofs.SoundScenarios.{sound}
 use Rattle.plain_bus.proofs.network.new_node.Goals as goal
 

@@ -1,4 +1,4 @@
-use Rattle.std.proofs.Common.{List, map, subst, sym, ◌∙◌, ap}
+use Rattle.std.proofs.Common.{List, subst, sym, ◌∙◌}
 use Rattle.bus_rules.specs.Slots.{part_of}
 use Rattle.bus_model.specs.Rounds.{before_slot}
 use Rattle.plain_bus.specs.SlotFloods.{AreWindows}

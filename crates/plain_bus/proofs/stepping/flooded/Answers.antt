@@ -1,4 +1,4 @@
-use Rattle.std.proofs.Common.{◌≡◌, ◌≤◌, ℕ, All, length, subst, refl, sym, ◌∙◌, ap, arith, rules, [], ◌∷◌, ◌++◌, length-append}
+use Rattle.std.proofs.Common.{◌≡◌, ◌≤◌, ℕ, All, length, subst, sym, ◌∙◌, ap, arith, rules, [], ◌∷◌, ◌++◌, length-append}
 use Rattle.std.proofs.lemmas.List.{length-map}
 use Rattle.scenario_text.specs.declared.lines.NodeLine.{NodeLine}
 use Rattle.bus_model.specs.Flooding.{Moment, moment}

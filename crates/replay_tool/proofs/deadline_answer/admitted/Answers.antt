@@ -25,7 +25,8 @@ loop-stream-preserved c =
     let more : take (i + 1) ss ≡ take i ss ++ s ∷ [] = take_more ss i s below ∙ ap (λ (x : DeadlineStream). take i ss ++ x ∷ []) (sym at) in
     let pushed = c.in_ok-push.ensures.items in
     record {
-      streams = ap (map stream_of_answer) pushed ∙ map-append stream_of_answer l.answers.items ((s, a) ∷ []) ∙ ap (λ (t : List DeadlineStream). t ++ s ∷ []) l.invariant.streams ∙ sym more;
+      streams = ap (map stream_of_answer) pushed ∙ map-append stream_of_answer l.answers.items ((s, a) ∷ [])
+          ∙ ap (λ (t : List DeadlineStream). t ++ s ∷ []) l.invariant.streams ∙ sym more;
       decided = rw pushed (decided_more (no_streams c.args.text.now) l.answers.items l.plan c.admit.new.self s a l.invariant.decided decided after);
       new = rw after (new_after ss i s l.plan a below at l.invariant.new);
       few = rw after (few_admitted l.plan s a i l.invariant.few);

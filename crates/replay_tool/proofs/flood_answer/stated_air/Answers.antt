@@ -17,7 +17,8 @@ returns-clause-law c =
     let f = c.args.f.now in
     let listed : ℕ → ℕ → ℕ = clocks_by segment_clock_reads f.nodes c.in_ok-clocks.clocks.items in
     IfOk-weaker c.flood_air.result (λ (air : List Entry). FloodLaw f listed air) (λ (air : List Entry). FloodLaw f (stated_clock f) air)
-    (λ air law. same_clocks f listed (stated_clock f) air (λ v. (rw (← c.nodes.ensures.value, ← c.rates.ensures) (c.in_ok-clocks.ensures.stated v))) law) c.flood_air.ensures
+    (λ air law. same_clocks f listed (stated_clock f) air
+    (λ v. (rw (← c.nodes.ensures.value, ← c.rates.ensures) (c.in_ok-clocks.ensures.stated v))) law) c.flood_air.ensures
 
 pub returns-clause-clocks : goal.returns-clause-clocks
 returns-clause-clocks c =

@@ -15,7 +15,9 @@ returns-in-Ok c =
     let few = c.if-number-lt10000000000000.true in
     let own = parses_what_it_spells c.args.word.now c.parse.result c.in-Ok.number c.parse.ensures.value.0 is (omega arith) in (
       (λ same. let at = some_same c.in-Ok.number n same in (own.0 c.in-Ok.is ∙ ap decimal at, omega (arith, at))),
-      λ both. ap (λ (m : ℕ). Some m) (ok_same c.in-Ok.number n (sym c.in-Ok.is ∙ (parses_what_it_spells c.args.word.now c.parse.result n c.parse.ensures.value.0 is (omega (arith, both.1))).1 both.0)),
+      λ both. ap (λ (m : ℕ). Some m)
+          (ok_same c.in-Ok.number n
+          (sym c.in-Ok.is ∙ (parses_what_it_spells c.args.word.now c.parse.result n c.parse.ensures.value.0 is (omega (arith, both.1))).1 both.0)),
     )
 
 pub returns-in_default : goal.returns-in_default
@@ -24,7 +26,8 @@ returns-in_default c =
     let is : plain c.args.word.now ≡ true = ap plain (sym c.as_bytes.ensures.value) ∙ sym c.is_plain.ensures ∙ c.if-not-is_plain.false in (
       (λ none. absurd (none_or_some n none)),
       λ both.
-          let same : c.in-Ok.number ≡ n = ok_same c.in-Ok.number n (sym c.in-Ok.is ∙ (parses_what_it_spells c.args.word.now c.parse.result n c.parse.ensures.value.0 is (omega (arith, both.1))).1 both.0) in
+          let same : c.in-Ok.number ≡ n = ok_same c.in-Ok.number n
+          (sym c.in-Ok.is ∙ (parses_what_it_spells c.args.word.now c.parse.result n c.parse.ensures.value.0 is (omega (arith, both.1))).1 both.0) in
           absurd (omega (arith, same, both.1, c.if-number-lt10000000000000.false)),
     )
 
@@ -33,5 +36,6 @@ returns-in_default-2 c =
     λ n.
     let is : plain c.args.word.now ≡ true = ap plain (sym c.as_bytes.ensures.value) ∙ sym c.is_plain.ensures ∙ c.if-not-is_plain.false in (
       (λ none. absurd (none_or_some n none)),
-      λ both. absurd (err_or_ok c.in_default.field-0 n (sym c.in_default.is ∙ (parses_what_it_spells c.args.word.now c.parse.result n c.parse.ensures.value.0 is (omega (arith, both.1))).1 both.0)),
+      λ both. absurd (err_or_ok c.in_default.field-0 n
+          (sym c.in_default.is ∙ (parses_what_it_spells c.args.word.now c.parse.result n c.parse.ensures.value.0 is (omega (arith, both.1))).1 both.0)),
     )

@@ -1,4 +1,4 @@
-use Rattle.std.proofs.Common.{rules, ◌≡◌, [], ◌∷◌}
+use Rattle.std.proofs.Common.{rules, ◌≡◌}
 use Rattle.scenario_text.proofs.ScenarioExamples.{first_round_parts}
 use Rattle.scenario_text.proofs.CanonicalExamples.{of_first_round}
 use Rattle.scenario_cases.proofs.tests.first_round.Goals as goal

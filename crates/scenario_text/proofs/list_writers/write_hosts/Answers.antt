@@ -1,19 +1,10 @@
-use Rattle.std.proofs.Common.{rules, ◌≡◌, ◌++◌, string_bytes, codes, take, [], ◌∷◌, ◌∙◌, ap, List, ℕ, get_or, ◌<◌, length, sym}
-use Rattle.std.proofs.lemmas.List.{append_assoc}
-use Rattle.scenario_text.specs.Canonical.{line_text, render, host_lines, numbered}
-use Rattle.scenario_text.proofs.CanonicalParts.{hosts_more}
+use Rattle.std.proofs.Common.{rules, of_calls, ◌≡◌, ℕ, List, [], ◌∷◌, ◌++◌, OnOk, codes, string_bytes, subst}
+use Rattle.text_writers.specs.Lines.{line_text, numbered}
+use Rattle.scenario_text.proofs.CanonicalParts.{hosts_by_rank}
 use Rattle.scenario_text.proofs.list_writers.write_hosts.Goals as goal
 
--- src/list_writers.rt:18:5
-pub loop-rank-preserved : goal.loop-rank-preserved
-loop-rank-preserved c =
-    let hosts = c.args.hosts.now in
-    let rank = c.loop-rank.rank in
-    let host = c.index-hosts-rank.result in
-    let old = string_bytes c.args.text.now in
-    let below : rank < length hosts = search rules in
-    let at : host ≡ get_or hosts rank host = search rules in
-    let wrote : string_bytes c.write_host.new.text ≡ string_bytes c.loop-rank.text ++ line_text (numbered (codes "host") (rank ∷ host ∷ [])) = search rules in
-    wrote ∙ ap (λ (l : List ℕ). l ++ line_text (numbered (codes "host") (rank ∷ host ∷ []))) c.loop-rank.invariant
-    ∙ append_assoc old (render (host_lines 0 (take rank hosts))) (line_text (numbered (codes "host") (rank ∷ host ∷ [])))
-    ∙ ap (λ (l : List ℕ). old ++ l) (sym (hosts_more hosts rank host below at))
+pub returns : goal.returns
+returns c =
+    let wrote = c.write_lines_in_places in
+    subst (λ (l : List ℕ). OnOk wrote.result (string_bytes wrote.new.text ≡ string_bytes c.args.text.now ++ l)) (hosts_by_rank 0 c.args.hosts.now)
+    (wrote.ensures (λ (p : ℕ × ℕ). line_text (numbered (codes "host") (p.0 ∷ p.1 ∷ []))) (λ old place item result new below at post. search (rules, of_calls)))

@@ -16,6 +16,9 @@ loop-b-preserved c =
     let digit = c.requires.digits c.loop-b.b-index 0 c.loop-b-test.true in
     let small : c.from.result ≤ 9 = omega (arith, c.from.ensures, digit.1) in
     record {
-      value = ap (λ (x : ℕ). 10 * c.loop-b.value + x) c.from.ensures ∙ value_more c.args.digits.now c.loop-b.b-index c.loop-b.value (get_or c.args.digits.now c.loop-b.b-index 0) c.loop-b-test.true refl digit.0 digit.1 c.loop-b.invariant.value;
+      value =
+          ap (λ (x : ℕ). 10 * c.loop-b.value + x) c.from.ensures
+          ∙ value_more c.args.digits.now c.loop-b.b-index c.loop-b.value
+          (get_or c.args.digits.now c.loop-b.b-index 0) c.loop-b-test.true refl digit.0 digit.1 c.loop-b.invariant.value;
       fits = shifted c.loop-b.value c.from.result c.loop-b.b-index c.loop-b.invariant.fits small;
     }

@@ -1,20 +1,22 @@
 use Rattle.std.proofs.Common.{◌∙◌, ap, arith, length, ◌+◌}
 use Rattle.std.specs.Str.Lines.{lines}
-use Rattle.scenario_text.specs.ScenarioGrammar.{after_line}
 use Rattle.scenario_text.specs.Faults.{after_lines}
+use Rattle.scenario_text.specs.Reading.{after_line}
 use Rattle.scenario_text.proofs.LinesRead.{one_line_more}
-use Rattle.scenario_text.proofs.ScenarioKeeps.{read_keeps}
 use Rattle.scenario_text.proofs.reading.read_lines.Goals as goal
 
 pub loop-rest-preserved : goal.loop-rest-preserved
-loop-rest-preserved c =
+loop-rest-preserved g c =
     let l = c.loop-rest in
     let cut = c.first_line.ensures.cut in
     let read = c.in-Ok.ensures in
+    let after = after_line g.D.Draft.after in
     let counted = l.invariant.counted ∙ ap (λ n. l.count + length n) cut in
+    let shorter = c.first_line.ensures.shorter in
+    let more = one_line_more after (l.count + 1) l.draft c.read_line.new.draft c.first_line.result.0.now
+    (lines c.first_line.result.1.now) read in
     record {
-      said = l.invariant.said ∙ ap (λ ls. after_lines after_line (l.count + 1) l.draft ls) cut ∙ one_line_more after_line (l.count + 1) l.draft c.read.new.self c.first_line.result.0.now (lines c.first_line.result.1.now) read;
+      said = l.invariant.said ∙ ap (λ ls. after_lines after (l.count + 1) l.draft ls) cut ∙ more;
       counted = omega (arith, counted);
-      within = let shorter = c.first_line.ensures.shorter in omega (arith, shorter, l.invariant.within);
-      sound = read_keeps l.draft c.read.new.self c.first_line.result.0.now l.invariant.sound read;
+      within = omega (arith, shorter, l.invariant.within);
     }

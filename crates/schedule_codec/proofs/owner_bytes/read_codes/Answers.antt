@@ -1,4 +1,5 @@
 use Rattle.std.proofs.Common.{◌≡◌, ℕ, List, ◌∷◌, ◌/◌, ◌%◌, true, drop, Some, inl, inr, ap, sym, subst, ◌∙◌, arith}
+use Rattle.std.proofs.lemmas.Bool.{both_ways, eq-eqb, eqb-true}
 use Rattle.std.specs.List.{list_all}
 use Rattle.lwb_packets.specs.Ranges.{between}
 use Rattle.schedule_codec.specs.Packing.{fit, packed}
@@ -24,20 +25,17 @@ returns-in_err-steps-clause-all c =
     let none = c.in_err-steps.ensures.all k.1 (unpackable c.args.count c.read_u16-start.result c.args.bytes.now cs k.0 k.1 k.2 c.read_u16-start.ensures) in
     cc none
 
-pub least_width-requires : goal.least_width-requires
-least_width-requires c = ap (λ l. fit 10 l) c.as_slice.ensures.value ∙ fit_wider (c.read_u16-start.result % 16) 10 c.in_ok-steps.steps.items (omega arith) c.in_ok-steps.ensures.some.fits
-
-pub returns-then-least_width-width-clause-all : goal.returns-then-least_width-width-clause-all
-returns-then-least_width-width-clause-all c =
+pub returns-then-not-is_least-clause-all : goal.returns-then-not-is_least-clause-all
+returns-then-not-is_least-clause-all c =
     λ cs are is.
     let k = codes_in c.args.count c.args.bytes.now cs c.requires are is in
     let codes = k.2 in
     let start = codes.start in
     let narrow = codes.narrow in
+    let width : ℕ = c.read_u16-start.result % 16 in
     let same = same_items c.in_ok-steps.steps k.1 (c.in_ok-steps.ensures.all k.1 (unpackable c.args.count c.read_u16-start.result c.args.bytes.now cs k.0 k.1 codes c.read_u16-start.ensures)) in
-    let width : c.least_width.result ≡ width_of k.1 = c.least_width.ensures.value ∙ ap (λ l. width_of l) (c.as_slice.ensures.value ∙ same) in
-    let equal : c.least_width.result ≡ c.read_u16-start.result % 16 = omega arith in
-    absurd (c.if-least_width-width.true equal)
+    let least : width_of c.as_slice.result.now ≡ width = ap (λ l. width_of l) (c.as_slice.ensures.value ∙ same) ∙ omega arith in
+    absurd (both_ways c.is_least.result c.if-not-is_least.true (c.is_least.ensures ∙ eq-eqb (width_of c.as_slice.result.now) width least))
 
 pub summed-requires-clause-small : goal.summed-requires-clause-small
 summed-requires-clause-small c = ap (λ l. fit 10 l) c.as_slice-2.ensures.value ∙ fit_wider (c.read_u16-start.result % 16) 10 c.in_ok-steps.steps.items (omega arith) c.in_ok-steps.ensures.some.fits
@@ -49,7 +47,7 @@ returns-clause-some c =
     let start = c.read_u16-start.result in
     let steps = c.in_ok-steps.steps.items in
     let packs = c.in_ok-steps.ensures.some in
-    let least : width_of steps ≡ start % 16 = ap (λ l. width_of l) (sym c.as_slice.ensures.value) ∙ sym c.least_width.ensures.value ∙ c.if-least_width-width.false in
+    let least : width_of steps ≡ start % 16 = ap (λ l. width_of l) (sym c.as_slice.ensures.value) ∙ eqb-true (width_of c.as_slice.result.now) (start % 16) (sym c.is_least.ensures ∙ c.if-not-is_least.false) in
     let many = packs.many in
     let byte = c.type_inv.bytes 1 in
     let first = c.read_u16-start.ensures in

@@ -1,9 +1,8 @@
-use Rattle.std.proofs.Common.{◌≡◌, Bool, true, false, if◌then◌else◌, Option, None, map, reverse, refl, sym, ◌∙◌, ap, subst}
+use Rattle.std.proofs.Common.{◌≡◌, Bool, true, false, if◌then◌else◌, None, map, reverse, refl, sym, ◌∙◌, ap, subst}
 use Rattle.std.proofs.lemmas.Result.{on_ok_weaker}
 use Rattle.lwb_base.specs.declared.event.Event.TheVariants.{Boot}
-use Rattle.radio_model.specs.declared.sending.Sending.{Sending}
 use Rattle.scenario_text.specs.declared.script.Act.{Act}
-use Rattle.air_log.specs.Devices.{Device, Made, event}
+use Rattle.air_log.specs.Devices.{event}
 use Rattle.air_log.specs.ScriptedDevices.{after_act, after_line}
 use Rattle.air_log.specs.DeviceStates.{DeviceState, whole, tuning_of}
 use Rattle.air_log.specs.TrailsTold.{sending_of}

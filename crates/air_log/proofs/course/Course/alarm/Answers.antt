@@ -1,12 +1,10 @@
-use Rattle.std.proofs.Common.{◌≡◌, Bool, true, false, if◌then◌else◌, Option, None, map, reverse, refl, sym, ◌∙◌, ap, subst, arith}
+use Rattle.std.proofs.Common.{◌≡◌, Bool, true, false, if◌then◌else◌, None, map, reverse, refl, sym, ◌∙◌, ap, subst, arith}
 use Rattle.tick_clock.proofs.Readings.{read_in_range}
-use Rattle.bus_rules.specs.Cores.{Setup}
-use Rattle.air_log.specs.Devices.{Device}
 use Rattle.air_log.specs.Trails.{is_due, alarmed}
 use Rattle.air_log.specs.DeviceStates.{DeviceState, tuning_of}
 use Rattle.air_log.specs.TrailsTold.{sending_of}
 use Rattle.air_log.specs.AlarmRuns.{after_alarms}
-use Rattle.air_log.specs.Courses.{CourseState, Shows, Goes, IsShown}
+use Rattle.air_log.specs.Courses.{CourseState, Shows, IsShown}
 use Rattle.air_log.proofs.AlarmsOfCourses.{none_taken, one_more_taken, all_taken, few_taken}
 use Rattle.air_log.proofs.CourseSteps.{silent_goes, goes_seen, shown_still}
 use Rattle.air_log.proofs.course.Course.alarm.Goals as goal

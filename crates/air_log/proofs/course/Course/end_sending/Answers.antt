@@ -1,10 +1,10 @@
-use Rattle.std.proofs.Common.{◌≡◌, Option, Some, None, map, reverse, refl, sym, ◌∙◌, ap, subst, is_some, if◌then◌else◌}
+use Rattle.std.proofs.Common.{Option, Some, map, reverse, refl, sym, ◌∙◌, ap, subst}
 use Rattle.std.proofs.lemmas.Result.{on_ok_weaker}
 use Rattle.lwb_base.specs.declared.event.Event.TheVariants.{Sent}
 use Rattle.radio_model.specs.declared.sending.Sending.{Sending}
 use Rattle.air_log.specs.Devices.{event}
 use Rattle.air_log.specs.Trails.{ended}
-use Rattle.air_log.specs.DeviceStates.{DeviceState, HappenedBy, whole, tuning_of, told_of}
+use Rattle.air_log.specs.DeviceStates.{DeviceState, whole, tuning_of, told_of}
 use Rattle.air_log.specs.TrailsTold.{sending_of}
 use Rattle.air_log.specs.Courses.{CourseState, IsShown}
 use Rattle.air_log.proofs.CourseSteps.{then_shown, then_goes, set_happened, goes_seen}

@@ -1,9 +1,8 @@
-use Rattle.std.proofs.Common.{◌≡◌, ◌≤◌, ◌<◌, ◌+◌, ◌*◌, ◌^◌, ℕ, sym, ap, subst, ◌∙◌, arith}
+use Rattle.std.proofs.Common.{◌≡◌, ◌≤◌, ◌*◌, ℕ, sym, ap, subst, ◌∙◌, arith}
 use Rattle.std.specs.Prelude.{slice_get}
-use Rattle.air_log.specs.Trails.{frame_start}
 use Rattle.air_log.specs.Courses.{least_due}
 use Rattle.air_log.proofs.AlarmRows.{roomy}
-use Rattle.air_log.proofs.FramesOfCourses.{IsAtTick, IsInFrame, tick_of, next_start, first_tick, early, alarms_end, later_by, next_tick, is_least, frame_over, shown_over}
+use Rattle.air_log.proofs.FramesOfCourses.{IsAtTick, tick_of, next_start, first_tick, early, alarms_end, later_by, next_tick, frame_over, shown_over}
 use Rattle.air_log.proofs.course.Course.frame.Goals as goal
 
 pub loop-t-init : goal.loop-t-init

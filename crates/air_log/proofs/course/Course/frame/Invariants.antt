@@ -1,5 +1,4 @@
-use Rattle.std.proofs.Common.{◌+◌, ◌-◌}
-use Rattle.air_log.specs.Trails.{frame_start}
+use Rattle.std.proofs.Common.{◌-◌}
 use Rattle.air_log.proofs.FramesOfCourses.{IsInFrame}
 use Rattle.air_log.proofs.course.Course.frame.Given as goal
 

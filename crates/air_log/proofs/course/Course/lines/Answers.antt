@@ -1,9 +1,6 @@
-use Rattle.std.proofs.Common.{◌≡◌, ◌*◌, ◌≤◌, ◌^◌, ℕ, sym, ap, subst, ◌∙◌, arith, mul-le-mul_right}
+use Rattle.std.proofs.Common.{◌≤◌, ◌^◌, ℕ, sym, subst, arith}
 use Rattle.std.proofs.lemmas.Option.{slice_get_within}
-use Rattle.lwb_base.specs.Profile.{Numbers}
-use Rattle.air_log.specs.Trails.{frame_start}
 use Rattle.air_log.specs.Courses.{IsShown, Goes, frame_of}
-use Rattle.air_log.proofs.AlarmRows.{roomy}
 use Rattle.air_log.proofs.ListCuts.{read_at, read_past, cut_at, cut_end}
 use Rattle.air_log.proofs.LinesOfCourses.{none_told, in_range, boots, one_more_told, all_told, own_line}
 use Rattle.air_log.proofs.FramesOfCourses.{tick_of, start_early}

@@ -1,4 +1,4 @@
-use Rattle.std.proofs.Common.{◌∙◌, ap, arith, length}
+use Rattle.std.proofs.Common.{ap, arith, length}
 use Rattle.scenario_text.proofs.SoundScenarios.{sound}
 use Rattle.air_log.proofs.course.Course.new.Goals as goal
 

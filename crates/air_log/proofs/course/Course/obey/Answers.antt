@@ -1,8 +1,7 @@
 use Rattle.std.proofs.Common.{map, reverse, sym, ◌∙◌, ap}
 use Rattle.std.proofs.lemmas.Result.{on_ok_weaker}
-use Rattle.lwb_base.specs.declared.order.Order.{Order}
 use Rattle.air_log.specs.Devices.{obeyed}
-use Rattle.air_log.specs.DeviceStates.{DeviceState, HappenedBy, whole, tuning_of}
+use Rattle.air_log.specs.DeviceStates.{whole, tuning_of}
 use Rattle.air_log.specs.TrailsTold.{sending_of}
 use Rattle.air_log.specs.Courses.{CourseState}
 use Rattle.air_log.proofs.CourseSteps.{device_goes, goes_seen}

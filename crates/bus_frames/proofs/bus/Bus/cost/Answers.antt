@@ -1,6 +1,5 @@
-use Rattle.std.proofs.Common.{◌≡◌, ◌<◌, ℕ, List, Bool, true, false, Option, Some, None, if◌then◌else◌, length, map, get_or, subst, sym, ◌∙◌, ap, arith, rules}
+use Rattle.std.proofs.Common.{◌≡◌, ◌<◌, ℕ, List, Bool, Option, Some, None, if◌then◌else◌, length, map, get_or, subst, sym, ◌∙◌, ap, rules}
 use Rattle.std.proofs.lemmas.List.{get_or-map}
-use Rattle.scenario_text.specs.FloodParts.{knows}
 use Rattle.bus_model.specs.Bus.{Cost, bus_cost}
 use Rattle.bus_model.specs.FloodOfText.{ids}
 use Rattle.bus_model.specs.Flooding.{has}

@@ -7,7 +7,12 @@ use Rattle.lwb_flood.proofs.FloodClosing.{closed_at}
 use Rattle.lwb_flood.proofs.flood_world.FloodWorld.close_one.Goals as goal
 
 pub leave-requires-clause-node : goal.leave-requires-clause-node
-leave-requires-clause-node c = node_at (record { medium = c.self.inside.medium; members = c.self.inside.members.items; air = c.self.inside.air }) c.args.self.now c.self.invariant c.self.view_is c.args.place c.index.result.now c.requires.place c.index.ensures
+leave-requires-clause-node c =
+    node_at (record {
+      medium = c.self.inside.medium;
+      members = c.self.inside.members.items;
+      air = c.self.inside.air;
+    }) c.args.self.now c.self.invariant c.self.view_is c.args.place c.index.result.now c.requires.place c.index.ensures
 
 pub returns : goal.returns
 returns c =
@@ -15,10 +20,21 @@ returns c =
     let w = c.args.self.now in
     let m = c.index.result.now in
     let n = c.index-2.result.now in
-    let at_m : m ≡ get_or w.members c.args.place m = at_old (record { medium = c.self.inside.medium; members = c.self.inside.members.items; air = c.self.inside.air }) w c.self.invariant c.self.view_is c.args.place m c.requires.place c.index.ensures in
-    let at_n : n ≡ get_or w.members c.args.place n = at_old (record { medium = c.self.inside.medium; members = c.self.inside.members.items; air = c.self.inside.air }) w c.self.invariant c.self.view_is c.args.place n c.requires.place c.index-2.ensures in
+    let at_m : m ≡ get_or w.members c.args.place m =
+    at_old (record {
+      medium = c.self.inside.medium;
+      members = c.self.inside.members.items;
+      air = c.self.inside.air;
+    }) w c.self.invariant c.self.view_is c.args.place m c.requires.place c.index.ensures in
+    let at_n : n ≡ get_or w.members c.args.place n =
+    at_old (record {
+      medium = c.self.inside.medium;
+      members = c.self.inside.members.items;
+      air = c.self.inside.air;
+    }) w c.self.invariant c.self.view_is c.args.place n c.requires.place c.index-2.ensures in
     let shape : IsShape w = subst IsShape c.self.view_is c.self.invariant in
     let of_n : m.node ≡ n.node = ap (λ (k : Member). k.node) (at_m ∙ same_at w.members c.args.place m n c.requires.place ∙ sym at_n) in
     let of_d : n.node ≡ (get_or w.members c.args.place d).node = ap (λ (k : Member). k.node) (at_n ∙ same_at w.members c.args.place n d c.requires.place) in
-    let closed : closed_by n.node w ≡ gone n.node 1346096000 w = closed_at w shape c.args.place n c.requires.place at_n ∙ ap (λ (b : Bool). if b then w else gone n.node 1346096000 w) (sym c.is_off.ensures ∙ c.if-is_off.false) in
+    let closed : closed_by n.node w ≡ gone n.node 1346096000 w = closed_at w shape c.args.place n c.requires.place at_n
+    ∙ ap (λ (b : Bool). if b then w else gone n.node 1346096000 w) (sym c.is_off.ensures ∙ c.if-is_off.false) in
     on_ok c.leave.result _ _ (λ same. same ∙ ap (λ (v : ℕ). gone v 1346096000 w) of_n ∙ sym closed ∙ ap (λ (v : ℕ). closed_by v w) of_d) c.leave.ensures

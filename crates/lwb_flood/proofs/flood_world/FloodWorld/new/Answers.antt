@@ -6,7 +6,8 @@ use Rattle.lwb_flood.proofs.FloodOpening.{sound_nodes, first_shape}
 use Rattle.lwb_flood.proofs.flood_world.FloodWorld.new.Goals as goal
 
 pub new-requires : goal.new-requires
-new-requires c = subst AreNodes (sym (c.as_slice.ensures.value ∙ c.in_ok-nodes.ensures ∙ ap ids c.nodes.ensures.value)) (sound_nodes c.args.f.now c.nodes.ensures.sound)
+new-requires c = subst AreNodes (sym (c.as_slice.ensures.value ∙ c.in_ok-nodes.ensures ∙ ap ids c.nodes.ensures.value))
+    (sound_nodes c.args.f.now c.nodes.ensures.sound)
 
 pub invariant_of-result : goal.invariant_of-result
 invariant_of-result c =

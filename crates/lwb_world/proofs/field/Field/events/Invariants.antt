@@ -5,7 +5,8 @@ use Rattle.lwb_world.proofs.EventsInCode.{IsWithin, keys_left}
 use Rattle.lwb_world.proofs.field.Field.events.Given as goal
 
 abbrev pub invariant-loop-t : goal.invariant-loop-t
-invariant-loop-t g l = IsWithin l.fn.self.air l.fn.s (clocks_by g.C.DriftClock.readings l.fn.s.nodes l.fn.clocks) (told_before l.fn.s (l.fn.frame + 1)) l.fn.frame l.self (g.Q.Orders.map l.orders)
+invariant-loop-t g l = IsWithin l.fn.self.air l.fn.s (clocks_by g.C.DriftClock.readings l.fn.s.nodes l.fn.clocks)
+    (told_before l.fn.s (l.fn.frame + 1)) l.fn.frame l.self (g.Q.Orders.map l.orders)
 
 abbrev pub decreases-loop-t : goal.decreases-loop-t
 decreases-loop-t g l = keys_left l.fn.s l.fn.frame (g.Q.Orders.map l.orders)

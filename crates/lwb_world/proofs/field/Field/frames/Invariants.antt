@@ -3,4 +3,5 @@ use Rattle.lwb_world.proofs.FramesInCode.{IsAtFrame}
 use Rattle.lwb_world.proofs.field.Field.frames.Given as goal
 
 abbrev pub invariant-loop-frame : goal.invariant-loop-frame
-invariant-loop-frame g l = IsAtFrame l.fn.s (clocks_by g.C.DriftClock.readings l.fn.s.nodes l.fn.clocks) l.told l.frame l.scanned.items l.self (g.Q.Orders.map l.orders)
+invariant-loop-frame g l = IsAtFrame l.fn.s (clocks_by g.C.DriftClock.readings l.fn.s.nodes l.fn.clocks) l.told l.frame l.scanned.items l.self
+    (g.Q.Orders.map l.orders)

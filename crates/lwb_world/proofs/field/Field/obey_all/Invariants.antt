@@ -4,7 +4,8 @@ use Rattle.lwb_world.proofs.field.Field.obey_all.Given as goal
 
 abbrev pub invariant-loop-order : goal.invariant-loop-order
 invariant-loop-order g l = record {
-  obeyed : AreObeyed (g.C.DriftClock.readings l.fn.clock) l.fn.t l.fn.place l.fn.radio.given (drop l.told l.fn.radio.given) l.fn.self (g.Q.Orders.map l.fn.orders) l.self (g.Q.Orders.map l.orders);
+  obeyed : AreObeyed (g.C.DriftClock.readings l.fn.clock) l.fn.t l.fn.place l.fn.radio.given (drop l.told l.fn.radio.given) l.fn.self
+      (g.Q.Orders.map l.fn.orders) l.self (g.Q.Orders.map l.orders);
   few : l.told ≤ 4;
 }
 

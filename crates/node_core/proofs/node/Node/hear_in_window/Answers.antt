@@ -6,18 +6,18 @@ use Rattle.node_core.specs.declared.stage.Stage.TheVariants.{InWindow}
 use Rattle.node_core.proofs.KeptWindows.{hearing_stands, hearing_hosted}
 use Rattle.node_core.proofs.node.Node.hear_in_window.Goals as goal
 
-pub invariant_of-self : goal.invariant_of-self
-invariant_of-self g c =
+pub invariant_of-self-2 : goal.invariant_of-self-2
+invariant_of-self-2 g c =
     let core = c.self.inside.member.core in
-    let slot = c.in-InWindow.slot in
+    let slot = c.in-InWindow.field-0 in
     let window = c.in-InWindow.window in
     let frame = c.self.inside.frame in
     let new_is = sym c.hear-reply.ensures.after in
     let profile = c.profile-profile.result in
     let rank = c.rank-rank.result in
     let heard = c.args.packet.now in
-    let hosted : HostsIn frame core (InWindow slot window) = subst (λ (x : Stage). HostsIn frame core x) (sym c.in-InWindow.ensures.value) c.self.invariant.hosted in
-    let stood : IsWindow core slot window = subst (λ (x : Stage). IsStage core x) (sym c.in-InWindow.ensures.value) c.self.invariant.stands in
+    let hosted : HostsIn frame core (InWindow slot window) = subst (λ (x : Stage). HostsIn frame core x) c.in-InWindow.is c.self.invariant.hosted in
+    let stood : IsWindow core slot window = subst (λ (x : Stage). IsStage core x) c.in-InWindow.is c.self.invariant.stands in
     record {
       few = c.self.invariant.few;
       timed = c.self.invariant.timed;

@@ -10,7 +10,7 @@ use Rattle.lwb_member.specs.Said.{said_in}
 use Rattle.node_core.specs.Nodes.{NodeState}
 use Rattle.node_core.specs.Rows.{window_opens}
 use Rattle.lwb_base.specs.Orders.{Gives}
-use Rattle.node_core.proofs.Opened.{orders_are}
+use Rattle.node_core.proofs.OpenedWindows.{orders_are}
 use Rattle.node_core.proofs.node.Node.open_window.Goals as goal
 
 pub returns-clause-orders : goal.returns-clause-orders

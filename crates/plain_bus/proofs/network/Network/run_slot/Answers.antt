@@ -1,12 +1,9 @@
-use Rattle.std.proofs.Common.{◌≡◌, ◌<◌, ◌≤◌, ◌+◌, ◌++◌, ◌==◌, ℕ, List, All, length, map, take, drop, filter_map, refl, if◌then◌else◌, subst, sym, ◌∙◌, ap}
+use Rattle.std.proofs.Common.{◌≡◌, ◌+◌, ◌++◌, ℕ, List, All, length, map, take, drop, filter_map, refl, subst, sym, ◌∙◌, ap}
 use Rattle.std.proofs.Common.{arith}
-use Rattle.std.specs.List.{AllPairs}
 use Rattle.std.proofs.lemmas.List.{length-map}
 use Rattle.std.proofs.lemmas.Result.{on_ok_weaker}
 use Rattle.lwb_base.specs.Messages.{Plan}
 use Rattle.lwb_base.specs.Profile.{Numbers}
-use Rattle.scenario_text.specs.ScenarioFacts.{IsSoundScenario}
-use Rattle.scenario_text.specs.declared.lines.NodeLine.{NodeLine}
 use Rattle.scenario_text.proofs.SoundScenarios.{sound}
 use Rattle.bus_rules.specs.declared.delivery.Delivery.{Delivery}
 use Rattle.bus_rules.specs.declared.part.Part.{Part}
@@ -16,16 +13,16 @@ use Rattle.bus_model.specs.Bus.{Cost}
 use Rattle.bus_model.specs.FloodOfText.{ids}
 use Rattle.bus_model.specs.Flooding.{STEPS, moment}
 use Rattle.bus_model.specs.Rounds.{slot_at, slot_deliveries}
-use Rattle.plain_bus.specs.BusNodes.{BusNode, IsEarlyState, node_opened, nodes_before, ranks_in}
+use Rattle.plain_bus.specs.BusNodes.{BusNode, IsEarlyState, node_opened, nodes_before}
 use Rattle.plain_bus.specs.Closings.{IsBehind, AllMay, closed_node, delivers_node}
 use Rattle.plain_bus.specs.FloodMasks.{AreSendersOf, IsFlood, sends_in, station_at}
-use Rattle.plain_bus.specs.Networks.{Network, IsReady, with_slot_at}
+use Rattle.plain_bus.specs.Networks.{Network}
 use Rattle.plain_bus.specs.SlotCosts.{IsBelow, slot_charged}
 use Rattle.plain_bus.specs.SlotFloods.{seen}
 use Rattle.plain_bus.specs.declared.station.Station.{Station}
 use Rattle.plain_bus.specs.declared.window.Window.{Window}
 use Rattle.plain_bus.proofs.SlotsCharged.{slot_costs}
-use Rattle.plain_bus.proofs.SlotsMet.{put_back, ids_ascend, ids_each, behind_slot}
+use Rattle.plain_bus.proofs.SlotsMet.{put_back, ids_ascend, behind_slot}
 use Rattle.plain_bus.proofs.SlotsRun.{behind, node_at, window_seen, seen_all, opened_all, all_may, nodes_closed, nodes_delivered}
 use Rattle.plain_bus.proofs.network.Network.run_slot.Goals as goal
 

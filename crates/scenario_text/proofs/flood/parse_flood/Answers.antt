@@ -1,0 +1,16 @@
+use Rattle.std.proofs.Common.{◌≡◌, ◌∙◌, sym, ℕ, List, Ok, ap}
+use Rattle.std.specs.Str.Lines.{lines}
+use Rattle.scenario_text.specs.Faults.{after_lines}
+use Rattle.scenario_text.specs.Reading.{after_line}
+use Rattle.scenario_text.specs.FloodGrammar.{Flood, after_words, no_flood}
+use Rattle.scenario_text.proofs.FloodKeeps.{text_sound}
+use Rattle.scenario_text.proofs.flood.parse_flood.Goals as goal
+
+from_nothing : (bytes : List ℕ) (n d : Flood) → n ≡ no_flood → after_lines (after_line after_words) 1 n (lines bytes) ≡ Ok d
+    → after_lines (after_line after_words) 1 no_flood (lines bytes) ≡ Ok d
+from_nothing bytes n d new read = ap (λ (e : Flood). after_lines (after_line after_words) 1 e (lines bytes)) (sym new) ∙ read
+
+pub finish-requires : goal.finish-requires
+finish-requires c =
+    let bytes = c.args.bytes.now in
+    text_sound c.in_ok-draft.draft (lines bytes) (from_nothing bytes c.new.result c.in_ok-draft.draft c.new.ensures c.in_ok-draft.ensures.draft)

@@ -1,6 +1,0 @@
-use Rattle.std.proofs.Common.{◌≡◌, ◌++◌, flat_map, string_bytes, take}
-use Rattle.scenario_text.specs.Canonical.{line_text, rate_words}
-use Rattle.scenario_text.proofs.list_writers.write_rates.Given as goal
-
-abbrev pub invariant-loop-line : goal.invariant-loop-line
-invariant-loop-line l = string_bytes l.text ≡ string_bytes l.fn.text ++ flat_map (λ x. line_text (rate_words x)) (take l.line-index l.lines)

@@ -1,0 +1,32 @@
+use Rattle.std.proofs.Common.{◌≡◌, ◌+◌, ◌∙◌, sym, ℕ, List, Result, Ok, length, ap}
+use Rattle.std.specs.Str.Lines.{lines}
+use Rattle.scenario_text.specs.Faults.{after_lines, in_line, ◌>>=◌}
+use Rattle.scenario_text.specs.Reading.{after_line}
+use Rattle.scenario_text.specs.ScenarioGrammar.{Scenario, scenario_of, after_words, no_scenario, finished}
+use Rattle.scenario_text.specs.ScenarioParts.{ScenarioParts}
+use Rattle.scenario_text.specs.declared.fault.FaultKind.{FaultKind}
+use Rattle.scenario_text.proofs.ScenarioKeeps.{text_sound}
+use Rattle.scenario_text.proofs.parsing.parse.Goals as goal
+
+-- what a text says whose lines give a draft that misses nothing
+said : (bytes : List ℕ) (d : Scenario) (s : ScenarioParts) → after_lines (after_line after_words) 1 no_scenario (lines bytes) ≡ Ok d
+    → finished d ≡ Ok s → scenario_of bytes ≡ Ok s
+said bytes d s read done =
+    ap (λ (r : Result Scenario (ℕ × FaultKind)). r >>= (λ e. in_line (length (lines bytes) + 1) (finished e))) read
+    ∙ ap (λ (r : Result ScenarioParts FaultKind). in_line (length (lines bytes) + 1) r) done
+
+from_nothing : (bytes : List ℕ) (n d : Scenario) → n ≡ no_scenario → after_lines (after_line after_words) 1 n (lines bytes) ≡ Ok d
+    → after_lines (after_line after_words) 1 no_scenario (lines bytes) ≡ Ok d
+from_nothing bytes n d new read = ap (λ (e : Scenario). after_lines (after_line after_words) 1 e (lines bytes)) (sym new) ∙ read
+
+pub finish-requires-clause-said : goal.finish-requires-clause-said
+finish-requires-clause-said c =
+    let bytes = c.args.bytes.now in
+    let read = from_nothing bytes c.new.result c.in_ok-draft.draft c.new.ensures c.in_ok-draft.ensures.draft in
+    λ s done. (bytes, said bytes c.in_ok-draft.draft s read done)
+
+pub finish-requires-clause-sound : goal.finish-requires-clause-sound
+finish-requires-clause-sound c =
+    let bytes = c.args.bytes.now in
+    let read = from_nothing bytes c.new.result c.in_ok-draft.draft c.new.ensures c.in_ok-draft.ensures.draft in
+    text_sound c.in_ok-draft.draft (lines bytes) read

@@ -1,6 +1,0 @@
-use Rattle.std.proofs.Common.{◌≡◌, ◌++◌, flat_map, string_bytes, take}
-use Rattle.scenario_text.specs.Payloads.{hex_digits}
-use Rattle.scenario_text.proofs.plain_writers.write_hex.Given as goal
-
-abbrev pub invariant-loop-b : goal.invariant-loop-b
-invariant-loop-b l = string_bytes l.text ≡ string_bytes l.fn.text ++ flat_map hex_digits (take l.b-index l.bytes)

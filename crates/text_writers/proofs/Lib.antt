@@ -1,0 +1,2 @@
+pub mod JoinedNumbers
+pub mod Places
