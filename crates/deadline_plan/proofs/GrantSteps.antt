@@ -1,5 +1,6 @@
 -- A frame's grants, job by job.
-use Rattle.std.proofs.Common.{◌≡◌, ℕ, zero, suc, ◌+◌, ◌-◌, ◌<◌, ◌≤◌, List, [], ◌∷◌, ◌++◌, Bool, true, false, not, ◌&&◌, nat_le, nat_lt, cond, length, map, drop, get_or, refl, sym, ◌∙◌, ap, arith, append_assoc}
+use Rattle.std.proofs.Common.{◌≡◌, ℕ, zero, suc, ◌+◌, ◌-◌, ◌<◌, ◌≤◌, List, [], ◌∷◌, ◌++◌, Bool, true, false, not, ◌&&◌, nat_le}
+use Rattle.std.proofs.Common.{nat_lt, cond, length, map, drop, get_or, refl, sym, ◌∙◌, ap, arith, append_assoc}
 use Rattle.std.proofs.lemmas.Bool.{cond_both, lt-ltb}
 use Rattle.std.proofs.lemmas.List.{length-append}
 use Rattle.deadline_plan.specs.declared.job.Job.{Job}

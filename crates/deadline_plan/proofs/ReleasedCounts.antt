@@ -1,5 +1,6 @@
 -- The count of the jobs released in each frame, as it grows with the ends.
-use Rattle.std.proofs.Common.{◌≡◌, ℕ, ◌+◌, ◌-◌, ◌*◌, ◌<◌, ◌≤◌, List, ◌++◌, get_or, length, take, drop, ◌&&◌, ◌==◌, nat_le, count_by, sym, ◌∙◌, ap, arith, inl, inr}
+use Rattle.std.proofs.Common.{◌≡◌, ℕ, ◌+◌, ◌-◌, ◌*◌, ◌<◌, ◌≤◌, List, ◌++◌, get_or, length, take, drop}
+use Rattle.std.proofs.Common.{◌&&◌, ◌==◌, nat_le, count_by, sym, ◌∙◌, ap, arith, inl, inr}
 use Rattle.std.proofs.lemmas.Bool.{cases_lt}
 use Rattle.std.proofs.lemmas.List.{get_or_past, take_all, drop_all, append-nil}
 use Rattle.std.specs.List.{AllByRecursion}

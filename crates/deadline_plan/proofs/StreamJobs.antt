@@ -1,7 +1,9 @@
 -- The jobs of streams: which there are, and how many.
-use Rattle.std.proofs.Common.{◌≡◌, ℕ, zero, suc, ◌+◌, ◌-◌, ◌*◌, ◌/◌, ◌%◌, ◌<◌, ◌≤◌, List, [], ◌∷◌, ◌++◌, Bool, true, false, ◌&&◌, ◌==◌, nat_le, cond, count_by, filter, map, length, refl, sym, ◌∙◌, ap, subst, arith, inl, inr, All}
+use Rattle.std.proofs.Common.{◌≡◌, ℕ, zero, suc, ◌+◌, ◌-◌, ◌*◌, ◌/◌, ◌%◌, ◌<◌, ◌≤◌, List, [], ◌∷◌, ◌++◌, Bool, true, false, ◌&&◌, ◌==◌}
+use Rattle.std.proofs.Common.{nat_le, cond, count_by, filter, map, length, refl, sym, ◌∙◌, ap, subst, arith, inl, inr, All}
 use Rattle.std.proofs.Math.Nat.{mul-le-mul_right, mul-le-mul_left}
-use Rattle.std.proofs.lemmas.Bool.{cond_both, cases_Bool, cases_order, and_parts, and_from, leb-true, le-leb, eqb-true, eq-eqb, ne_eqb, false_from_ne_true, false≢true}
+use Rattle.std.proofs.lemmas.Bool.{cond_both, cases_Bool, cases_order, and_parts, and_from, leb-true}
+use Rattle.std.proofs.lemmas.Bool.{le-leb, eqb-true, eq-eqb, ne_eqb, false_from_ne_true, false≢true}
 use Rattle.std.proofs.lemmas.List.Concat.{flat_map-cons}
 use Rattle.std.proofs.lemmas.List.Elements.{All-from_recursion}
 use Rattle.std.proofs.lemmas.Nat.{mod-mul-add}
@@ -125,7 +127,14 @@ count_streams frames a b within [] all = refl
 count_streams frames a b within (s ∷ ss) all =
     let split : count_by (at a b) (jobs frames (s ∷ ss)) ≡ count_by (at a b) (jobs_of frames s ++ jobs frames ss) = ap (λ (l : List Job). count_by
     (at a b) l) (flat_map-cons (jobs_of frames) s ss) in
-    omega (arith, split, count_append (at a b) (jobs_of frames s) (jobs frames ss), count_stream s all.0 frames a b within, count_streams frames a b within ss all.1, count_cons (λ s. has_job s a b) s ss)
+    omega (
+      arith,
+      split,
+      count_append (at a b) (jobs_of frames s) (jobs frames ss),
+      count_stream s all.0 frames a b within,
+      count_streams frames a b within ss all.1,
+      count_cons (λ s. has_job s a b) s ss,
+    )
 
 -- a stream has at most one job a frame
 count_range : (p : ℕ → Bool) (i n : ℕ) → count_by p (range_with_len i n) ≤ n
@@ -144,7 +153,15 @@ few_jobs_in_all p frames few [] = omega arith
 few_jobs_in_all p frames few (s ∷ ss) =
     let split : count_by p (jobs frames (s ∷ ss)) ≡ count_by p (jobs_of frames s ++ jobs frames ss) = ap (λ (l : List Job). count_by p l) (flat_map-cons
     (jobs_of frames) s ss) in
-    omega (arith, split, count_append p (jobs_of frames s) (jobs frames ss), count_numbers p frames s 0 frames, count_range (λ m. by_last frames (job s m) && p (job s m)) 0 frames, few_jobs_in_all p frames few ss, few)
+    omega (
+      arith,
+      split,
+      count_append p (jobs_of frames s) (jobs frames ss),
+      count_numbers p frames s 0 frames,
+      count_range (λ m. by_last frames (job s m) && p (job s m)) 0 frames,
+      few_jobs_in_all p frames few ss,
+      few,
+    )
 
 -- each job is released before its end, which is not past the last frame
 abbrev pub InFrames : ℕ → Job → Type 0

@@ -1,16 +1,16 @@
 -- The text of a plan: what its lines say, and the first line that is refused.
-use Rattle.std.specs.Prelude.{◌≡◌, ◌≤◌, ℕ, ◌+◌, List, [], ◌∷◌, ◌++◌, Bool, not, ◌&&◌, nat_le, nat_lt, if◌then◌else◌, Some, None, Option, is_none, Ok, Err, Result, length, drop, codes, IfSome, All}
+use Rattle.std.specs.Prelude.{◌≤◌, ℕ, ◌+◌, List, [], ◌∷◌, ◌++◌, Bool, not, ◌&&◌, nat_le, nat_lt, if◌then◌else◌, Some}
+use Rattle.std.specs.Prelude.{None, Option, is_none, Result, length, drop, codes, IfSome, All}
 use Rattle.std.specs.List.{list_all}
 use Rattle.std.specs.Option.{ok_or}
-use Rattle.std.specs.Str.{bytes_eq, is_utf8}
+use Rattle.std.specs.Str.{bytes_eq}
 use Rattle.std.specs.Str.Lines.{lines}
 use Rattle.lwb_base.specs.Messages.{code}
-use Rattle.scenario_text.specs.Faults.{first_fault, unless_fault, in_line, ◌>>=◌, after_lines}
-use Rattle.scenario_text.specs.Words.{words, word, is_skipped, is_number, number_at, counted}
-use Rattle.scenario_text.specs.declared.fault.FaultKind.{FaultKind}
-use Rattle.scenario_text.specs.declared.fault.FaultKind.TheVariants.{NotUtf8, BadWord, BadNumber, Range, Twice, TooMany, Missing}
-use Rattle.scenario_text.specs.declared.fault.ParseFault.{ParseFault}
-use Rattle.scenario_text.specs.declared.fault.ParseFault.TheVariants.{Line, Memory}
+use Rattle.text_readers.specs.Faults.{first_fault, unless_fault, spelled, in_line, ◌>>=◌, after_lines}
+use Rattle.text_readers.specs.Reading.{after_line}
+use Rattle.text_readers.specs.Words.{word, is_number, number_at, counted}
+use Rattle.text_readers.specs.declared.fault.FaultKind.{FaultKind}
+use Rattle.text_readers.specs.declared.fault.FaultKind.TheVariants.{Range, Twice, TooMany, Missing}
 use Rattle.deadline_plan.specs.Jobs.{IsStream}
 use Rattle.deadline_plan.specs.Admission.{Plan, has}
 use Rattle.deadline_plan.specs.declared.line.DeadlineLine.{DeadlineLine}
@@ -27,12 +27,12 @@ deadline_line ws =
     else None
 
 -- what the lines above say
-pub record Draft : Type 0 where
+pub record Drafted : Type 0 where
   pub slots : Option ℕ
   pub frames : Option ℕ
   pub streams : List DeadlineStream
 
-abbrev pub no_lines : Draft
+abbrev pub no_lines : Drafted
 no_lines = record { slots = None; frames = None; streams = [] }
 
 abbrev pub between : ℕ → ℕ → ℕ → Bool
@@ -43,7 +43,7 @@ are_in_range node stream start period deadline =
     between 1 200 node && (nat_le stream 3 && (nat_le start 1023 && (between 1 64 period && between 1 64 deadline)))
 
 -- the fault of a line that is spelled right
-abbrev pub rule_fault : Draft → DeadlineLine → Option FaultKind
+abbrev pub rule_fault : Drafted → DeadlineLine → Option FaultKind
 rule_fault d (Slots n) = first_fault ((between 1 40 n, Range) ∷ (is_none d.slots, Twice) ∷ [])
 rule_fault d (Frames n) = first_fault ((between 1 1024 n, Range) ∷ (is_none d.frames, Twice) ∷ [])
 rule_fault d (Stream node stream start period deadline) =
@@ -54,27 +54,17 @@ rule_fault d (Stream node stream start period deadline) =
     ) ∷ [])
 
 -- what the lines say with an allowed line more
-abbrev pub with_line : Draft → DeadlineLine → Draft
+abbrev pub with_line : Drafted → DeadlineLine → Drafted
 with_line d (Slots n) = record d { slots = Some n }
 with_line d (Frames n) = record d { frames = Some n }
 with_line d (Stream node stream start period deadline) =
     record d { streams = d.streams ++ record { owner = code node stream; start = start; period = period; deadline = deadline } ∷ [] }
 
 -- behind a line of these words, or its fault. Every word behind the first is a number
-abbrev pub after_words : Draft → List (List ℕ) → Option DeadlineLine → Result Draft FaultKind
-after_words d ws None = Err BadWord
-after_words d ws (Some l) = if list_all is_number (drop 1 ws) then unless_fault (rule_fault d l) (with_line d l) else Err BadNumber
-
--- behind a line, or its fault
-unfoldable pub after_line : Draft → List ℕ → Result Draft FaultKind
-after_line d line =
-    let ws = words line in
-    if is_skipped ws then Ok d else if is_utf8 line then after_words d ws (deadline_line ws) else Err NotUtf8
-
--- what was read of a line, seen by the draft behind it
-abbrev pub Reads : Option FaultKind → Draft → Result Draft FaultKind → Type 0
-Reads None new after = after ≡ Ok new
-Reads (Some k) new after = after ≡ Err k
+unfoldable pub after_words : Drafted → List (List ℕ) → Result Drafted FaultKind
+after_words d ws = do
+  l ← spelled (deadline_line ws) (λ _. list_all is_number (drop 1 ws))
+  unless_fault (rule_fault d l) (with_line d l)
 
 -- what a whole text says, which has slots, frames and a stream
 abbrev pub parts_of : Option ℕ → Option ℕ → List DeadlineStream → Option Plan
@@ -83,17 +73,17 @@ parts_of None frames ss = None
 parts_of (Some slots) None ss = None
 parts_of (Some slots) (Some frames) [] = None
 
-abbrev pub finished : Draft → Result Plan FaultKind
+abbrev pub finished : Drafted → Result Plan FaultKind
 finished d = ok_or (parts_of d.slots d.frames d.streams) Missing
 
 -- what the bytes say, or their first fault and its line. What is missing is missing behind the last line
 abbrev pub plan_of : List ℕ → Result Plan (ℕ × FaultKind)
 plan_of bytes = do
-  d ← after_lines after_line 1 no_lines (lines bytes)
+  d ← after_lines (after_line after_words) 1 no_lines (lines bytes)
   in_line (length (lines bytes) + 1) (finished d)
 
 -- Internal: what is true of each draft, and of each text.
-pub record IsDraft (d : Draft) : Type 0 where
+pub record IsDraft (d : Drafted) : Type 0 where
   pub slots : IfSome d.slots (λ n. (1 ≤ n) × (n ≤ 40))
   pub frames : IfSome d.frames (λ n. (1 ≤ n) × (n ≤ 1024))
   pub streams : All IsStream d.streams
@@ -105,9 +95,3 @@ pub record IsText (p : Plan) : Type 0 where
   pub streams : All IsStream p.streams
   pub some : 1 ≤ length p.streams
   pub few : length p.streams ≤ 32
-
--- the draft of all lines with their count, or the first fault, unless memory ran out
-abbrev pub Drafts : Result (Draft × ℕ) ParseFault → Result Draft (ℕ × FaultKind) → Type 0
-Drafts (Ok d) said = said ≡ Ok d.0
-Drafts (Err Memory) said = Unit {0}
-Drafts (Err (Line n k)) said = said ≡ Err (n, k)

@@ -1,15 +1,16 @@
-ghost use Rattle.std.specs.Prelude.{◌≡◌, Ok, None, IfOk};
-ghost use Rattle.deadline_plan.specs.DeadlineText.{no_lines, rule_fault, with_line, after_line, Reads, parts_of, between as between_of, are_in_range as are_in_range_of};
+ghost use Rattle.std.specs.Prelude.{◌≡◌, OnOk};
+ghost use Rattle.text_readers.specs.Faults.{Refuses, RefusesBy};
+ghost use Rattle.deadline_plan.specs.DeadlineText.{no_lines, rule_fault, with_line, after_words};
+ghost use Rattle.deadline_plan.specs.DeadlineText.{parts_of, between as between_of, are_in_range as are_in_range_of};
 ghost use Rattle.deadline_plan.specs.declared.line.DeadlineLine.TheVariants.{Slots, Frames, Stream};
 
 use crate::admission::has_owner;
-use crate::line::{DeadlineLine, spells_numbers};
-use crate::words::{is_skipped, is_text, words};
+use crate::line::DeadlineLine;
 use crate::{DeadlineStream, DeadlineText};
-use lwb_base::{Memory, NodeId, Owner};
-use scenario_text::FaultKind;
+use lwb_base::{NodeId, Owner};
 use std::alloc::Global;
 use std::marker::Model;
+use text_readers::{Draft, FaultKind, Refusal, refuse_unless};
 
 /// What the lines of a text say so far.
 #[derive(Drop)]
@@ -20,13 +21,23 @@ pub struct DeadlineDraft {
 }
 
 impl Model for DeadlineDraft {
-    ghost use Rattle.deadline_plan.specs.DeadlineText.{Draft, IsDraft};
+    ghost use Rattle.deadline_plan.specs.DeadlineText.{Drafted, IsDraft};
 
-    ghost Value = { Draft };
+    ghost Value = { Drafted };
 
     ghost view = { λ d. record { slots = d.slots; frames = d.frames; streams = d.streams.items } };
 
     ghost invariant = { λ d. IsDraft (record { slots = d.slots; frames = d.frames; streams = d.streams.items }) };
+}
+
+impl Draft for DeadlineDraft {
+    ghost after = { after_words };
+
+    #[tactic(auto, unfolding(crate::specs::DeadlineText::after_words))]
+    fn read(&mut self, words: &[&[u8]]) -> Result<(), Refusal> {
+        let line = DeadlineLine::new(words)?;
+        self.add(line)
+    }
 }
 
 impl DeadlineDraft {
@@ -41,66 +52,41 @@ impl DeadlineDraft {
         }
     }
 
-    /// Goes on by one line, unless it is refused.
-    #[tactic(auto, unfolding(crate::specs::DeadlineText::after_line))]
-    pub fn read(&mut self, alloc: Global, line: &[u8]) -> Result<Option<FaultKind>, Memory>
-        ensures { IfOk result (λ k. Reads k self.new (after_line self.old line.now)) }
-    {
-        let words = words(alloc, line)?;
-        if is_skipped(&words) {
-            return Ok(None);
-        }
-        if !is_text(line) {
-            return Ok(Some(FaultKind::NotUtf8));
-        }
-        let Some(said) = DeadlineLine::new(&words) else {
-            return Ok(Some(FaultKind::BadWord));
-        };
-        if !spells_numbers(&words) {
-            return Ok(Some(FaultKind::BadNumber));
-        }
-        self.add(said)
-    }
-
-    fn add(&mut self, line: DeadlineLine) -> Result<Option<FaultKind>, Memory>
-        ensures fault { IfOk result (λ k. k ≡ rule_fault self.old line) }
-        ensures added { result ≡ Ok None → self.new ≡ with_line self.old line }
+    fn add(&mut self, line: DeadlineLine) -> Result<(), Refusal>
+        ensures fault { Refuses result (rule_fault self.old line) }
+        ensures added { OnOk result (self.new ≡ with_line self.old line) }
     {
         match line {
-            DeadlineLine::Slots(count) => Ok(self.add_slots(count)),
-            DeadlineLine::Frames(count) => Ok(self.add_frames(count)),
-            DeadlineLine::Stream(node, stream, start, period, deadline) => {
-                self.add_stream(node, stream, start, period, deadline)
-            }
+            DeadlineLine::Slots { count } => Ok(self.add_slots(count)?),
+            DeadlineLine::Frames { count } => Ok(self.add_frames(count)?),
+            DeadlineLine::Stream {
+                node,
+                stream,
+                start,
+                period,
+                deadline,
+            } => self.add_stream(node, stream, start, period, deadline),
         }
     }
 
-    fn add_slots(&mut self, count: u64) -> Option<FaultKind>
-        ensures fault { result ≡ rule_fault self.old (Slots count) }
-        ensures added { result ≡ None → self.new ≡ with_line self.old (Slots count) }
+    fn add_slots(&mut self, count: u64) -> Result<(), FaultKind>
+        ensures fault { RefusesBy result (rule_fault self.old (Slots count)) }
+        ensures added { OnOk result (self.new ≡ with_line self.old (Slots count)) }
     {
-        if !between(1, 40, count) {
-            return Some(FaultKind::Range);
-        }
-        if self.slots.is_some() {
-            return Some(FaultKind::Twice);
-        }
+        refuse_unless(between(1, 40, count), FaultKind::Range)?;
+        refuse_unless(self.slots.is_none(), FaultKind::Twice)?;
         self.slots = Some(count as u8);
-        None
+        Ok(())
     }
 
-    fn add_frames(&mut self, count: u64) -> Option<FaultKind>
-        ensures fault { result ≡ rule_fault self.old (Frames count) }
-        ensures added { result ≡ None → self.new ≡ with_line self.old (Frames count) }
+    fn add_frames(&mut self, count: u64) -> Result<(), FaultKind>
+        ensures fault { RefusesBy result (rule_fault self.old (Frames count)) }
+        ensures added { OnOk result (self.new ≡ with_line self.old (Frames count)) }
     {
-        if !between(1, 1_024, count) {
-            return Some(FaultKind::Range);
-        }
-        if self.frames.is_some() {
-            return Some(FaultKind::Twice);
-        }
+        refuse_unless(between(1, 1_024, count), FaultKind::Range)?;
+        refuse_unless(self.frames.is_none(), FaultKind::Twice)?;
         self.frames = Some(count as u32);
-        None
+        Ok(())
     }
 
     fn add_stream(
@@ -110,23 +96,16 @@ impl DeadlineDraft {
         start: u64,
         period: u64,
         deadline: u64,
-    ) -> Result<Option<FaultKind>, Memory>
-        ensures fault { IfOk result (λ k. k ≡ rule_fault self.old (Stream node stream start period deadline)) }
-        ensures added { result ≡ Ok None → self.new ≡ with_line self.old (Stream node stream start period deadline) }
+    ) -> Result<(), Refusal>
+        ensures fault { Refuses result (rule_fault self.old (Stream node stream start period deadline)) }
+        ensures added { OnOk result (self.new ≡ with_line self.old (Stream node stream start period deadline)) }
     {
-        if !are_in_range(node, stream, start, period, deadline) {
-            return Ok(Some(FaultKind::Range));
-        }
-        let Some(id) = NodeId::new(node as u8) else {
-            return Ok(Some(FaultKind::Range));
-        };
+        let is_in_range = are_in_range(node, stream, start, period, deadline);
+        refuse_unless(is_in_range, FaultKind::Range)?;
+        let id = NodeId::new(node as u8).ok_or(FaultKind::Range)?;
         let owner = Owner::new(id, stream as u8);
-        if has_owner(&self.streams, owner) {
-            return Ok(Some(FaultKind::Twice));
-        }
-        if self.streams.len() >= 32 {
-            return Ok(Some(FaultKind::TooMany));
-        }
+        refuse_unless(!has_owner(&self.streams, owner), FaultKind::Twice)?;
+        refuse_unless(self.streams.len() < 32, FaultKind::TooMany)?;
         let line = DeadlineStream {
             owner,
             start: start as u32,
@@ -134,7 +113,7 @@ impl DeadlineDraft {
             deadline: deadline as u8,
         };
         self.streams.push(line)?;
-        Ok(None)
+        Ok(())
     }
 
     /// What the text says. None comes exactly where slots, frames or a stream is missing.

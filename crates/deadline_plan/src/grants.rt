@@ -42,7 +42,8 @@ fn add_job(
 ) -> Result<(), Memory>
     requires stream { IsStream stream.now }
     requires number { number ≤ 1024 }
-    ensures { IfOk result (λ done. jobs.new.items ≡ jobs.old.items ++ (if nat_le (job_of stream.now number).end frames then job_of stream.now number ∷ [] else [])) }
+    ensures { IfOk result
+        (λ done. jobs.new.items ≡ jobs.old.items ++ (if nat_le (job_of stream.now number).end frames then job_of stream.now number ∷ [] else [])) }
 {
     let release = stream.start + number * u32::from(stream.period);
     let end = release + u32::from(stream.deadline);

@@ -9,7 +9,8 @@ ghost use Rattle.deadline_plan.specs.declared.stream.DeadlineStream.{DeadlineStr
 
 /// Each number whose job ends by the last frame has it once among the jobs of the stream, and there is no other job.
 pub fn a_stream_has_the_jobs_of_its_numbers()
-    ensures once { (frames : ℕ) (s : DeadlineStream) → IsStream s → (m : ℕ) → (job s m).end ≤ frames → count_by (λ j. (j.release == (job s m).release) && (j.end == (job s m).end)) (jobs_of frames s) ≡ 1 }
+    ensures once { (frames : ℕ) (s : DeadlineStream) → IsStream s → (m : ℕ) → (job s m).end ≤ frames
+        → count_by (λ j. (j.release == (job s m).release) && (j.end == (job s m).end)) (jobs_of frames s) ≡ 1 }
     ensures no_other { (frames : ℕ) (s : DeadlineStream) → All (λ j. (m : ℕ) × (j ≡ job s m) × (j.end ≤ frames)) (jobs_of frames s) }
 {}
 
@@ -21,5 +22,6 @@ pub fn an_overload_has_no_placing()
 /// Where no pair of frames is over, earliest deadline first grants every job once, in a frame from its release to its
 /// end - 1.
 pub fn earliest_deadline_first_keeps_all()
-    ensures { (slots frames : ℕ) (js : List Job) → All (λ j. (j.release < j.end) × (j.end ≤ frames)) js → NothingOver slots js → AreKept js (grants slots frames js) }
+    ensures { (slots frames : ℕ) (js : List Job) → All (λ j. (j.release < j.end) × (j.end ≤ frames)) js → NothingOver slots js
+        → AreKept js (grants slots frames js) }
 {}

@@ -8,11 +8,9 @@ mod job;
 pub mod laws;
 mod line;
 mod load;
-mod numbers;
 mod parse;
 mod stream;
 mod text;
-mod words;
 
 pub use admission::{Admit, Deadlines};
 pub use job::Job;

@@ -1,46 +1,57 @@
 ghost use Rattle.std.specs.Prelude.{◌≡◌, map, drop};
 ghost use Rattle.std.specs.List.{list_all};
-ghost use Rattle.scenario_text.specs.Words.{is_number};
+ghost use Rattle.text_readers.specs.Faults.{spelled};
+ghost use Rattle.text_readers.specs.Words.{is_number};
 ghost use Rattle.deadline_plan.specs.DeadlineText.{deadline_line};
 
-use crate::numbers::{are_numbers, number_at};
-use crate::words::{behind_first, counted, is, word};
+use text_readers::{FaultKind, five_numbers, is, one_number, word};
 
 /// A line of the text, with its numbers as they stand there.
 #[derive(Clone, Copy, Debug, PartialEq, Eq)]
 pub enum DeadlineLine {
-    Slots(u64),
-    Frames(u64),
-    /// Node, stream, start, period and deadline.
-    Stream(u64, u64, u64, u64, u64),
+    /// How many slots a frame has.
+    Slots {
+        count: u64,
+    },
+    /// How many frames there are.
+    Frames {
+        count: u64,
+    },
+    /// A stream that asks for admission.
+    Stream {
+        node: u64,
+        stream: u64,
+        start: u64,
+        period: u64,
+        deadline: u64,
+    },
 }
 
 impl DeadlineLine {
-    /// What the words say. None where they are not those of a line.
+    /// What the words say. `BadWord` comes where they are not those of a line, and else `BadNumber` where a number is
+    /// misspelled.
     #[tactic(auto, unfolding(crate::specs::DeadlineText::deadline_line))]
-    pub fn new(words: &[&[u8]]) -> Option<DeadlineLine>
-        ensures { result ≡ deadline_line (map (λ w. w.now) words.now) }
+    pub fn new(words: &[&[u8]]) -> Result<DeadlineLine, FaultKind>
+        ensures { let ws = map (λ w. w.now) words.now in result ≡ spelled (deadline_line ws) (λ _. list_all is_number (drop 1 ws)) }
     {
         let first = word(words, 0);
         if is(first, b"slots") {
-            return counted(2, words, DeadlineLine::Slots(number_at(words, 1)));
+            let count = one_number(words)?;
+            Ok(DeadlineLine::Slots { count })
+        } else if is(first, b"frames") {
+            let count = one_number(words)?;
+            Ok(DeadlineLine::Frames { count })
+        } else if is(first, b"stream") {
+            let (node, stream, start, period, deadline) = five_numbers(words)?;
+            Ok(DeadlineLine::Stream {
+                node,
+                stream,
+                start,
+                period,
+                deadline,
+            })
+        } else {
+            Err(FaultKind::BadWord)
         }
-        if is(first, b"frames") {
-            return counted(2, words, DeadlineLine::Frames(number_at(words, 1)));
-        }
-        if is(first, b"stream") {
-            let (node, stream) = (number_at(words, 1), number_at(words, 2));
-            let (start, period) = (number_at(words, 3), number_at(words, 4));
-            let line = DeadlineLine::Stream(node, stream, start, period, number_at(words, 5));
-            return counted(6, words, line);
-        }
-        None
     }
-}
-
-/// Whether the words behind the first are numbers.
-pub fn spells_numbers(words: &[&[u8]]) -> bool
-    ensures { result ≡ list_all is_number (drop 1 (map (λ w. w.now) words.now)) }
-{
-    are_numbers(behind_first(words))
 }

@@ -47,7 +47,8 @@ fn count_ends(streams: &[DeadlineStream], until: u32, released: &mut [u32])
     requires short { until ≤ 1024 }
     requires room { (a : ℕ) → slice_index released.old a ≤ 65536 }
     ensures length { length released.new ≡ length released.old }
-    ensures counted { (a : ℕ) → a < length released.old → slice_index released.new a ≡ slice_index released.old a + count_by (λ s. has_job s a until) streams.now }
+    ensures counted { (a : ℕ) → a < length released.old
+        → slice_index released.new a ≡ slice_index released.old a + count_by (λ s. has_job s a until) streams.now }
 {
     for stream in streams {
         if let Some(release) = release_of(stream, until) {

@@ -437,7 +437,8 @@ fn node(id: u8) -> Result<NodeId, Fail>
 // The links of a pair of nodes, sealed with both.
 fn trace_of_two(alloc: Global, one: NodeId, two: NodeId) -> Result<Trace, Fail>
     requires { one < two }
-    ensures { IfOk result (λ t. t ≡ record { lines = record no_lines { links = record { from = one; to = two } ∷ record { from = two; to = one } ∷ [] }; nodes = one ∷ two ∷ [] }) }
+    ensures { IfOk result (λ t. t
+        ≡ record { lines = record no_lines { links = record { from = one; to = two } ∷ record { from = two; to = one } ∷ [] }; nodes = one ∷ two ∷ [] }) }
 {
     let mut trace = Trace::new(alloc);
     if trace.link(one, two) != Ok(true) || trace.link(two, one) != Ok(true) {

@@ -1,5 +1,6 @@
 -- How often each node boots along a script.
-use Rattle.std.proofs.Common.{◌≡◌, ℕ, ◌+◌, ◌<◌, ◌≤◌, List, [], ◌∷◌, Bool, true, false, if◌then◌else◌, ◌==◌, nat_lt, length, set, get_or, refl, sym, ◌∙◌, ap, subst, arith, inl, inr}
+use Rattle.std.proofs.Common.{◌≡◌, ℕ, ◌+◌, ◌<◌, ◌≤◌, List, [], ◌∷◌, Bool, true, false, if◌then◌else◌, ◌==◌}
+use Rattle.std.proofs.Common.{nat_lt, length, set, get_or, refl, sym, ◌∙◌, ap, subst, arith, inl, inr}
 use Rattle.std.proofs.lemmas.Bool.{cond_both, cond-true, cases_lt, or_cases, or_left, or_right, eq-eqb, eqb-true, eqb-false, lt-ltb, ltb-true, both_ways}
 use Rattle.std.proofs.lemmas.List.{get_or-set_same, get_or-set_other, length-set, get_or-replicate, get_or_past}
 use Rattle.std.specs.Prelude.{replicate}
@@ -36,7 +37,8 @@ still : (b : Bool) (w : Power) (v : ℕ) (s : Bool × ℕ) → Tells w v s → T
 still true w v s tells = tells
 still false w v s tells = tells
 
-tells_after : (w : Power) (v i : ℕ) (a : Act) (s : Bool × ℕ) → IsLong w → i ≤ 200 → Tells w v s → Tells (after_act w i a) v (if i == v then turned_by a s else s)
+tells_after : (w : Power) (v i : ℕ) (a : Act) (s : Bool × ℕ) → IsLong w → i ≤ 200 → Tells w v s
+    → Tells (after_act w i a) v (if i == v then turned_by a s else s)
 tells_after w v i On s long small tells =
     let count : ℕ = if slice_index_or w.on i false then slice_index w.boots i else slice_index w.boots i + 1 in
     cond_both (i == v) (turned_by On s) s (Tells (after_act w i On) v)
@@ -48,7 +50,8 @@ tells_after w v i On s long small tells =
     let long_boots = long.boots in
     record {
       on = set_here w.on i v true false is (omega (arith, small, long_on));
-      boots = set_here w.boots i v count 0 is (omega (arith, small, long_boots)) ∙ ap (λ (b : Bool). if b then slice_index w.boots i else slice_index w.boots i + 1) on ∙ ap (λ (n : ℕ). if s.0 then n else n + 1) boots;
+      boots = set_here w.boots i v count 0 is (omega (arith, small, long_boots)) ∙ ap (λ (b : Bool). if b then slice_index w.boots i
+          else slice_index w.boots i + 1) on ∙ ap (λ (n : ℕ). if s.0 then n else n + 1) boots;
     })
     (λ other.
     let differ = eqb-false i v other in
@@ -84,14 +87,19 @@ few_after w v i (Declare x y) s tells can few = same_count (i == v) s few
 few_after w v i (Leave x) s tells can few = same_count (i == v) s few
 few_after w v i (Put x b) s tells can few = same_count (i == v) s few
 
-few_along : (w : Power) (v : ℕ) (s : Bool × ℕ) (ls : List ScriptLine) → IsLong w → Tells w v s → s.1 ≤ 200 → AllByRecursion (λ l. l.node ≤ 200) ls → Boots w ls → (turned v s ls).1 ≤ 200
+few_along : (w : Power) (v : ℕ) (s : Bool × ℕ) (ls : List ScriptLine) → IsLong w → Tells w v s → s.1 ≤ 200
+    → AllByRecursion (λ l. l.node ≤ 200) ls → Boots w ls → (turned v s ls).1 ≤ 200
 few_along w v s [] long tells few small boots = few
 few_along w v s (l ∷ ls) long tells few small boots =
-    few_along (after_act w l.node l.act) v (if l.node == v then turned_by l.act s else s) ls (long_after w l.node l.act long) (tells_after w v l.node l.act s long small.0 tells)
+    few_along (after_act w l.node l.act) v (if l.node == v then turned_by l.act s else s) ls (long_after w l.node l.act long)
+    (tells_after w v l.node l.act s long small.0 tells)
     (few_after w v l.node l.act s tells boots.0 few) small.1 boots.1
 
 none_first : (v : ℕ) → Tells no_power v (false, 0)
-none_first v = record { on = either_way (replicate 201 false) false v (λ i. get_or-replicate 201 i false false) refl; boots = either_way (replicate 201 0) 0 v (λ i. get_or-replicate 201 i 0 0) refl }
+none_first v = record {
+  on = either_way (replicate 201 false) false v (λ i. get_or-replicate 201 i false false) refl;
+  boots = either_way (replicate 201 0) 0 v (λ i. get_or-replicate 201 i 0 0) refl;
+}
   where
     either_way : {A : Type 0} (l : List A) (d : A) (i : ℕ) → ((k : ℕ) → k < 201 → get_or l k d ≡ d) → length l ≡ 201 → get_or l i d ≡ d
     either_way l d i within long = elim (cases_lt i 201) [ inl below ↦ within i below | inr past ↦ get_or_past l i d (omega (arith, long, past)) ]

@@ -1,5 +1,6 @@
 -- What is true of a scenario that some text says, part by part.
-use Rattle.std.proofs.Common.{◌≡◌, ℕ, ◌+◌, ◌*◌, ◌<◌, ◌≤◌, List, [], ◌∷◌, Bool, true, false, if◌then◌else◌, ◌||◌, ◌==◌, nat_lt, Option, Some, None, length, replicate}
+use Rattle.std.proofs.Common.{◌≡◌, ℕ, ◌+◌, ◌*◌, ◌<◌, ◌≤◌, List, [], ◌∷◌, Bool, true, false, if◌then◌else◌}
+use Rattle.std.proofs.Common.{◌||◌, ◌==◌, nat_lt, Option, Some, None, length, replicate}
 use Rattle.std.specs.Prelude.{slice_set}
 use Rattle.std.specs.Int.RustNames.{unsigned_abs}
 use Rattle.std.specs.List.{AllByRecursion, slice_index, slice_index_or}

@@ -1,5 +1,6 @@
 -- The canonical lines are allowed one after another, list by list.
-use Rattle.std.proofs.Common.{◌≡◌, ℕ, suc, ◌+◌, ◌<◌, ◌≤◌, List, [], ◌∷◌, ◌++◌, true, false, not, ◌&&◌, ◌==◌, nat_lt, nat_le, Option, Some, None, IfSome, map, length, codes, refl, sym, ◌∙◌, ap, subst, arith, inl, inr}
+use Rattle.std.proofs.Common.{◌≡◌, ℕ, suc, ◌+◌, ◌<◌, ◌≤◌, List, [], ◌∷◌, ◌++◌, true, false, not, ◌&&◌, ◌==◌, nat_lt, nat_le, Option}
+use Rattle.std.proofs.Common.{Some, None, IfSome, map, length, codes, refl, sym, ◌∙◌, ap, subst, arith, inl, inr}
 use Rattle.std.proofs.lemmas.Bool.{cond-true, and_from, and_parts, or_from, not_from_false, lt-ltb, le-leb, leb-true, eq-eqb, ne_eqb}
 use Rattle.std.proofs.lemmas.List.{append-nil, append_assoc, length_push, length-append}
 use Rattle.std.specs.List.{AllByRecursion, list_any}
@@ -14,7 +15,7 @@ use Rattle.link_trace.specs.Sealed.{no_lines}
 use Rattle.link_trace.specs.declared.lines.LinkLine.{LinkLine}
 use Rattle.scenario_text.specs.FloodParts.{knows}
 use Rattle.scenario_text.specs.FloodDrafts.{Climbs, Rises, Follows}
-use Rattle.scenario_text.specs.Words.{has_minus, magnitude, number}
+use Rattle.text_readers.specs.Words.{has_minus, magnitude, number}
 use Rattle.scenario_text.specs.Network.{is_id, are_ends, last_rate}
 use Rattle.text_writers.specs.Lines.{numbered}
 use Rattle.scenario_text.specs.Canonical.{node_words, rate_words, host_lines, link_words}
@@ -42,7 +43,8 @@ below_last n (m ∷ ns) all =
 
 unknown_above : (n : NodeLine) (ns : List NodeLine) → AllByRecursion (λ m. m.node < n.node) ns → knows ns n.node ≡ false
 unknown_above n [] all = refl
-unknown_above n (m ∷ ns) all = let lt = all.0 in or_from (m.node == n.node) (knows ns n.node) (ne_eqb m.node n.node (λ is. omega (arith, is, lt))) (unknown_above n ns all.1)
+unknown_above n (m ∷ ns) all = let lt = all.0 in
+    or_from (m.node == n.node) (knows ns n.node) (ne_eqb m.node n.node (λ is. omega (arith, is, lt))) (unknown_above n ns all.1)
 
 abbrev pub with_nodes : ScenarioParts → List NodeLine → Scenario
 with_nodes s ns = mid s ns [] [] no_lines [] no_power 0
@@ -69,10 +71,12 @@ step_node s is ns n ms split =
     (ap (with_nodes s) (with_node-put n ns front ∙ below_last n ns below))
 
 -- rates
-above_last : (r : RateLine) (rs : List RateLine) (i : ℕ) → r.node ≡ i → AllByRecursion (λ q. q.node ≡ r.node → q.from < r.from) rs → option_map_or (λ q. nat_lt q.from r.from) (last_rate rs i) true ≡ true
+above_last : (r : RateLine) (rs : List RateLine) (i : ℕ) → r.node ≡ i → AllByRecursion (λ q. q.node ≡ r.node → q.from < r.from) rs
+    → option_map_or (λ q. nat_lt q.from r.from) (last_rate rs i) true ≡ true
 above_last r rs i is all = by_last (last_rate rs i) (last_of rs i) (last_holds (λ q. q.node ≡ r.node → q.from < r.from) i rs all)
   where
-    by_last : (o : Option RateLine) → IfSome o (λ q. q.node ≡ i) → IfSome o (λ q. q.node ≡ r.node → q.from < r.from) → option_map_or (λ q. nat_lt q.from r.from) o true ≡ true
+    by_last : (o : Option RateLine) → IfSome o (λ q. q.node ≡ i) → IfSome o (λ q. q.node ≡ r.node → q.from < r.from)
+        → option_map_or (λ q. nat_lt q.from r.from) o true ≡ true
     by_last None of holds = refl
     by_last (Some q) of holds = lt-ltb q.from r.from (holds (of ∙ sym is))
 
@@ -100,7 +104,8 @@ step_rate s is rs r qs split =
     step (with_rates s rs) (rate_words r) (line.InNetwork (Rate r.node r.from (has_minus w) (number (magnitude w)))) (with_rates s (rs ++ r ∷ []))
     (says_rate r.node r.from r.ppm (small_id r.node rate.id) (omega (arith, early, bound)) small)
     (record {
-      range = and_from _ _ (and_from (is_id r.node) (nat_le r.from (last_tick s.profile)) rate.id (le-leb r.from (last_tick s.profile) early)) (le-leb (number (magnitude w)) 20 (omega (arith, size, small)));
+      range = and_from _ _ (and_from (is_id r.node) (nat_le r.from (last_tick s.profile)) rate.id
+          (le-leb r.from (last_tick s.profile) early)) (le-leb (number (magnitude w)) 20 (omega (arith, size, small)));
       known = rate.known;
       order = above_last r rs r.node refl before;
       fresh = refl;
@@ -135,10 +140,16 @@ step_host s is hs h gs rank at split =
     })
     refl
 
-pub goes_hosts : (s : ScenarioParts) → KeepsRules s → (hs gs : List ℕ) (rank : ℕ) → rank ≡ length hs → hs ++ gs ≡ s.hosts → Goes (with_hosts s hs) (host_lines rank gs) (with_hosts s s.hosts)
+pub goes_hosts : (s : ScenarioParts) → KeepsRules s → (hs gs : List ℕ) (rank : ℕ) → rank ≡ length hs → hs ++ gs ≡ s.hosts
+    → Goes (with_hosts s hs) (host_lines rank gs) (with_hosts s s.hosts)
 goes_hosts s is hs [] rank at split = ap (with_hosts s) (sym (append-nil hs) ∙ split)
-goes_hosts s is hs (h ∷ gs) rank at split =
-    (with_hosts s (hs ++ h ∷ []), (step_host s is hs h gs rank at split, goes_hosts s is (hs ++ h ∷ []) gs (rank + 1) (omega (arith, at, length_push hs h)) (append_assoc hs (h ∷ []) gs ∙ split)))
+goes_hosts s is hs (h ∷ gs) rank at split = (
+  with_hosts s (hs ++ h ∷ []),
+  (
+    step_host s is hs h gs rank at split,
+    goes_hosts s is (hs ++ h ∷ []) gs (rank + 1) (omega (arith, at, length_push hs h)) (append_assoc hs (h ∷ []) gs ∙ split),
+  ),
+)
 
 -- links
 abbrev pub of_links : List LinkLine → Lines
@@ -156,12 +167,19 @@ small_ends u v ends =
 step_link : (s : ScenarioParts) → KeepsRules s → (ls : List LinkLine) (l : LinkLine) (ms : List LinkLine) → ls ++ l ∷ ms ≡ s.trace.links
     → Step (with_links s ls) (link_words l) (with_links s (ls ++ l ∷ []))
 step_link s is ls l ms split =
-    let fits = middle (λ (x : LinkLine). Fits (judge s) (said_link x)) ls l ms (subst (AllByRecursion (λ (x : LinkLine). Fits (judge s) (said_link x))) (sym split) is.links) in
+    let fits = middle (λ (x : LinkLine). Fits (judge s) (said_link x)) ls l ms
+    (subst (AllByRecursion (λ (x : LinkLine). Fits (judge s) (said_link x))) (sym split) is.links) in
     let before = climbs_before (λ a b. by_link a b ≡ Less) ls l ms (subst (Climbs (λ a b. by_link a b ≡ Less)) (sym split) is.links_climb) in
     let small = small_ends l.from l.to fits.range in
     step (with_links s ls) (link_words l) (said_link l) (with_links s (ls ++ l ∷ []))
     (says_link l.from l.to small.0 small.1)
-    (record { range = fits.range; known = fits.known; order = refl; fresh = none_among by_link (is_link l.from l.to) l ls (tells_link l.from l.to) before; room = refl })
+    (record {
+      range = fits.range;
+      known = fits.known;
+      order = refl;
+      fresh = none_among by_link (is_link l.from l.to) l ls (tells_link l.from l.to) before;
+      room = refl;
+    })
     (ap (with_links s) (with_line_last by_link l ls before))
 
 pub goes_nodes : (s : ScenarioParts) → KeepsRules s → Goes (with_nodes s []) (map node_words s.nodes) (with_nodes s s.nodes)

@@ -5,11 +5,13 @@ use Rattle.std.proofs.lemmas.Grind.{flat_map-append}
 use Rattle.std.proofs.lemmas.List.{append-nil, append_assoc}
 use Rattle.std.proofs.lemmas.List.Folds.{flat_map-map}
 use Rattle.text_writers.specs.Lines.{render, line_text, numbered}
-use Rattle.scenario_text.specs.Canonical.{canonical, canonical_lines, profile_number, contend_lines, node_words, rate_words, host_lines, link_words, script_words, loss_words, cut_words, capture_words}
+use Rattle.scenario_text.specs.Canonical.{canonical, canonical_lines, profile_number, contend_lines, node_words, rate_words}
+use Rattle.scenario_text.specs.Canonical.{host_lines, link_words, script_words, loss_words, cut_words, capture_words}
 use Rattle.scenario_text.specs.ScenarioParts.{ScenarioParts}
 
 -- the hosts are written with their places
-pub hosts_by_rank : (rank : ℕ) (hosts : List ℕ) → flat_map (λ (p : ℕ × ℕ). line_text (numbered (codes "host") (p.0 ∷ p.1 ∷ []))) (enumerate_from rank hosts) ≡ render (host_lines rank hosts)
+pub hosts_by_rank : (rank : ℕ) (hosts : List ℕ) → flat_map (λ (p : ℕ × ℕ). line_text (numbered (codes "host") (p.0 ∷ p.1 ∷ [])))
+    (enumerate_from rank hosts) ≡ render (host_lines rank hosts)
 hosts_by_rank rank [] = refl
 hosts_by_rank rank (h ∷ hosts) = ap (λ (l : List ℕ). line_text (numbered (codes "host") (rank ∷ h ∷ [])) ++ l) (hosts_by_rank (rank + 1) hosts)
 
@@ -48,7 +50,8 @@ in_turn s =
     let of_cuts : List (List (List ℕ)) = of_losses ++ map cut_words s.trace.cuts in
     let begins = line_text profile ++ render (contend_lines s.profile.contend) in
     let first : first_text s ≡ render (top ++ frames ∷ sends ∷ []) =
-    sym (flat_map-append line_text top (frames ∷ sends ∷ []) ∙ ap (λ (l : List ℕ). begins ++ (line_text frames ++ l)) (append-nil (line_text sends)) ∙ sym (append_assoc begins (line_text frames) (line_text sends)))
+    sym (flat_map-append line_text top (frames ∷ sends ∷ []) ∙ ap (λ (l : List ℕ). begins ++ (line_text frames ++ l))
+    (append-nil (line_text sends)) ∙ sym (append_assoc begins (line_text frames) (line_text sends)))
     in
     let nodes = after node_words s.nodes (top ++ frames ∷ sends ∷ []) _ first ∙ ap render (append_assoc top (frames ∷ sends ∷ []) (map node_words s.nodes)) in
     let rates = after rate_words s.rates of_nodes _ nodes in

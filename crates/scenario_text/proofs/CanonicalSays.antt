@@ -1,12 +1,14 @@
 -- The canonical text says what it was made of.
-use Rattle.std.proofs.Common.{◌≡◌, ℕ, zero, suc, ◌+◌, ◌*◌, ◌≤◌, List, [], ◌∷◌, ◌++◌, Bool, true, false, ◌==◌, nat_le, Option, Some, None, Ok, map, length, codes, refl, sym, ◌∙◌, ap, subst, arith, inl, inr, Err, Result}
+use Rattle.std.proofs.Common.{◌≡◌, ℕ, zero, suc, ◌+◌, ◌*◌, ◌≤◌, List, [], ◌∷◌, ◌++◌, Bool, true, false, ◌==◌, nat_le, Option, Some}
+use Rattle.std.proofs.Common.{None, Ok, map, length, codes, refl, sym, ◌∙◌, ap, subst, arith, inl, inr, Err, Result}
 use Rattle.std.proofs.lemmas.Bool.{cond-true, cond-false, and_from, le-leb, ne_eqb}
 use Rattle.lwb_base.specs.Profile.{Numbers, IsProfile, one, contended}
 use Rattle.link_trace.specs.Passes.{Lines}
 use Rattle.text_writers.specs.Lines.{numbered}
-use Rattle.scenario_text.specs.Canonical.{canonical, canonical_lines, profile_number, contend_lines, node_words, rate_words, host_lines, link_words, script_words, loss_words, cut_words, capture_words}
+use Rattle.scenario_text.specs.Canonical.{canonical, canonical_lines, profile_number, contend_lines, node_words, rate_words}
+use Rattle.scenario_text.specs.Canonical.{host_lines, link_words, script_words, loss_words, cut_words, capture_words}
 use Rattle.scenario_text.specs.ScenarioGrammar.{Scenario, no_scenario, after_words, finished, finished_parts, if_small, scenario_of}
-use Rattle.scenario_text.specs.Reading.{after_line}
+use Rattle.text_readers.specs.Reading.{after_line}
 use Rattle.scenario_text.specs.ScenarioParts.{ScenarioParts}
 use Rattle.scenario_text.specs.declared.lines.RateLine.{RateLine}
 use Rattle.scenario_text.specs.declared.network_line.NetworkLine.TheVariants.{Sends}
@@ -17,9 +19,9 @@ use Rattle.scenario_text.proofs.LineRuns.{Step, step, goes_words, goes_after, Go
 use Rattle.scenario_text.proofs.CanonicalFacts.{Power, no_power, power_after, mid, KeepsRules}
 use Rattle.std.specs.Str.Lines.{lines}
 use Rattle.scenario_text.specs.Network.{Parts, network_parts, rates_by_node}
-use Rattle.scenario_text.specs.Faults.{after_lines, in_line, ◌>>=◌}
-use Rattle.scenario_text.specs.declared.fault.FaultKind.{FaultKind}
-use Rattle.scenario_text.specs.declared.fault.FaultKind.TheVariants.{Missing, TooBig}
+use Rattle.text_readers.specs.Faults.{after_lines, in_line, ◌>>=◌}
+use Rattle.text_readers.specs.declared.fault.FaultKind.{FaultKind}
+use Rattle.text_readers.specs.declared.fault.FaultKind.TheVariants.{Missing, TooBig}
 use Rattle.scenario_text.proofs.TextBack.{lines_back}
 use Rattle.scenario_text.proofs.DraftFacts.{after_top}
 use Rattle.scenario_text.proofs.CanonicalGoes.{with_nodes, with_rates, with_hosts, with_links, of_links, goes_nodes, goes_rates, goes_hosts, goes_links}
@@ -30,47 +32,35 @@ abbrev top_lines : Numbers → List (List (List ℕ))
 top_lines p = numbered (codes "profile") (profile_number p ∷ []) ∷ contend_lines p.contend
 
 step_two : Step no_scenario (numbered (codes "profile") (2 ∷ [])) (after_top (contended 0) true)
-step_two = step no_scenario (numbered (codes "profile") (2 ∷ [])) (line.Profile 2) (after_top (contended 0) true) (says_profile 2 (omega arith)) (record { range = refl; known = refl; order = refl; fresh = refl; room = refl }) refl
+step_two = step no_scenario (numbered (codes "profile") (2 ∷ [])) (line.Profile 2) (after_top (contended 0) true)
+    (says_profile 2 (omega arith)) (record { range = refl; known = refl; order = refl; fresh = refl; room = refl }) refl
 
 goes_contended : (c : ℕ) → c ≤ 4 → (b : Bool) × Goes no_scenario (top_lines (contended c)) (after_top (contended c) b)
 goes_contended zero few = (true, (after_top (contended 0) true, (step_two, refl)))
 goes_contended (suc c) few =
-    let some : contend_lines (suc c) ≡ numbered (codes "contend") (suc c ∷ []) ∷ [] = cond-false (suc c == 0) [] (numbered (codes "contend") (suc c ∷ []) ∷ []) (ne_eqb (suc c) 0 (λ is. omega (arith, is))) in (
-      false,
-      subst (λ (ls : List (List (List ℕ))). Goes no_scenario (numbered (codes "profile") (2 ∷ []) ∷ ls) (after_top (contended (suc c)) false)) (sym some) (
-        after_top (contended 0) true,
-        (
-          step_two,
-          (
-            after_top (contended (suc c)) false,
-            (
-              step (after_top (contended 0) true) (numbered (codes "contend") (suc c ∷ [])) (line.Contend (suc c)) (after_top (contended (suc c)) false) (says_contend (suc c) (omega (arith, few)))
-                  (record { range = and_from (nat_le 1 (suc c)) (nat_le (suc c) 4) (le-leb 1 (suc c) (omega arith)) (le-leb (suc c) 4 few); known = refl; order = refl; fresh = refl; room = refl }) refl,
-              refl,
-            ),
-          ),
-        ),
-      ),
-    )
+    let ws : List (List ℕ) = numbered (codes "contend") (suc c ∷ []) in
+    let behind = after_top (contended (suc c)) false in
+    let some : contend_lines (suc c) ≡ ws ∷ [] = cond-false (suc c == 0) [] (ws ∷ []) (ne_eqb (suc c) 0 (λ is. omega (arith, is))) in
+    let range = and_from (nat_le 1 (suc c)) (nat_le (suc c) 4) (le-leb 1 (suc c) (omega arith)) (le-leb (suc c) 4 few) in
+    let last = step (after_top (contended 0) true) ws (line.Contend (suc c)) behind (says_contend (suc c) (omega (arith, few)))
+    (record { range = range; known = refl; order = refl; fresh = refl; room = refl }) refl in
+    let goes : Goes no_scenario (numbered (codes "profile") (2 ∷ []) ∷ ws ∷ []) behind =
+    (after_top (contended 0) true, (step_two, (behind, (last, refl)))) in
+    (false, subst (λ (ls : List (List (List ℕ))). Goes no_scenario (numbered (codes "profile") (2 ∷ []) ∷ ls) behind) (sym some) goes)
 
 goes_one : (b : Bool) × Goes no_scenario (top_lines one) (after_top one b)
-goes_one = (
-  false,
-  (
-    after_top one false,
-    (
-      step no_scenario (numbered (codes "profile") (1 ∷ [])) (line.Profile 1) (after_top one false) (says_profile 1 (omega arith)) (record { range = refl; known = refl; order = refl; fresh = refl; room = refl }) refl,
-      refl,
-    ),
-  ),
-)
+goes_one =
+    let first = step no_scenario (numbered (codes "profile") (1 ∷ [])) (line.Profile 1) (after_top one false) (says_profile 1 (omega arith))
+    (record { range = refl; known = refl; order = refl; fresh = refl; room = refl }) refl in
+    (false, (after_top one false, (first, refl)))
 
 goes_top : (p : Numbers) → IsProfile p → (b : Bool) × Goes no_scenario (top_lines p) (after_top p b)
 goes_top p (inl is) = subst (λ (q : Numbers). (b : Bool) × Goes no_scenario (top_lines q) (after_top q b)) (sym is) goes_one
 goes_top p (inr is) = subst (λ (q : Numbers). (b : Bool) × Goes no_scenario (top_lines q) (after_top q b)) (sym is.0) (goes_contended p.contend is.1)
 
 goes_first : (s : ScenarioParts) (b : Bool) → KeepsRules s
-    → Goes (after_top s.profile b) (numbered (codes "frames") (s.frames ∷ []) ∷ numbered (codes "sends") (s.sends ∷ []) ∷ map node_words s.nodes) (with_nodes s s.nodes)
+    → Goes (after_top s.profile b) (numbered (codes "frames") (s.frames ∷ []) ∷ numbered (codes "sends") (s.sends ∷ [])
+    ∷ map node_words s.nodes) (with_nodes s s.nodes)
 goes_first s b is =
     let framed : Scenario = record (after_top s.profile false) { frames = Some s.frames } in
     let frames = is.frames in
@@ -80,12 +70,25 @@ goes_first s b is =
       framed,
       (
         step (after_top s.profile b) (numbered (codes "frames") (s.frames ∷ [])) (line.Frames s.frames) framed (says_frames s.frames (omega (arith, few)))
-            (record { range = and_from (nat_le 1 s.frames) (nat_le s.frames 4096) (le-leb 1 s.frames frames.0) (le-leb s.frames 4096 few); known = refl; order = refl; fresh = refl; room = refl }) refl,
+            (record {
+              range = and_from (nat_le 1 s.frames) (nat_le s.frames 4096) (le-leb 1 s.frames frames.0) (le-leb s.frames 4096 few);
+              known = refl;
+              order = refl;
+              fresh = refl;
+              room = refl;
+            }) refl,
         (
           with_nodes s [],
           (
-            step framed (numbered (codes "sends") (s.sends ∷ [])) (line.InNetwork (Sends s.sends)) (with_nodes s []) (says_sends s.sends (omega (arith, seldom)))
-                (record { range = and_from (nat_le 1 s.sends) (nat_le s.sends 4) (le-leb 1 s.sends sends.0) (le-leb s.sends 4 seldom); known = refl; order = refl; fresh = refl; room = refl }) refl,
+            step framed (numbered (codes "sends") (s.sends ∷ [])) (line.InNetwork (Sends s.sends)) (with_nodes s [])
+                (says_sends s.sends (omega (arith, seldom)))
+                (record {
+                  range = and_from (nat_le 1 s.sends) (nat_le s.sends 4) (le-leb 1 s.sends sends.0) (le-leb s.sends 4 seldom);
+                  known = refl;
+                  order = refl;
+                  fresh = refl;
+                  room = refl;
+                }) refl,
             goes_nodes s is,
           ),
         ),
@@ -96,7 +99,8 @@ goes_from : (d e g : Scenario) (ls : List (List (List ℕ))) → d ≡ e → Goe
 goes_from d e g ls is goes = subst (λ (x : Scenario). Goes x ls g) (sym is) goes
 
 -- so many script lines
-counted_as : (s : ScenarioParts) (t : Lines) (ls : List ScriptLine) (w : Power) (m n : ℕ) → m ≡ n → mid s s.nodes s.rates s.hosts t ls w m ≡ mid s s.nodes s.rates s.hosts t ls w n
+counted_as : (s : ScenarioParts) (t : Lines) (ls : List ScriptLine) (w : Power) (m n : ℕ) → m ≡ n
+    → mid s s.nodes s.rates s.hosts t ls w m ≡ mid s s.nodes s.rates s.hosts t ls w n
 counted_as s t ls w m n is = ap (mid s s.nodes s.rates s.hosts t ls w) is
 
 goes_all : (s : ScenarioParts) → KeepsRules s → Goes no_scenario (canonical_lines s) (with_captures s s.trace.captures)
@@ -118,25 +122,31 @@ goes_all s is =
     let to_cuts : List (List (List ℕ)) = to_losses ++ map cut_words s.trace.cuts in
     let nodes = goes_append no_scenario (after_top s.profile top.0) (with_nodes s s.nodes) (top_lines s.profile) first top.1 (goes_first s top.0 is) in
     let rates = goes_append no_scenario (with_nodes s s.nodes) (with_rates s s.rates) to_nodes (map rate_words s.rates) nodes (goes_rates s is) in
-    let hosts = goes_append no_scenario (with_rates s s.rates) (with_hosts s s.hosts) to_rates (host_lines 0 s.hosts) rates (goes_hosts s is [] s.hosts 0 refl refl) in
+    let hosts = goes_append no_scenario (with_rates s s.rates) (with_hosts s s.hosts) to_rates (host_lines 0 s.hosts) rates
+    (goes_hosts s is [] s.hosts 0 refl refl) in
     let links = goes_append no_scenario (with_hosts s s.hosts) (with_links s s.trace.links) to_hosts (map link_words s.trace.links) hosts (goes_links s is) in
     let script = goes_append no_scenario (with_links s s.trace.links) (with_script s s.script) to_links (map script_words s.script) links
-    (goes_from (with_links s s.trace.links) (with_script s []) (with_script s s.script) (map script_words s.script) (counted_as s (of_links s.trace.links) [] no_power r (r + 0) (omega arith)) (goes_script s is)) in
+    (goes_from (with_links s s.trace.links) (with_script s []) (with_script s s.script) (map script_words s.script)
+    (counted_as s (of_links s.trace.links) [] no_power r (r + 0) (omega arith)) (goes_script s is)) in
     let losses = goes_append no_scenario (with_script s s.script) (with_losses s s.trace.losses) to_script (map loss_words s.trace.losses) script
-    (goes_from (with_script s s.script) (with_losses s []) (with_losses s s.trace.losses) (map loss_words s.trace.losses) (counted_as s (of_links s.trace.links) s.script w (r + c) (r + c + 0) (omega arith)) (goes_losses s is)) in
+    (goes_from (with_script s s.script) (with_losses s []) (with_losses s s.trace.losses) (map loss_words s.trace.losses)
+    (counted_as s (of_links s.trace.links) s.script w (r + c) (r + c + 0) (omega arith)) (goes_losses s is)) in
     let cuts = goes_append no_scenario (with_losses s s.trace.losses) (with_cuts s s.trace.cuts) to_losses (map cut_words s.trace.cuts) losses
     (goes_from (with_losses s s.trace.losses) (with_cuts s []) (with_cuts s s.trace.cuts) (map cut_words s.trace.cuts)
-    (counted_as s (record { links = s.trace.links; losses = s.trace.losses; cuts = []; captures = [] }) s.script w (r + c + l) (r + c + l + 0) (omega arith)) (goes_cuts s is)) in
+    (counted_as s (record { links = s.trace.links; losses = s.trace.losses; cuts = []; captures = [] }) s.script w (r + c + l)
+    (r + c + l + 0) (omega arith)) (goes_cuts s is)) in
     goes_append no_scenario (with_cuts s s.trace.cuts) (with_captures s s.trace.captures) to_cuts (map capture_words s.trace.captures) cuts
     (goes_from (with_cuts s s.trace.cuts) (with_captures s []) (with_captures s s.trace.captures) (map capture_words s.trace.captures)
-    (counted_as s (record { links = s.trace.links; losses = s.trace.losses; cuts = s.trace.cuts; captures = [] }) s.script w (r + c + l + u) (r + c + l + u + 0) (omega arith)) (goes_captures s is))
+    (counted_as s (record { links = s.trace.links; losses = s.trace.losses; cuts = s.trace.cuts; captures = [] }) s.script w (r + c + l + u)
+    (r + c + l + u + 0) (omega arith)) (goes_captures s is))
 
 ends : (s : ScenarioParts) → KeepsRules s → finished (with_captures s s.trace.captures) ≡ Ok s
 ends s is =
     let d : Scenario = with_captures s s.trace.captures in
     let p : Parts = record { sends = s.sends; nodes = s.nodes; rates = rates_by_node s.nodes s.rates; trace = s.trace } in
     let some = is.some_hosts in
-    let parts : network_parts d.network (Some s.sends) ≡ Some p = cond-true (nat_le 2 (length s.nodes)) (Some p) None (le-leb 2 (length s.nodes) is.some_nodes) in
+    let parts : network_parts d.network (Some s.sends) ≡ Some p = cond-true (nat_le 2 (length s.nodes)) (Some p) None
+    (le-leb 2 (length s.nodes) is.some_nodes) in
     let whole : ScenarioParts = record s { rates = rates_by_node s.nodes s.rates } in
     ap (λ (o : Option Parts). finished_parts d o (Some s.frames)) parts
     ∙ cond-false (length s.hosts == 0) (Err Missing) (if_small whole) (ne_eqb (length s.hosts) 0 (λ none. omega (arith, none, some)))
@@ -149,6 +159,7 @@ canonical_says s is =
     let text : List ℕ = canonical s in
     let d : Scenario = with_captures s s.trace.captures in
     let cut = lines_back (canonical_lines s) (goes_words no_scenario d (canonical_lines s) goes) in
-    let read : after_lines (after_line after_words) 1 no_scenario (lines text) ≡ Ok d = ap (after_lines (after_line after_words) 1 no_scenario) cut ∙ goes_after 1 no_scenario d (canonical_lines s) goes in
+    let read : after_lines (after_line after_words) 1 no_scenario (lines text) ≡ Ok d =
+    ap (after_lines (after_line after_words) 1 no_scenario) cut ∙ goes_after 1 no_scenario d (canonical_lines s) goes in
     ap (λ (r : Result Scenario (ℕ × FaultKind)). r >>= (λ e. in_line (length (lines text) + 1) (finished e))) read
     ∙ ap (λ (r : Result ScenarioParts FaultKind). in_line (length (lines text) + 1) r) (ends s is)

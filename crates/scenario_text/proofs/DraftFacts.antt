@@ -1,5 +1,6 @@
 -- What is true of each draft of a scenario, and how its lists keep it.
-use Rattle.std.proofs.Common.{◌≡◌, ℕ, suc, ◌+◌, ◌-◌, ◌≤◌, List, [], ◌∷◌, ◌++◌, Bool, true, false, not, ◌&&◌, ◌==◌, nat_le, Option, None, IfSome, length, refl, sym, ◌∙◌, ap, arith}
+use Rattle.std.proofs.Common.{◌≡◌, ℕ, suc, ◌+◌, ◌-◌, ◌≤◌, List, [], ◌∷◌, ◌++◌, Bool, true, false, not, ◌&&◌, ◌==◌}
+use Rattle.std.proofs.Common.{nat_le, Option, None, IfSome, length, refl, sym, ◌∙◌, ap, arith}
 use Rattle.std.proofs.lemmas.Bool.{cond_both, and_from, and_parts, or_parts, leb-true}
 use Rattle.std.specs.Prelude.{slice_get}
 use Rattle.std.specs.Cmp.{IsTotalOrder}
@@ -21,7 +22,8 @@ use Rattle.scenario_text.specs.declared.scenario_line.ScenarioLine.TheVariants a
 use Rattle.scenario_text.specs.declared.network_line.NetworkLine.TheVariants.{Sends, Node, Rate, Link, Pair}
 use Rattle.scenario_text.specs.declared.script.ScriptLine.{ScriptLine}
 use Rattle.scenario_text.proofs.RatesKept.{map_all}
-use Rattle.scenario_text.proofs.CanonicalFacts.{Power, no_power, after_act, can_boot, power_after, Boots, said_act, said_link, said_loss, said_cut, said_capture, Fits, FitsAct, judged}
+use Rattle.scenario_text.proofs.CanonicalFacts.{Power, no_power, after_act, can_boot, power_after, Boots, said_act}
+use Rattle.scenario_text.proofs.CanonicalFacts.{said_link, said_loss, said_cut, said_capture, Fits, FitsAct, judged}
 
 pub record AreHosts (ns : List NodeLine) (hs : List ℕ) : Type 0 where
   pub known : AllByRecursion (λ h. knows ns h ≡ true) hs
@@ -66,7 +68,8 @@ pub record IsFine (d : Scenario) : Type 0 where
   pub trace : IsTrace d.profile d.frames d.network.nodes d.network.trace
   pub unframed : d.frames ≡ None → IsUnframed d.script d.network.trace
   pub power : record { on = d.on; boots = d.boots } ≡ power_after no_power d.script
-  pub counted : d.network.scripted ≡ length d.network.rates + length d.script + length d.network.trace.losses + length d.network.trace.cuts + length d.network.trace.captures
+  pub counted : d.network.scripted ≡ length d.network.rates + length d.script + length d.network.trace.losses + length d.network.trace.cuts
+      + length d.network.trace.captures
   pub few : d.network.scripted ≤ 20000
 
 -- a known node stays so
@@ -91,7 +94,8 @@ range_same p f ns ms (line.Lose t j k u v) = refl
 range_same p f ns ms (line.Cut t j k i) = refl
 range_same p f ns ms (line.Capture t j k a b) = refl
 
-known_more : (p : Numbers) (f : Option ℕ) (ns ms : List NodeLine) (l : ScenarioLine) → KnowsMore ns ms → line_knows_ids (judged p f ns) l ≡ true → line_knows_ids (judged p f ms) l ≡ true
+known_more : (p : Numbers) (f : Option ℕ) (ns ms : List NodeLine) (l : ScenarioLine) → KnowsMore ns ms
+    → line_knows_ids (judged p f ns) l ≡ true → line_knows_ids (judged p f ms) l ≡ true
 known_more p f ns ms (line.InNetwork (Sends x)) more known = refl
 known_more p f ns ms (line.InNetwork (Node i o)) more known = refl
 known_more p f ns ms (line.InNetwork (Rate i t slow n)) more known = more i known
@@ -115,14 +119,17 @@ fits_more p f ns ms l more fits = record { range = sym (range_same p f ns ms l) 
 
 all_fit_more : {L : Type 0} (said : L → ScenarioLine) (p : Numbers) (f : Option ℕ) (ns ms : List NodeLine) (ls : List L) → KnowsMore ns ms
     → AllByRecursion (λ l. Fits (judged p f ns) (said l)) ls → AllByRecursion (λ l. Fits (judged p f ms) (said l)) ls
-all_fit_more said p f ns ms ls more all = map_all (λ l. Fits (judged p f ns) (said l)) (λ l. Fits (judged p f ms) (said l)) ls (λ l fits. fits_more p f ns ms (said l) more fits) all
+all_fit_more said p f ns ms ls more all = map_all (λ l. Fits (judged p f ns) (said l)) (λ l. Fits (judged p f ms) (said l)) ls
+    (λ l fits. fits_more p f ns ms (said l) more fits) all
 
 pub hosts_more : (ns ms : List NodeLine) (hs : List ℕ) → KnowsMore ns ms → AreHosts ns hs → AreHosts ms hs
-hosts_more ns ms hs more are = record { known = map_all (λ h. knows ns h ≡ true) (λ h. knows ms h ≡ true) hs more are.known; few = are.few; distinct = are.distinct }
+hosts_more ns ms hs more are =
+    record { known = map_all (λ h. knows ns h ≡ true) (λ h. knows ms h ≡ true) hs more are.known; few = are.few; distinct = are.distinct }
 
 pub script_more : (p : Numbers) (f : Option ℕ) (ns ms : List NodeLine) (ls : List ScriptLine) → KnowsMore ns ms → IsScript p f ns ls → IsScript p f ms ls
 script_more p f ns ms ls more is = record {
-  fits = map_all (FitsAct (judged p f ns)) (FitsAct (judged p f ms)) ls (λ l at. record { fits = fits_more p f ns ms (said_act l.frame l.node l.act) more at.fits; bytes = at.bytes }) is.fits;
+  fits = map_all (FitsAct (judged p f ns)) (FitsAct (judged p f ms)) ls
+      (λ l at. record { fits = fits_more p f ns ms (said_act l.frame l.node l.act) more at.fits; bytes = at.bytes }) is.fits;
   climbs = is.climbs;
   boots = is.boots;
 }
@@ -140,15 +147,18 @@ trace_more p f ns ms t more is = record {
 }
 
 -- a line at its place
-pub with_line_all : {L : Type 0} (P : L → Type 0) (order : L → L → Ordering) (l : L) (ls : List L) → P l → AllByRecursion P ls → AllByRecursion P (with_line order l ls)
+pub with_line_all : {L : Type 0} (P : L → Type 0) (order : L → L → Ordering) (l : L) (ls : List L) → P l → AllByRecursion P ls
+    → AllByRecursion P (with_line order l ls)
 with_line_all P order l [] here all = (here, tt)
 with_line_all P order l (x ∷ xs) here all =
-    cond_both (is_lt (order x l)) (x ∷ with_line order l xs) (l ∷ x ∷ xs) (AllByRecursion P) (λ is. (all.0, with_line_all P order l xs here all.1)) (λ not. (here, all))
+    cond_both (is_lt (order x l)) (x ∷ with_line order l xs) (l ∷ x ∷ xs) (AllByRecursion P)
+    (λ is. (all.0, with_line_all P order l xs here all.1)) (λ not. (here, all))
 
 pub with_line_length : {L : Type 0} (order : L → L → Ordering) (l : L) (ls : List L) → length (with_line order l ls) ≡ length ls + 1
 with_line_length order l [] = refl
 with_line_length order l (x ∷ xs) =
-    cond_both (is_lt (order x l)) (x ∷ with_line order l xs) (l ∷ x ∷ xs) (λ (ys : List _). length ys ≡ length (x ∷ xs) + 1) (λ is. omega (arith, with_line_length order l xs)) (λ not. omega arith)
+    cond_both (is_lt (order x l)) (x ∷ with_line order l xs) (l ∷ x ∷ xs) (λ (ys : List _). length ys ≡ length (x ∷ xs) + 1)
+    (λ is. omega (arith, with_line_length order l xs)) (λ not. omega arith)
 
 less_is : (o : Ordering) → is_lt o ≡ true → o ≡ Less
 less_is Less is = refl
@@ -160,7 +170,8 @@ greater_back Less not differ = cc
 greater_back Equal not differ = cc
 greater_back Greater not differ = refl
 
-pub with_line_climbs : {L : Type 0} (order : L → L → Ordering) (test : L → Bool) (l : L) (ls : List L) → IsTotalOrder order → ((x : L) → is_eq (order x l) ≡ test x) → list_any test ls ≡ false
+pub with_line_climbs : {L : Type 0} (order : L → L → Ordering) (test : L → Bool) (l : L) (ls : List L) → IsTotalOrder order
+    → ((x : L) → is_eq (order x l) ≡ test x) → list_any test ls ≡ false
     → Climbs (λ a b. order a b ≡ Less) ls → Climbs (λ a b. order a b ≡ Less) (with_line order l ls)
 with_line_climbs order test l [] total tells fresh climbs = (tt, tt)
 with_line_climbs order test l (x ∷ xs) total tells fresh climbs =
@@ -176,7 +187,8 @@ boots_more w [] l boots can = (can, tt)
 boots_more w (x ∷ xs) l boots can = (boots.0, boots_more (after_act w x.node x.act) xs l boots.1 can)
 
 -- where the last frame is not above f, none is
-pub none_later : (f : ℕ) (ls : List ScriptLine) → Climbs (λ a b. a.frame ≤ b.frame) ls → option_map_or (λ l. nat_le l.frame f) (last_script_line ls) true ≡ true → AllByRecursion (λ l. l.frame ≤ f) ls
+pub none_later : (f : ℕ) (ls : List ScriptLine) → Climbs (λ a b. a.frame ≤ b.frame) ls
+    → option_map_or (λ l. nat_le l.frame f) (last_script_line ls) true ≡ true → AllByRecursion (λ l. l.frame ≤ f) ls
 none_later f [] climbs last = tt
 none_later f (x ∷ []) climbs last = (leb-true x.frame f last, tt)
 none_later f (x ∷ y ∷ ys) climbs last =

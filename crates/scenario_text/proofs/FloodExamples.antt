@@ -5,12 +5,12 @@ use Rattle.std.specs.Str.{is_utf8, chars}
 use lib.Utf8.{encode}
 use Rattle.link_trace.specs.Sealed.{no_lines}
 use Rattle.scenario_text.specs.FloodParts.{FloodParts}
-use Rattle.scenario_text.specs.Words.{words, is_number, is_signed, is_skipped}
+use Rattle.text_readers.specs.Words.{words, is_number, is_signed, is_skipped}
 use Rattle.scenario_text.specs.FloodGrammar.{flood_of, after_words, flood_line}
-use Rattle.scenario_text.specs.Reading.{after_line}
+use Rattle.text_readers.specs.Reading.{after_line}
 use Rattle.scenario_text.specs.Network.{network_line}
-use Rattle.scenario_text.specs.declared.fault.FaultKind.{FaultKind}
-use Rattle.scenario_text.specs.declared.fault.FaultKind.TheVariants.{NotUtf8, BadWord, BadNumber, Range, UnknownNode, Order, Twice, Missing}
+use Rattle.text_readers.specs.declared.fault.FaultKind.{FaultKind}
+use Rattle.text_readers.specs.declared.fault.FaultKind.TheVariants.{NotUtf8, BadWord, BadNumber, Range, UnknownNode, Order, Twice, Missing}
 
 -- of two carriage returns before a line feed one is dropped, and one at the end of the text stays
 cut_into_lines : lines (codes "a\r\r\n\nb\r") ≡ codes "a\r" ∷ [] ∷ codes "b\r" ∷ []
@@ -28,7 +28,8 @@ cut_into_words = refl
 skipped : map is_skipped (words (codes "\t ") ∷ words (codes " # 1") ∷ words (codes "sends 1") ∷ []) ≡ true ∷ true ∷ false ∷ []
 skipped = refl
 
-numbers : map is_number (codes "0" ∷ codes "9999999999999" ∷ codes "10000000000000" ∷ codes "012" ∷ codes "00" ∷ codes "2\r" ∷ codes "-1" ∷ []) ≡ true ∷ true ∷ false ∷ false ∷ false ∷ false ∷ false ∷ []
+numbers : map is_number (codes "0" ∷ codes "9999999999999" ∷ codes "10000000000000" ∷ codes "012" ∷ codes "00" ∷ codes "2\r" ∷ codes "-1"
+    ∷ []) ≡ true ∷ true ∷ false ∷ false ∷ false ∷ false ∷ false ∷ []
 numbers = refl
 
 with_minus : map is_signed (codes "-20" ∷ codes "0" ∷ codes "-0" ∷ codes "-" ∷ codes "--1" ∷ codes "+1" ∷ []) ≡ true ∷ true ∷ false ∷ false ∷ false ∷ false ∷ []
@@ -93,7 +94,8 @@ refused line = flood_of (three ++ line)
 faults : map refused (
     (115 ∷ 255 ∷ []) ∷ codes "stop 1" ∷ codes "start" ∷ codes "start 1 2" ∷ codes "lose 5 1 0 1 2" ∷ codes "frames 2"
     ∷ codes "start 01" ∷ codes "start -1" ∷ codes "rate 1 0 -0" ∷ codes "start 1\r"
-    ∷ codes "start 0" ∷ codes "start 201" ∷ codes "link 4 4" ∷ codes "lose 12 1 9" ∷ codes "sends 5" ∷ codes "node 3 256001" ∷ codes "rate 1 1048576000001 0" ∷ codes "rate 1 0 -21"
+    ∷ codes "start 0" ∷ codes "start 201" ∷ codes "link 4 4" ∷ codes "lose 12 1 9" ∷ codes "sends 5" ∷ codes "node 3 256001"
+    ∷ codes "rate 1 1048576000001 0" ∷ codes "rate 1 0 -21"
     ∷ codes "start 4" ∷ codes "link 4 1" ∷ codes "lose 0 1 4" ∷ codes "rate 4 0 0"
     ∷ codes "sends 2" ∷ codes "node 3 0" ∷ codes "link 2 1" ∷ codes "pair 2 1" ∷ []
     )
@@ -105,12 +107,14 @@ faults : map refused (
 unfolding after_line after_words flood_line network_line is_utf8 chars encode
 faults = refl
 
-second_lines : map (λ (lines : List ℕ). refused lines) (codes "start 1\nstart 2" ∷ codes "lose 0 1 2\nlose 0 1 2" ∷ codes "link 1 3\npair 3 1" ∷ codes "rate 1 7 1\nrate 2 7 1\nrate 1 7 1" ∷ [])
+second_lines : map (λ (lines : List ℕ). refused lines) (codes "start 1\nstart 2" ∷ codes "lose 0 1 2\nlose 0 1 2"
+    ∷ codes "link 1 3\npair 3 1" ∷ codes "rate 1 7 1\nrate 2 7 1\nrate 1 7 1" ∷ [])
     ≡ Err (8, Twice) ∷ Err (8, Twice) ∷ Err (8, Twice) ∷ Err (9, Order) ∷ []
 unfolding after_line after_words flood_line network_line is_utf8 chars encode
 second_lines = refl
 
 -- what misses nothing but sendings, or a second node
-also_missing : map (λ (text : List ℕ). flood_of text) (codes "node 1 0\nnode 2 0\nstart 1\n" ∷ codes "sends 1\nnode 1 0\nstart 1" ∷ []) ≡ Err (4, Missing) ∷ Err (4, Missing) ∷ []
+also_missing : map (λ (text : List ℕ). flood_of text) (codes "node 1 0\nnode 2 0\nstart 1\n" ∷ codes "sends 1\nnode 1 0\nstart 1" ∷ [])
+    ≡ Err (4, Missing) ∷ Err (4, Missing) ∷ []
 unfolding after_line after_words flood_line network_line is_utf8 chars encode
 also_missing = refl

@@ -1,33 +1,29 @@
 -- What each line keeps true of a draft.
-use Rattle.std.proofs.Common.{◌≡◌, ℕ, ◌<◌, ◌≤◌, ◌^◌, List, [], ◌∷◌, Bool, true, false, not, ◌&&◌, nat_lt, nat_le, cond, Option, Some, None, Result, Ok, Err, IfOk, IfSome, length, refl, sym, subst, arith}
-use Rattle.std.proofs.lemmas.Bool.{and_parts, leb-true, ltb-true, not-true, cond_both}
+use Rattle.std.proofs.Common.{◌≡◌, ℕ, ◌<◌, ◌≤◌, ◌^◌, List, [], ◌∷◌, true, not, ◌&&◌, nat_lt, nat_le}
+use Rattle.std.proofs.Common.{Option, Some, None, Ok, IfOk, IfSome, length, sym, subst, arith}
+use Rattle.std.proofs.lemmas.Bool.{and_parts, leb-true, ltb-true, not-true}
 use Rattle.std.proofs.lemmas.List.Elements.{All-from_recursion}
 use Rattle.std.proofs.lemmas.Option.{IfSome_then, cond_some}
 use Rattle.std.specs.Int.RustNames.{unsigned_abs}
 use Rattle.std.specs.Option.{option_map_or}
 use Rattle.scenario_text.specs.FloodParts.{IsSound, knows}
-use Rattle.scenario_text.specs.Words.{words}
+use Rattle.text_readers.specs.Words.{words}
 use Rattle.scenario_text.specs.Network.{Drafted, Parts, network_fault, with_line, with_node, network_parts, rates_by_node, is_id, last_rate, ppm}
 use Rattle.scenario_text.specs.FloodGrammar.{Flood, rule_fault, with_flood_line, after_spelled, after_words, flood_line, flood_numbers, no_flood}
-use Rattle.scenario_text.specs.Faults.{unless_fault, spelled, ◌>>=◌, after_lines}
-use Rattle.scenario_text.specs.Reading.{after_line}
+use Rattle.text_readers.specs.Faults.{after_lines}
+use Rattle.text_readers.specs.Reading.{after_line}
 use Rattle.scenario_text.specs.FloodDrafts.{Rises, IsRate, IsNetwork, IsFlood}
-use Rattle.scenario_text.specs.declared.fault.FaultKind.{FaultKind}
-use Rattle.scenario_text.specs.declared.fault.FaultKind.TheVariants.{BadNumber, Range, UnknownNode, Order, Twice, TooMany}
+use Rattle.text_readers.specs.declared.fault.FaultKind.TheVariants.{Range, UnknownNode, Order, Twice, TooMany}
 use Rattle.scenario_text.specs.declared.flood_line.FloodLine.{FloodLine}
 use Rattle.scenario_text.specs.declared.flood_line.FloodLine.TheVariants.{InNetwork, Lose, Start}
 use Rattle.scenario_text.specs.declared.lines.NodeLine.{NodeLine}
 use Rattle.scenario_text.specs.declared.lines.RateLine.{RateLine}
 use Rattle.scenario_text.specs.declared.network_line.NetworkLine.{NetworkLine}
 use Rattle.scenario_text.specs.declared.network_line.NetworkLine.TheVariants.{Sends, Node, Rate, Link, Pair}
-use Rattle.scenario_text.proofs.LinesRead.{line_keeps, lines_keep}
+use Rattle.text_readers.proofs.AllowedLines.{passed, unless_keeps, spelled_keeps}
+use Rattle.text_readers.proofs.LinesRead.{line_keeps, lines_keep}
 use Rattle.scenario_text.proofs.NodeIds.{with_node-all, with_node-rises, with_node-length, with_node-knows, pairs_rise}
 use Rattle.scenario_text.proofs.RatesKept.{map_all, later_all, all_append, climbs_more, all_by_node, each_ascends, ppm_small}
-
--- a test that makes no fault, and those behind it
-pub passed : (b : Bool) (k : FaultKind) (others : Option FaultKind) → cond b others (Some k) ≡ None → (b ≡ true) × (others ≡ None)
-passed true k others is = (refl, is)
-passed false k others is = cc
 
 pub network_keeps : (last : ℕ) (d : Drafted) (l : NetworkLine) → last < 2 ^ 47 → IsNetwork d → network_fault last d l ≡ None → IsNetwork (with_line d l)
 network_keeps last d (Sends x) early sound none =
@@ -101,25 +97,11 @@ flood_keeps f (Start i) sound none =
     let known = passed (knows f.network.nodes i) UnknownNode _ range.1 in
     record { network = sound.network; start_known = known.0 }
 
-pub unless_keeps : {D : Type 0} (P : D → Type 0) (o : Option FaultKind) (d : D) → (o ≡ None → P d) → IfOk (unless_fault o d) P
-unless_keeps P None d sound = sound refl
-unless_keeps P (Some k) d sound = tt
-
--- what follows of a line that is spelled right
-pub spelled_keeps : {L D : Type 0} (P : D → Type 0) (o : Option L) (right : L → Bool) (after : L → Result D FaultKind)
-    → ((l : L) → o ≡ Some l → IfOk (after l) P) → IfOk (spelled o right >>= after) P
-spelled_keeps P None right after keeps = tt
-spelled_keeps P (Some l) right after keeps =
-    cond_both (right l) (Ok l) (Err BadNumber) (λ (r : Result _ FaultKind). IfOk (r >>= after) P) (λ is. keeps l refl) (λ not. tt)
-
 words_keep : (f : Flood) (ws : List (List ℕ)) → IsFlood f → IfOk (after_words f ws) IsFlood
 unfolding after_words
 words_keep f ws sound =
     spelled_keeps IsFlood (flood_line ws) (λ (l : FloodLine). flood_numbers l ws) (after_spelled f)
     (λ l is. unless_keeps IsFlood (rule_fault f l) (with_flood_line f l) (λ none. flood_keeps f l sound none))
-
-pub at_ok : {A E : Type 0} (P : A → Type 0) (r : Result A E) (x : A) → r ≡ Ok x → IfOk r P → P x
-at_ok P r x is holds = subst (λ (q : Result _ _). IfOk q P) is holds
 
 nothing_sound : IsFlood no_flood
 nothing_sound = record {

@@ -6,7 +6,8 @@ use Rattle.std.specs.Option.{option_map}
 use Rattle.scenario_text.specs.FloodParts.{knows}
 use Rattle.scenario_text.specs.declared.lines.NodeLine.{NodeLine}
 
-one_found : (n : NodeLine) (v : ℕ) (b rest : Bool) (found : Option NodeLine) → (n.node == v) ≡ b → option_map (λ (n : NodeLine). n.node) found ≡ cond rest (Some v) None
+one_found : (n : NodeLine) (v : ℕ) (b rest : Bool) (found : Option NodeLine) → (n.node == v) ≡ b
+    → option_map (λ (n : NodeLine). n.node) found ≡ cond rest (Some v) None
     → option_map (λ (n : NodeLine). n.node) (cond b (Some n) found) ≡ cond (b || rest) (Some v) None
 one_found n v true rest found is later = ap Some (eqb-true n.node v is)
 one_found n v false rest found is later = later

@@ -1,17 +1,13 @@
 -- kept for the crates above
-pub mod Digits
-pub mod LineFeeds
-pub mod LinesRead
 pub mod DraftFacts
 pub mod EachPair
 pub mod SoundScenarios
 pub mod OrderedParts
 pub mod OrderedExample
-pub mod FloodKeeps
 pub mod ScenarioExamples
 pub mod CanonicalExamples
 -- for this crate alone
-pub mod NumbersRead
+pub mod FloodKeeps
 pub mod WordsRead
 pub mod Known
 pub mod FloodExamples
@@ -28,6 +24,10 @@ pub mod LineRuns
 pub mod CanonicalGoes
 pub mod ScriptGoes
 pub mod CanonicalSays
+pub mod FirstDrafts
+pub mod ScriptKept
+pub mod TraceKept
+pub mod NetworkKept
 pub mod DraftKept
 pub mod RatesInTurn
 pub mod SaidParts

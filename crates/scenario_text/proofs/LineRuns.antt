@@ -7,15 +7,17 @@ use Rattle.std.specs.Ordering.{is_lt, is_eq}
 use Rattle.std.specs.declared.cmp.Ordering.{Ordering}
 use Rattle.std.specs.declared.cmp.Ordering.TheVariants.{Less}
 use Rattle.link_trace.specs.Order.{with_line}
-use Rattle.scenario_text.specs.Faults.{first_fault, after_lines}
+use Rattle.text_readers.specs.Faults.{first_fault, after_lines}
 use Rattle.scenario_text.specs.FloodDrafts.{Climbs}
-use Rattle.scenario_text.specs.ScenarioGrammar.{Scenario, with_scenario_line, after_words, line_in_range, line_knows_ids, line_in_order, line_is_new, line_has_room}
-use Rattle.scenario_text.specs.Reading.{after_line}
-use Rattle.scenario_text.specs.declared.fault.FaultKind.TheVariants.{Range, UnknownNode, Order, Twice, TooMany}
+use Rattle.scenario_text.specs.ScenarioGrammar.{Scenario, line_fault, with_scenario_line, after_words, line_in_range}
+use Rattle.scenario_text.specs.ScenarioGrammar.{line_knows_ids, line_in_order, line_is_new, line_has_room}
+use Rattle.text_readers.specs.Reading.{after_line}
+use Rattle.text_readers.specs.declared.fault.FaultKind.TheVariants.{Range, UnknownNode, Order, Twice, TooMany}
 use Rattle.scenario_text.specs.declared.scenario_line.ScenarioLine.{ScenarioLine}
 use Rattle.scenario_text.proofs.TextBack.{IsWord}
 use Rattle.scenario_text.proofs.LinesSaid.{Says, said}
-use Rattle.scenario_text.proofs.LinesRead.{one_line_more}
+use Rattle.text_readers.proofs.LinesRead.{one_line_more}
+use Rattle.text_readers.proofs.AllowedLines.{passed}
 
 -- one line
 pub record Step (d : Scenario) (ws : List (List ℕ)) (e : Scenario) : Type 0 where
@@ -49,6 +51,15 @@ pub record Allowed (d : Scenario) (l : ScenarioLine) : Type 0 where
   pub order : line_in_order d l ≡ true
   pub fresh : line_is_new d l ≡ true
   pub room : line_has_room d l ≡ true
+
+pub allowed : (d : Scenario) (l : ScenarioLine) → line_fault d l ≡ None → Allowed d l
+allowed d l none =
+    let range = passed (line_in_range d l) Range _ none in
+    let known = passed (line_knows_ids d l) UnknownNode _ range.1 in
+    let order = passed (line_in_order d l) Order _ known.1 in
+    let fresh = passed (line_is_new d l) Twice _ order.1 in
+    let room = passed (line_has_room d l) TooMany _ fresh.1 in
+    record { range = range.0; known = known.0; order = order.0; fresh = fresh.0; room = room.0 }
 
 no_fault : (a b c d e : Bool) → a ≡ true → b ≡ true → c ≡ true → d ≡ true → e ≡ true
     → first_fault ((a, Range) ∷ (b, UnknownNode) ∷ (c, Order) ∷ (d, Twice) ∷ (e, TooMany) ∷ []) ≡ None

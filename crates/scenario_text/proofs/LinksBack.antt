@@ -13,8 +13,10 @@ any_with : {L : Type 0} (p : L → Bool) (order : L → L → Ordering) (l : L) 
 any_with p order l [] not = ap (λ (b : Bool). b || false) not
 any_with p order l (x ∷ xs) not =
     elim (cases_Bool (is_lt (order x l))) [
-      | inl is ↦ ap (list_any p) (cond-true (is_lt (order x l)) (x ∷ with_line order l xs) (l ∷ x ∷ xs) is) ∙ ap (λ (b : Bool). p x || b) (any_with p order l xs not)
-      | inr other ↦ ap (list_any p) (cond-false (is_lt (order x l)) (x ∷ with_line order l xs) (l ∷ x ∷ xs) other) ∙ ap (λ (b : Bool). b || (p x || list_any p xs)) not
+      | inl is ↦ ap (list_any p) (cond-true (is_lt (order x l)) (x ∷ with_line order l xs) (l ∷ x ∷ xs) is)
+          ∙ ap (λ (b : Bool). p x || b) (any_with p order l xs not)
+      | inr other ↦ ap (list_any p) (cond-false (is_lt (order x l)) (x ∷ with_line order l xs) (l ∷ x ∷ xs) other)
+          ∙ ap (λ (b : Bool). b || (p x || list_any p xs)) not
     ]
 
 pub link_back : (u v : ℕ) (t : Lines) → (u ≡ v → ⊥) → has_link (with_link u v t) v u ≡ has_link t v u

@@ -1,6 +1,8 @@
 -- Nodes in the order of their ids, and a node more among them.
-use Rattle.std.proofs.Common.{◌≡◌, ℕ, zero, suc, ◌<◌, ◌≤◌, List, [], ◌∷◌, Bool, true, false, ◌==◌, nat_lt, cond, length, map, get_or, count_by, insert, refl, sym, ◌∙◌, ap, subst, arith, inl, inr}
-use Rattle.std.proofs.lemmas.Bool.{cond-true, cond-false, ltb-true, ltb-false, le-ltb, or_left, or_right, or_cases, or_parts, eqb-false, cases_order, cases_Bool, false≢true}
+use Rattle.std.proofs.Common.{◌≡◌, ℕ, zero, suc, ◌<◌, ◌≤◌, List, [], ◌∷◌, Bool, true, false, ◌==◌, nat_lt, cond, length}
+use Rattle.std.proofs.Common.{map, get_or, count_by, insert, refl, sym, ◌∙◌, ap, subst, arith, inl, inr}
+use Rattle.std.proofs.lemmas.Bool.{cond-true, cond-false, ltb-true, ltb-false, le-ltb, or_left, or_right}
+use Rattle.std.proofs.lemmas.Bool.{or_cases, or_parts, eqb-false, cases_order, cases_Bool, false≢true}
 use Rattle.std.proofs.lemmas.List.{get_or-map, length-map}
 use Rattle.std.proofs.lemmas.List.Sums.{sum_by-cons}
 use Rattle.link_trace.specs.Masks.{AreNodes}
@@ -73,7 +75,8 @@ put_rises n (m ∷ ms) fresh rises =
           (put_all (λ x. m.node < x.node) n ms (ltb-true m.node n.node is) rises.0, put_rises n ms other.1 rises.1)
       | inr not ↦
           let le = ltb-false m.node n.node not in
-          let lt : n.node < m.node = elim (cases_order m.node n.node) [ inl same ↦ absurd (differ same) | inr (inl less) ↦ absurd (omega (arith, le, less)) | inr (inr more) ↦ more ] in
+          let lt : n.node < m.node = elim (cases_order m.node n.node)
+          [ inl same ↦ absurd (differ same) | inr (inl less) ↦ absurd (omega (arith, le, less)) | inr (inr more) ↦ more ] in
           subst Rises (sym (cond-false (below n m) (m ∷ put n ms) (n ∷ m ∷ ms) not)) ((lt, over_all n m ms lt rises.0), rises)
     ]
 
@@ -134,4 +137,8 @@ ids_rise (n ∷ ns) rises (suc i) (suc j) d before within = ids_rise ns rises.1 
 -- a trace may be sealed with them
 pub nodes_seal : (ns : List NodeLine) (ids : List ℕ) → Rises ns → 2 ≤ length ns → length ns ≤ 64 → ids ≡ map (λ n. n.node) ns → AreNodes ids
 nodes_seal ns ids rises some few is =
-    subst AreNodes (sym is) (record { some = omega (arith, some, length-map ns id_of); few = omega (arith, few, length-map ns id_of); ascending = ids_rise ns rises })
+    subst AreNodes (sym is) (record {
+      some = omega (arith, some, length-map ns id_of);
+      few = omega (arith, few, length-map ns id_of);
+      ascending = ids_rise ns rises;
+    })

@@ -1,6 +1,8 @@
 -- Numbers and payloads in their one spelling are read as themselves.
-use Rattle.std.proofs.Common.{◌≡◌, ℕ, zero, suc, ◌+◌, ◌*◌, ◌/◌, ◌%◌, ◌^◌, ◌<◌, ◌≤◌, ℤ, pos, negsuc, List, [], ◌∷◌, Bool, true, false, not, ◌&&◌, ◌||◌, nat_le, ◌==◌, Some, None, length, drop, get_or, flat_map, codes, decimal, refl, sym, ◌∙◌, ap, subst, arith}
-use Rattle.std.proofs.lemmas.Bool.{cond-true, cond-false, and_from, and_parts, and_right, or_left, or_right, not_from_false, lt-ltb, le-leb, leb-true, eq-eqb, eqb-true, ne_eqb, agree_below_at}
+use Rattle.std.proofs.Common.{◌≡◌, ℕ, zero, suc, ◌+◌, ◌*◌, ◌/◌, ◌%◌, ◌^◌, ◌<◌, ◌≤◌, ℤ, pos, negsuc, List, [], ◌∷◌, Bool, true, false, not, ◌&&◌}
+use Rattle.std.proofs.Common.{◌||◌, nat_le, ◌==◌, Some, None, length, drop, get_or, flat_map, codes, decimal, refl, sym, ◌∙◌, ap, subst, arith}
+use Rattle.std.proofs.lemmas.Bool.{cond-true, cond-false, and_from, and_parts, and_right, or_left, or_right}
+use Rattle.std.proofs.lemmas.Bool.{not_from_false, lt-ltb, le-leb, leb-true, eq-eqb, eqb-true, ne_eqb, agree_below_at}
 use Rattle.std.proofs.lemmas.Fmt.{digits_decimal, digits_value-decimal, decimal_digit, decimal_nonempty, first_decimal, length-decimal-le}
 use Rattle.std.proofs.lemmas.Str.Parse.{IsDigitsTest, IsNumeralModel, numerals_by_value}
 use Rattle.std.specs.Char.{is_ascii_digit, is_ascii_hexdigit}
@@ -9,7 +11,7 @@ use Rattle.std.specs.Int.RustNames.{unsigned_abs}
 use Rattle.std.specs.List.{AllByRecursion, list_all, slice_index}
 use Rattle.std.specs.Str.{bytes_eq}
 use Rattle.std.specs.Str.Parse.{digits_value}
-use Rattle.scenario_text.specs.Words.{is_number, number, has_minus, magnitude, is_signed}
+use Rattle.text_readers.specs.Words.{is_number, number, has_minus, magnitude, is_signed}
 use Rattle.scenario_text.specs.Network.{ppm}
 use Rattle.text_writers.specs.HexWords.{payload_word, hex_digits}
 use Rattle.scenario_text.specs.Payloads.{is_payload, payload, payload_bytes, hex_bytes, hex_value}
@@ -51,8 +53,11 @@ number_back n few = cond-true (is_number (decimal n)) (digits_value 10 (decimal 
 
 pub decimal_word : (n : ℕ) → n < 10000000000000 → IsWord (decimal n)
 decimal_word n few =
-    let small = below_words n few in
-    (decimal_nonempty n small, map_all (λ b. (48 ≤ b) × (b ≤ 57)) IsGlyph (decimal n) (λ b is. let low = is.0 in let high = is.1 in (omega (arith, low), omega (arith, high))) (digits_decimal own n small))
+    let small = below_words n few in (
+      decimal_nonempty n small,
+      map_all (λ b. (48 ≤ b) × (b ≤ 57)) IsGlyph (decimal n)
+          (λ b is. let low = is.0 in let high = is.1 in (omega (arith, low), omega (arith, high))) (digits_decimal own n small),
+    )
 
 -- millionths
 no_minus : (ds : List ℕ) → IsDigits ds → has_minus ds ≡ false
@@ -100,7 +105,8 @@ glyph_hex d small = agree_below_at (λ d. is_ascii_hexdigit (glyph d)) (λ d. tr
 
 glyph_shown : (d : ℕ) → d < 16 → IsGlyph (glyph d)
 glyph_shown d small =
-    let both = and_parts (nat_le 33 (glyph d)) (nat_le (glyph d) 126) (agree_below_at (λ d. nat_le 33 (glyph d) && nat_le (glyph d) 126) (λ d. true) 16 d refl small) in
+    let both = and_parts (nat_le 33 (glyph d)) (nat_le (glyph d) 126)
+    (agree_below_at (λ d. nat_le 33 (glyph d) && nat_le (glyph d) 126) (λ d. true) 16 d refl small) in
     (leb-true 33 (glyph d) both.0, leb-true (glyph d) 126 both.1)
 
 abbrev AreBytes : List ℕ → Type 0

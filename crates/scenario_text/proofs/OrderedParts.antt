@@ -21,7 +21,8 @@ use Rattle.scenario_text.specs.declared.script.Act.{Act}
 use Rattle.scenario_text.specs.declared.script.Act.TheVariants.{On, Off, Declare, Leave, Put}
 use Rattle.scenario_text.specs.declared.script.ScriptLine.{ScriptLine}
 use Rattle.scenario_text.proofs.BootsCounted.{boots_from}
-use Rattle.scenario_text.proofs.CanonicalFacts.{HasBytes, IsNode, IsRateOf, IsHost, Fits, FitsAct, said_act, said_link, said_loss, said_cut, said_capture, judge, KeepsRules}
+use Rattle.scenario_text.proofs.CanonicalFacts.{HasBytes, IsNode, IsRateOf, IsHost, Fits, FitsAct, said_act, said_link}
+use Rattle.scenario_text.proofs.CanonicalFacts.{said_loss, said_cut, said_capture, judge, KeepsRules}
 use Rattle.scenario_text.proofs.CanonicalSays.{canonical_says}
 use Rattle.scenario_text.proofs.EachPair.{climbs_pairs, pairs_climb}
 use Rattle.scenario_text.proofs.RatesInOrder.{IsBelow, below_follows, below_in_turn, turns_climb}
@@ -106,7 +107,8 @@ bytes_from (Declare x y) bytes = tt
 bytes_from (Leave x) bytes = tt
 bytes_from (Put x b) bytes = recursion_from_All (λ b. b < 256) b bytes
 
-script_fits : (s : ScenarioParts) (ls : List ScriptLine) → HaveIds s → AllByRecursion (IsScriptLine s) ls → AllByRecursion (λ l. All (λ b. b < 256) (carried l.act)) ls
+script_fits : (s : ScenarioParts) (ls : List ScriptLine) → HaveIds s → AllByRecursion (IsScriptLine s) ls
+    → AllByRecursion (λ l. All (λ b. b < 256) (carried l.act)) ls
     → AllByRecursion (FitsAct (judge s)) ls
 script_fits s [] ids lines bytes = tt
 script_fits s (l ∷ ls) ids lines bytes =

@@ -18,11 +18,14 @@ all_known (n ∷ ns) = (
   map_all (λ m. knows ns m.node ≡ true) (λ m. knows (n ∷ ns) m.node ≡ true) ns (λ m known. or_right (n.node == m.node) (knows ns m.node) known) (all_known ns),
 )
 
-same_again : (ns ms : List NodeLine) (rs : List RateLine) → Rises ns → AllByRecursion (λ m. knows ns m.node ≡ true) ms → rates_by_node ms (rates_by_node ns rs) ≡ rates_by_node ms rs
+same_again : (ns ms : List NodeLine) (rs : List RateLine) → Rises ns → AllByRecursion (λ m. knows ns m.node ≡ true) ms
+    → rates_by_node ms (rates_by_node ns rs) ≡ rates_by_node ms rs
 same_again ns [] rs rises known = refl
 same_again ns (m ∷ ms) rs rises known =
-    let here : filter (is_of m.node) (rates_by_node ns rs) ≡ filter (is_of m.node) rs = of_node ns rs m.node rises ∙ cond-true (knows ns m.node) (filter (is_of m.node) rs) [] known.0 in
-    ap (λ (l : List RateLine). l ++ rates_by_node ms (rates_by_node ns rs)) here ∙ ap (λ (l : List RateLine). filter (is_of m.node) rs ++ l) (same_again ns ms rs rises known.1)
+    let here : filter (is_of m.node) (rates_by_node ns rs) ≡ filter (is_of m.node) rs = of_node ns rs m.node rises
+    ∙ cond-true (knows ns m.node) (filter (is_of m.node) rs) [] known.0 in
+    ap (λ (l : List RateLine). l ++ rates_by_node ms (rates_by_node ns rs)) here
+    ∙ ap (λ (l : List RateLine). filter (is_of m.node) rs ++ l) (same_again ns ms rs rises known.1)
 
 pub in_turn_again : (ns : List NodeLine) (rs : List RateLine) → Rises ns → rates_by_node ns (rates_by_node ns rs) ≡ rates_by_node ns rs
 in_turn_again ns rs rises = same_again ns ns rs rises (all_known ns)
@@ -61,29 +64,35 @@ no_more ns (r ∷ rs) rises = omega (arith, one_more ns r rs rises, no_more ns r
 pub climbs_filter : {A : Type 0} (R : A → A → Type 0) (p : A → Bool) (xs : List A) → Climbs R xs → Climbs R (filter p xs)
 climbs_filter R p [] climbs = tt
 climbs_filter R p (x ∷ xs) climbs =
-    cond_both (p x) (x ∷ filter p xs) (filter p xs) (Climbs R) (λ is. (all_filter (R x) p xs climbs.0, climbs_filter R p xs climbs.1)) (λ not. climbs_filter R p xs climbs.1)
+    cond_both (p x) (x ∷ filter p xs) (filter p xs) (Climbs R) (λ is. (all_filter (R x) p xs climbs.0, climbs_filter R p xs climbs.1))
+    (λ not. climbs_filter R p xs climbs.1)
 
-pub climbs_append : {A : Type 0} (R : A → A → Type 0) (xs ys : List A) → Climbs R xs → Climbs R ys → AllByRecursion (λ x. AllByRecursion (R x) ys) xs → Climbs R (xs ++ ys)
+pub climbs_append : {A : Type 0} (R : A → A → Type 0) (xs ys : List A) → Climbs R xs → Climbs R ys
+    → AllByRecursion (λ x. AllByRecursion (R x) ys) xs → Climbs R (xs ++ ys)
 climbs_append R [] ys climbs others across = others
 climbs_append R (x ∷ xs) ys climbs others across = (all_append (R x) xs ys climbs.0 across.0, climbs_append R xs ys climbs.1 others across.1)
 
 pub of_that_node : (i : ℕ) (rs : List RateLine) → AllByRecursion (λ r. r.node ≡ i) (filter (is_of i) rs)
 of_that_node i [] = tt
 of_that_node i (r ∷ rs) =
-    cond_both (is_of i r) (r ∷ filter (is_of i) rs) (filter (is_of i) rs) (AllByRecursion (λ r. r.node ≡ i)) (λ is. (eqb-true r.node i is, of_that_node i rs)) (λ not. of_that_node i rs)
+    cond_both (is_of i r) (r ∷ filter (is_of i) rs) (filter (is_of i) rs) (AllByRecursion (λ r. r.node ≡ i))
+    (λ is. (eqb-true r.node i is, of_that_node i rs)) (λ not. of_that_node i rs)
 
 pub above : (i : ℕ) (ns : List NodeLine) (rs : List RateLine) → AllByRecursion (λ n. i < n.node) ns → AllByRecursion (λ r. i < r.node) (rates_by_node ns rs)
 above i [] rs all = tt
 above i (n ∷ ns) rs all =
     let first = all.0 in
     all_append (λ r. i < r.node) (filter (is_of n.node) rs) (rates_by_node ns rs)
-    (map_all (λ r. r.node ≡ n.node) (λ r. i < r.node) (filter (is_of n.node) rs) (λ r is. omega (arith, first, is)) (of_that_node n.node rs)) (above i ns rs all.1)
+    (map_all (λ r. r.node ≡ n.node) (λ r. i < r.node) (filter (is_of n.node) rs) (λ r is. omega (arith, first, is))
+    (of_that_node n.node rs)) (above i ns rs all.1)
 
 pub turns_follow : (ns : List NodeLine) (rs : List RateLine) → Rises ns → Follows rs → Follows (rates_by_node ns rs)
 turns_follow [] rs rises follows = tt
 turns_follow (n ∷ ns) rs rises follows =
     let fs : List RateLine = filter (is_of n.node) rs in
     let later = above n.node ns rs rises.0 in
-    climbs_append (λ r s. r.node ≡ s.node → r.from < s.from) fs (rates_by_node ns rs) (climbs_filter (λ r s. r.node ≡ s.node → r.from < s.from) (is_of n.node) rs follows) (turns_follow ns rs rises.1 follows)
+    climbs_append (λ r s. r.node ≡ s.node → r.from < s.from) fs (rates_by_node ns rs)
+    (climbs_filter (λ r s. r.node ≡ s.node → r.from < s.from) (is_of n.node) rs follows) (turns_follow ns rs rises.1 follows)
     (map_all (λ r. r.node ≡ n.node) (λ r. AllByRecursion (λ s. r.node ≡ s.node → r.from < s.from) (rates_by_node ns rs)) fs
-    (λ r is. map_all (λ s. n.node < s.node) (λ s. r.node ≡ s.node → r.from < s.from) (rates_by_node ns rs) (λ s above same. absurd (omega (arith, is, above, same))) later) (of_that_node n.node rs))
+    (λ r is. map_all (λ s. n.node < s.node) (λ s. r.node ≡ s.node → r.from < s.from) (rates_by_node ns rs)
+    (λ s above same. absurd (omega (arith, is, above, same))) later) (of_that_node n.node rs))

@@ -1,5 +1,6 @@
 -- The rates of clocks: a rate more, and the rates of each node in turn.
-use Rattle.std.proofs.Common.{◌≡◌, ℕ, zero, suc, ◌<◌, ◌≤◌, List, [], ◌∷◌, ◌++◌, Bool, true, false, ◌||◌, ◌==◌, nat_lt, cond, Option, Some, None, IfSome, reverse, filter, refl, sym, ◌∙◌, ap, subst, arith}
+use Rattle.std.proofs.Common.{◌≡◌, ℕ, zero, suc, ◌<◌, ◌≤◌, List, [], ◌∷◌, ◌++◌, Bool, true, false, ◌||◌, ◌==◌, nat_lt, cond}
+use Rattle.std.proofs.Common.{Option, Some, None, IfSome, reverse, filter, refl, sym, ◌∙◌, ap, subst, arith}
 use Rattle.std.proofs.lemmas.Bool.{cond-true, cond-false, cond_both, ltb-true, eqb-true, true≢false, ne_eqb, eq-eqb}
 use Rattle.std.proofs.lemmas.List.{reverse-append, append-nil}
 use Rattle.std.proofs.lemmas.List.Elements.{All-from_recursion, filter-append}
@@ -58,15 +59,23 @@ tops i (r ∷ rs) follows =
     subst (λ (o : Option RateLine). Tops o i (r ∷ rs)) (sym (last_more r rs i))
     (either (last_rate rs i) (last_holds (λ s. r.node ≡ s.node → r.from < s.from) i rs follows.0) (tops i rs follows.1))
   where
-    either : (o : Option RateLine) → IfSome o (λ s. r.node ≡ s.node → r.from < s.from) → Tops o i rs → Tops (option_or o (cond (is_of i r) (Some r) None)) i (r ∷ rs)
+    either : (o : Option RateLine) → IfSome o (λ s. r.node ≡ s.node → r.from < s.from) → Tops o i rs
+        → Tops (option_or o (cond (is_of i r) (Some r) None)) i (r ∷ rs)
     either (Some l) later top = (top.0, ((λ is. let lt = later (is ∙ sym top.0) in omega (arith, lt)), top.1))
     either None later none = here (is_of i r) refl
       where
         here : (b : Bool) → is_of i r ≡ b → Tops (cond b (Some r) None) i (r ∷ rs)
-        here true is = (eqb-true r.node i is, ((λ same. omega arith), map_all (λ s. s.node ≡ i → ⊥) (λ s. s.node ≡ i → s.from ≤ r.from) rs (λ s not same. absurd (not same)) none))
+        here true is = (
+          eqb-true r.node i is,
+          (
+            (λ same. omega arith),
+            map_all (λ s. s.node ≡ i → ⊥) (λ s. s.node ≡ i → s.from ≤ r.from) rs (λ s not same. absurd (not same)) none,
+          ),
+        )
         here false is = ((λ same. true≢false (sym (eq-eqb r.node i same) ∙ is)), none)
 
-pub later_all : (rs : List RateLine) (i t : ℕ) → Follows rs → option_map_or (λ r. nat_lt r.from t) (last_rate rs i) true ≡ true → AllByRecursion (λ r. r.node ≡ i → r.from < t) rs
+pub later_all : (rs : List RateLine) (i t : ℕ) → Follows rs → option_map_or (λ r. nat_lt r.from t) (last_rate rs i) true ≡ true
+    → AllByRecursion (λ r. r.node ≡ i → r.from < t) rs
 later_all rs i t follows above = by_last (last_rate rs i) (tops i rs follows) above
   where
     by_last : (o : Option RateLine) → Tops o i rs → option_map_or (λ r. nat_lt r.from t) o true ≡ true → AllByRecursion (λ r. r.node ≡ i → r.from < t) rs
@@ -87,7 +96,8 @@ climbs_more R (y ∷ xs) x climbs all = (all_append (R y) xs (x ∷ []) climbs.0
 -- those that pass
 pub all_filter : {X : Type 0} (P : X → Type 0) (p : X → Bool) (xs : List X) → AllByRecursion P xs → AllByRecursion P (filter p xs)
 all_filter P p [] all = tt
-all_filter P p (x ∷ xs) all = cond_both (p x) (x ∷ filter p xs) (filter p xs) (AllByRecursion P) (λ is. (all.0, all_filter P p xs all.1)) (λ not. all_filter P p xs all.1)
+all_filter P p (x ∷ xs) all = cond_both (p x) (x ∷ filter p xs) (filter p xs) (AllByRecursion P) (λ is. (all.0, all_filter P p xs all.1))
+    (λ not. all_filter P p xs all.1)
 
 -- what holds of each rate holds of those of each node in turn
 pub all_by_node : (P : RateLine → Type 0) (ns : List NodeLine) (rs : List RateLine) → AllByRecursion P rs → AllByRecursion P (rates_by_node ns rs)
@@ -95,7 +105,8 @@ all_by_node P [] rs all = tt
 all_by_node P (n ∷ ns) rs all = all_append P (filter (is_of n.node) rs) (rates_by_node ns rs) (all_filter P (is_of n.node) rs all) (all_by_node P ns rs all)
 
 -- the rates of one node ascend
-passing_later : (i : ℕ) (s : RateLine) (rs : List RateLine) → s.node ≡ i → AllByRecursion (λ t. s.node ≡ t.node → s.from < t.from) rs → AllByRecursion (λ t. s.from < t.from) (filter (is_of i) rs)
+passing_later : (i : ℕ) (s : RateLine) (rs : List RateLine) → s.node ≡ i → AllByRecursion (λ t. s.node ≡ t.node → s.from < t.from) rs
+    → AllByRecursion (λ t. s.from < t.from) (filter (is_of i) rs)
 passing_later i s [] is all = tt
 passing_later i s (r ∷ rs) is all =
     cond_both (is_of i r) (r ∷ filter (is_of i) rs) (filter (is_of i) rs) (AllByRecursion (λ t. s.from < t.from))
@@ -107,7 +118,8 @@ one_ascends i (r ∷ rs) follows =
     cond_both (is_of i r) (r ∷ filter (is_of i) rs) (filter (is_of i) rs) (AllPairs (λ a b. a.from < b.from))
     (λ same.
     AllPairs-cons (λ a b. a.from < b.from) r (filter (is_of i) rs)
-    (All-from_recursion (λ (t : RateLine). r.from < t.from) (filter (is_of i) rs) (passing_later i r rs (eqb-true r.node i same) follows.0)) (one_ascends i rs follows.1))
+    (All-from_recursion (λ (t : RateLine). r.from < t.from) (filter (is_of i) rs) (passing_later i r rs (eqb-true r.node i same) follows.0))
+    (one_ascends i rs follows.1))
     (λ other. one_ascends i rs follows.1)
 
 -- the rates of one node, among the rates of each node in turn
@@ -150,10 +162,12 @@ of_node (n ∷ ns) rs i rises = filter-append (is_of i) (filter (is_of n.node) r
         ∙ append-nil (filter (is_of i) (filter (is_of i) rs)) ∙ filter_same i rs
     either false other others = ap (λ (l : List RateLine). l ++ filter (is_of i) (rates_by_node ns rs)) (filter_other n.node i rs other) ∙ others
 
-pub each_ascends : (ns : List NodeLine) (rs : List RateLine) (i : ℕ) → Rises ns → Follows rs → AllPairs (λ a b. a.from < b.from) (filter (is_of i) (rates_by_node ns rs))
+pub each_ascends : (ns : List NodeLine) (rs : List RateLine) (i : ℕ) → Rises ns → Follows rs
+    → AllPairs (λ a b. a.from < b.from) (filter (is_of i) (rates_by_node ns rs))
 each_ascends ns rs i rises follows =
     subst (AllPairs (λ a b. a.from < b.from)) (sym (of_node ns rs i rises))
-    (cond_both (knows ns i) (filter (is_of i) rs) [] (AllPairs (λ a b. a.from < b.from)) (λ known. one_ascends i rs follows) (λ unknown k j d before within. absurd (omega arith)))
+    (cond_both (knows ns i) (filter (is_of i) rs) [] (AllPairs (λ a b. a.from < b.from)) (λ known. one_ascends i rs follows)
+    (λ unknown k j d before within. absurd (omega arith)))
 
 -- so many millionths
 pub ppm_small : (slow : Bool) (p : ℕ) → p ≤ 20 → unsigned_abs (ppm slow p) ≤ 20

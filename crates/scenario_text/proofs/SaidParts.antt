@@ -1,5 +1,6 @@
 -- What some text says meets the rules of the canonical text.
-use Rattle.std.proofs.Common.{◌≡◌, ℕ, ◌+◌, ◌*◌, ◌<◌, ◌≤◌, List, [], ◌∷◌, Bool, true, false, if◌then◌else◌, ◌==◌, nat_le, Option, Some, None, IfSome, Result, Ok, Err, IfOk, length, codes, option_map, refl, sym, ◌∙◌, ap, subst, arith, inl, inr}
+use Rattle.std.proofs.Common.{◌≡◌, ℕ, ◌+◌, ◌*◌, ◌<◌, ◌≤◌, List, [], ◌∷◌, Bool, true, false, if◌then◌else◌, ◌==◌, nat_le, Option, Some, None}
+use Rattle.std.proofs.Common.{IfSome, Result, Ok, Err, IfOk, length, codes, option_map, refl, sym, ◌∙◌, ap, subst, arith, inl, inr}
 use Rattle.std.proofs.lemmas.Bool.{cond_both, or_cases, leb-true, eqb-true, eqb-false, false≢true}
 use Rattle.std.proofs.lemmas.Bool.Decides.{nat_tests}
 use Rattle.std.specs.Char.{is_ascii_hexdigit, digit_value}
@@ -9,28 +10,32 @@ use Rattle.std.specs.Str.Lines.{lines}
 use Rattle.lwb_base.specs.Profile.{Numbers}
 use Rattle.scenario_text.specs.FloodParts.{knows}
 use Rattle.scenario_text.specs.FloodDrafts.{IsRate}
-use Rattle.scenario_text.specs.Words.{words, word, counted, number_at}
-use Rattle.scenario_text.specs.Faults.{after_lines, in_line, ◌>>=◌}
-use Rattle.scenario_text.specs.Reading.{after_line}
+use Rattle.text_readers.specs.Words.{words, word, counted, number_at}
+use Rattle.text_readers.specs.Faults.{after_lines, in_line, ◌>>=◌}
+use Rattle.text_readers.specs.Reading.{after_line}
 use Rattle.scenario_text.specs.Network.{is_id, network_parts, network_line, rates_by_node}
 use Rattle.scenario_text.specs.Payloads.{is_payload, payload, payload_bytes, hex_bytes, hex_value}
-use Rattle.scenario_text.specs.ScenarioGrammar.{Scenario, no_scenario, last_tick, line_fault, with_scenario_line, after_spelled, after_words, scenario_line, script_line, step_line, put_line, scenario_numbers, begins, finished, finished_parts, if_small, scenario_of, IsScenario}
+use Rattle.scenario_text.specs.ScenarioGrammar.{Scenario, no_scenario, last_tick, line_fault, with_scenario_line, after_spelled}
+use Rattle.scenario_text.specs.ScenarioGrammar.{after_words, scenario_line, script_line, step_line, put_line, scenario_numbers}
+use Rattle.scenario_text.specs.ScenarioGrammar.{begins, finished, finished_parts, if_small, scenario_of, IsScenario}
 use Rattle.scenario_text.specs.ScenarioParts.{ScenarioParts}
 use Rattle.scenario_text.specs.Canonical.{canonical}
-use Rattle.scenario_text.specs.declared.fault.FaultKind.{FaultKind}
-use Rattle.scenario_text.specs.declared.fault.FaultKind.TheVariants.{Missing, TooBig}
+use Rattle.text_readers.specs.declared.fault.FaultKind.{FaultKind}
+use Rattle.text_readers.specs.declared.fault.FaultKind.TheVariants.{Missing, TooBig}
 use Rattle.scenario_text.specs.declared.lines.NodeLine.{NodeLine}
 use Rattle.scenario_text.specs.declared.lines.RateLine.{RateLine}
 use Rattle.scenario_text.specs.declared.scenario_line.ScenarioLine.{ScenarioLine}
-use Rattle.scenario_text.specs.declared.scenario_line.ScenarioLine.TheVariants.{InNetwork, Profile, Contend, Frames, Host, On, Off, Stream, Leave, Put, Lose, Cut, Capture}
-use Rattle.scenario_text.proofs.FloodKeeps.{unless_keeps, spelled_keeps}
-use Rattle.scenario_text.proofs.LinesRead.{line_keeps, lines_keep}
+use Rattle.scenario_text.specs.declared.scenario_line.ScenarioLine.TheVariants.{InNetwork, Profile, Contend, Frames, Host, On, Off}
+use Rattle.scenario_text.specs.declared.scenario_line.ScenarioLine.TheVariants.{Stream, Leave, Put, Lose, Cut, Capture}
+use Rattle.text_readers.proofs.AllowedLines.{unless_keeps, spelled_keeps}
+use Rattle.text_readers.proofs.LinesRead.{line_keeps, lines_keep}
 use Rattle.scenario_text.proofs.RatesKept.{map_all, all_by_node}
 use Rattle.scenario_text.proofs.RatesInTurn.{in_turn_again, no_more, turns_follow}
 use Rattle.scenario_text.proofs.CanonicalFacts.{IsNode, IsRateOf, IsHost, KeepsRules}
 use Rattle.scenario_text.proofs.DraftFacts.{IsScript, IsTrace, IsFine}
 use Rattle.scenario_text.proofs.CanonicalSays.{canonical_says}
-use Rattle.scenario_text.proofs.DraftKept.{IsRead, fine_first, line_fine}
+use Rattle.scenario_text.proofs.DraftKept.{IsRead, line_fine}
+use Rattle.scenario_text.proofs.FirstDrafts.{fine_first}
 
 -- the bytes of a payload
 letter_value : (c : ℕ) → is_ascii_hexdigit c ≡ true → digit_value c ≤ 15

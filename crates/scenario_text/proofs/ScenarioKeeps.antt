@@ -4,16 +4,19 @@ use Rattle.std.proofs.lemmas.Bool.{cond_both}
 use Rattle.lwb_base.specs.Profile.{Numbers, one, contended}
 use Rattle.link_trace.specs.Passes.{Lines}
 use Rattle.scenario_text.specs.Network.{Drafted, with_script_line}
-use Rattle.scenario_text.specs.Words.{words}
+use Rattle.text_readers.specs.Words.{words}
 use Rattle.scenario_text.specs.FloodDrafts.{IsNetwork}
 use Rattle.scenario_text.specs.ScenarioDrafts.{IsDraft}
-use Rattle.scenario_text.specs.ScenarioGrammar.{Scenario, line_fault, with_scenario_line, after_spelled, after_words, no_scenario, scenario_line, scenario_numbers, last_tick}
-use Rattle.scenario_text.specs.Faults.{after_lines}
-use Rattle.scenario_text.specs.Reading.{after_line}
+use Rattle.scenario_text.specs.ScenarioGrammar.{Scenario, line_fault, with_scenario_line, after_spelled, after_words}
+use Rattle.scenario_text.specs.ScenarioGrammar.{no_scenario, scenario_line, scenario_numbers, last_tick}
+use Rattle.text_readers.specs.Faults.{after_lines}
+use Rattle.text_readers.specs.Reading.{after_line}
 use Rattle.scenario_text.specs.declared.scenario_line.ScenarioLine.{ScenarioLine}
-use Rattle.scenario_text.specs.declared.scenario_line.ScenarioLine.TheVariants.{InNetwork, Profile, Contend, Frames, Host, On, Off, Stream, Leave, Put, Lose, Cut, Capture}
-use Rattle.scenario_text.proofs.FloodKeeps.{network_keeps, unless_keeps, spelled_keeps}
-use Rattle.scenario_text.proofs.LinesRead.{line_keeps, lines_keep}
+use Rattle.scenario_text.specs.declared.scenario_line.ScenarioLine.TheVariants.{InNetwork, Profile, Contend, Frames, Host, On, Off}
+use Rattle.scenario_text.specs.declared.scenario_line.ScenarioLine.TheVariants.{Stream, Leave, Put, Lose, Cut, Capture}
+use Rattle.scenario_text.proofs.FloodKeeps.{network_keeps}
+use Rattle.text_readers.proofs.AllowedLines.{unless_keeps, spelled_keeps}
+use Rattle.text_readers.proofs.LinesRead.{line_keeps, lines_keep}
 
 -- with a script line more
 kept : (d : Drafted) → IsNetwork d → {t : Lines} → IsNetwork (with_script_line d t)

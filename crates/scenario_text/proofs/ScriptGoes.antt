@@ -1,5 +1,6 @@
 -- The canonical lines of the script, and of losses, cuts and captures, are allowed one after another.
-use Rattle.std.proofs.Common.{◌≡◌, ℕ, zero, suc, ◌+◌, ◌-◌, ◌≤◌, List, [], ◌∷◌, ◌++◌, true, ◌&&◌, ◌==◌, nat_lt, nat_le, Option, Some, None, IfSome, map, length, refl, sym, ◌∙◌, ap, subst, arith, inl, inr}
+use Rattle.std.proofs.Common.{◌≡◌, ℕ, zero, suc, ◌+◌, ◌-◌, ◌≤◌, List, [], ◌∷◌, ◌++◌, true, ◌&&◌, ◌==◌, nat_lt, nat_le, Option}
+use Rattle.std.proofs.Common.{Some, None, IfSome, map, length, refl, sym, ◌∙◌, ap, subst, arith, inl, inr}
 use Rattle.std.proofs.lemmas.Bool.{cond_both, and_from, and_parts, lt-ltb, le-leb, leb-true, ltb-true}
 use Rattle.std.proofs.lemmas.List.{length_push, length-append}
 use Rattle.std.specs.Prelude.{slice_get}
@@ -25,7 +26,8 @@ use Rattle.scenario_text.specs.declared.script.Act.TheVariants.{On, Off, Declare
 use Rattle.scenario_text.proofs.NumbersBack.{payload_back}
 use Rattle.scenario_text.proofs.LinesSaid.{Says, Small, says_on, says_off, says_stream, says_leave, says_put, says_lose, says_cut, says_capture}
 use Rattle.scenario_text.proofs.LineRuns.{Step, step, Allowed, Goes, goes_list, middle, climbs_before, with_line_last, none_among}
-use Rattle.scenario_text.proofs.CanonicalFacts.{Power, no_power, after_act, can_boot, power_after, Boots, mid, said_act, said_loss, said_cut, said_capture, Fits, HasBytes, FitsAct, judge, KeepsRules}
+use Rattle.scenario_text.proofs.CanonicalFacts.{Power, no_power, after_act, can_boot, power_after, Boots, mid, said_act, said_loss}
+use Rattle.scenario_text.proofs.CanonicalFacts.{said_cut, said_capture, Fits, HasBytes, FitsAct, judge, KeepsRules}
 use Rattle.scenario_text.proofs.CanonicalGoes.{small_id, small_ends, of_links}
 
 frame_small : (s : ScenarioParts) (f : ℕ) → KeepsRules s → nat_lt f s.frames ≡ true → Small f
@@ -55,14 +57,17 @@ not_later f ls all = by_last (last_script_line ls) (found_holds (λ l. l.frame �
 act_allowed : (s : ScenarioParts) (hs : List ℕ) (rs : List RateLine) (t : Lines) (ls : List ScriptLine) (w : Power) (n f i : ℕ) (a : Act)
     → Fits (judge s) (said_act f i a) → option_map_or (λ l. nat_le l.frame f) (last_script_line ls) true ≡ true → nat_lt n 20000 ≡ true → can_boot w i a ≡ true
     → Allowed (mid s s.nodes rs hs t ls w n) (said_act f i a)
-act_allowed s hs rs t ls w n f i On fits order room boot = record { range = fits.range; known = fits.known; order = order; fresh = refl; room = and_from _ _ room boot }
+act_allowed s hs rs t ls w n f i On fits order room boot =
+    record { range = fits.range; known = fits.known; order = order; fresh = refl; room = and_from _ _ room boot }
 act_allowed s hs rs t ls w n f i Off fits order room boot = record { range = fits.range; known = fits.known; order = order; fresh = refl; room = room }
-act_allowed s hs rs t ls w n f i (Declare x y) fits order room boot = record { range = fits.range; known = fits.known; order = order; fresh = refl; room = room }
+act_allowed s hs rs t ls w n f i (Declare x y) fits order room boot =
+    record { range = fits.range; known = fits.known; order = order; fresh = refl; room = room }
 act_allowed s hs rs t ls w n f i (Leave x) fits order room boot = record { range = fits.range; known = fits.known; order = order; fresh = refl; room = room }
 act_allowed s hs rs t ls w n f i (Put x p) fits order room boot = record { range = fits.range; known = fits.known; order = order; fresh = refl; room = room }
 
 act_next : (s : ScenarioParts) (hs : List ℕ) (rs : List RateLine) (t : Lines) (ls : List ScriptLine) (w : Power) (n f i : ℕ) (a : Act)
-    → with_scenario_line (mid s s.nodes rs hs t ls w n) (said_act f i a) ≡ mid s s.nodes rs hs t (ls ++ record { frame = f; node = i; act = a } ∷ []) (after_act w i a) (n + 1)
+    → with_scenario_line (mid s s.nodes rs hs t ls w n) (said_act f i a)
+    ≡ mid s s.nodes rs hs t (ls ++ record { frame = f; node = i; act = a } ∷ []) (after_act w i a) (n + 1)
 act_next s hs rs t ls w n f i On = refl
 act_next s hs rs t ls w n f i Off = refl
 act_next s hs rs t ls w n f i (Declare x y) = refl
@@ -115,7 +120,8 @@ step_script s is ls l ms split =
     let count : n + 1 ≡ length s.rates + length (ls ++ l ∷ []) = omega (arith, length_push ls l) in
     step (with_script s ls) (script_words l) (said_act l.frame l.node l.act) (with_script s (ls ++ l ∷ []))
     (act_says s l.frame l.node l.act is at.fits at.bytes)
-    (act_allowed s s.hosts s.rates t ls w n l.frame l.node l.act at.fits (not_later l.frame ls before) (lt-ltb n 20000 (omega (arith, long, few))) (boots_at no_power ls l ms boots))
+    (act_allowed s s.hosts s.rates t ls w n l.frame l.node l.act at.fits (not_later l.frame ls before)
+    (lt-ltb n 20000 (omega (arith, long, few))) (boots_at no_power ls l ms boots))
     (act_next s s.hosts s.rates t ls w n l.frame l.node l.act
     ∙ ap (λ (x : Power). mid s s.nodes s.rates s.hosts t (ls ++ l ∷ []) x (n + 1)) (sym (power_more no_power ls l))
     ∙ ap (λ (m : ℕ). mid s s.nodes s.rates s.hosts t (ls ++ l ∷ []) (power_after no_power (ls ++ l ∷ [])) m) count)
@@ -145,7 +151,8 @@ with_losses s ls = full s (record { links = s.trace.links; losses = ls; cuts = [
 step_loss : (s : ScenarioParts) → KeepsRules s → (ls : List LoseLine) (l : LoseLine) (ms : List LoseLine) → ls ++ l ∷ ms ≡ s.trace.losses
     → Step (with_losses s ls) (loss_words l) (with_losses s (ls ++ l ∷ []))
 step_loss s is ls l ms split =
-    let fits = middle (λ (x : LoseLine). Fits (judge s) (said_loss x)) ls l ms (subst (AllByRecursion (λ (x : LoseLine). Fits (judge s) (said_loss x))) (sym split) is.losses) in
+    let fits = middle (λ (x : LoseLine). Fits (judge s) (said_loss x)) ls l ms
+    (subst (AllByRecursion (λ (x : LoseLine). Fits (judge s) (said_loss x))) (sym split) is.losses) in
     let before = climbs_before (λ a b. by_loss a b ≡ Less) ls l ms (subst (Climbs (λ a b. by_loss a b ≡ Less)) (sym split) is.losses_climb) in
     let range = and_parts (is_step (judge s) l.frame l.slot l.step) (are_ends l.from l.to) fits.range in
     let small = small_step s l.frame l.slot l.step is range.0 in
@@ -171,12 +178,14 @@ goes_losses s is = goes_list loss_words (with_losses s) s.trace.losses (step_los
 
 -- cuts
 abbrev pub with_cuts : ScenarioParts → List CutLine → Scenario
-with_cuts s ls = full s (record { links = s.trace.links; losses = s.trace.losses; cuts = ls; captures = [] }) (length s.rates + length s.script + length s.trace.losses + length ls)
+with_cuts s ls = full s (record { links = s.trace.links; losses = s.trace.losses; cuts = ls; captures = [] })
+    (length s.rates + length s.script + length s.trace.losses + length ls)
 
 step_cut : (s : ScenarioParts) → KeepsRules s → (ls : List CutLine) (l : CutLine) (ms : List CutLine) → ls ++ l ∷ ms ≡ s.trace.cuts
     → Step (with_cuts s ls) (cut_words l) (with_cuts s (ls ++ l ∷ []))
 step_cut s is ls l ms split =
-    let fits = middle (λ (x : CutLine). Fits (judge s) (said_cut x)) ls l ms (subst (AllByRecursion (λ (x : CutLine). Fits (judge s) (said_cut x))) (sym split) is.cuts) in
+    let fits = middle (λ (x : CutLine). Fits (judge s) (said_cut x)) ls l ms
+    (subst (AllByRecursion (λ (x : CutLine). Fits (judge s) (said_cut x))) (sym split) is.cuts) in
     let before = climbs_before (λ a b. by_cut a b ≡ Less) ls l ms (subst (Climbs (λ a b. by_cut a b ≡ Less)) (sym split) is.cuts_climb) in
     let range = and_parts (is_step (judge s) l.frame l.slot l.step) (is_id l.node) fits.range in
     let small = small_step s l.frame l.slot l.step is range.0 in
@@ -193,7 +202,8 @@ step_cut s is ls l ms split =
       fresh = none_among by_cut (is_cut l.frame l.slot l.step l.node) l ls (tells_cut l.frame l.slot l.step l.node) before;
       room = lt-ltb n 20000 (omega (arith, long, few));
     })
-    (ap (λ (x : List CutLine). full s (record { links = s.trace.links; losses = s.trace.losses; cuts = x; captures = [] }) (n + 1)) (with_line_last by_cut l ls before)
+    (ap (λ (x : List CutLine). full s (record { links = s.trace.links; losses = s.trace.losses; cuts = x; captures = [] }) (n + 1))
+    (with_line_last by_cut l ls before)
     ∙ ap (full s (record { links = s.trace.links; losses = s.trace.losses; cuts = ls ++ l ∷ []; captures = [] })) count)
 
 pub goes_cuts : (s : ScenarioParts) → KeepsRules s → Goes (with_cuts s []) (map cut_words s.trace.cuts) (with_cuts s s.trace.cuts)
@@ -208,7 +218,8 @@ with_captures s ls =
 step_capture : (s : ScenarioParts) → KeepsRules s → (ls : List CaptureLine) (l : CaptureLine) (ms : List CaptureLine) → ls ++ l ∷ ms ≡ s.trace.captures
     → Step (with_captures s ls) (capture_words l) (with_captures s (ls ++ l ∷ []))
 step_capture s is ls l ms split =
-    let fits = middle (λ (x : CaptureLine). Fits (judge s) (said_capture x)) ls l ms (subst (AllByRecursion (λ (x : CaptureLine). Fits (judge s) (said_capture x))) (sym split) is.captures) in
+    let fits = middle (λ (x : CaptureLine). Fits (judge s) (said_capture x)) ls l ms
+    (subst (AllByRecursion (λ (x : CaptureLine). Fits (judge s) (said_capture x))) (sym split) is.captures) in
     let before = climbs_before (λ a b. by_capture a b ≡ Less) ls l ms (subst (Climbs (λ a b. by_capture a b ≡ Less)) (sym split) is.captures_climb) in
     let range = and_parts (is_step (judge s) l.frame l.slot l.step) (are_ends l.at l.from) fits.range in
     let small = small_step s l.frame l.slot l.step is range.0 in
@@ -216,7 +227,8 @@ step_capture s is ls l ms split =
     let long : length ls + suc (length ms) ≡ length s.trace.captures = sym (length-append ls (l ∷ ms)) ∙ ap length split in
     let few = is.scripted in
     let n : ℕ = length s.rates + length s.script + length s.trace.losses + length s.trace.cuts + length ls in
-    let count : n + 1 ≡ length s.rates + length s.script + length s.trace.losses + length s.trace.cuts + length (ls ++ l ∷ []) = omega (arith, length_push ls l) in
+    let count : n + 1 ≡ length s.rates + length s.script + length s.trace.losses + length s.trace.cuts + length (ls ++ l ∷ []) =
+    omega (arith, length_push ls l) in
     step (with_captures s ls) (capture_words l) (said_capture l) (with_captures s (ls ++ l ∷ []))
     (says_capture l.frame l.slot l.step l.at l.from small.0 small.1.0 small.1.1 ends.0 ends.1)
     (record {
@@ -226,7 +238,8 @@ step_capture s is ls l ms split =
       fresh = none_among by_capture (is_capture l.frame l.slot l.step l.at) l ls (tells_capture l.frame l.slot l.step l.at l.from) before;
       room = lt-ltb n 20000 (omega (arith, long, few));
     })
-    (ap (λ (x : List CaptureLine). full s (record { links = s.trace.links; losses = s.trace.losses; cuts = s.trace.cuts; captures = x }) (n + 1)) (with_line_last by_capture l ls before)
+    (ap (λ (x : List CaptureLine). full s (record { links = s.trace.links; losses = s.trace.losses; cuts = s.trace.cuts; captures = x })
+    (n + 1)) (with_line_last by_capture l ls before)
     ∙ ap (full s (record { links = s.trace.links; losses = s.trace.losses; cuts = s.trace.cuts; captures = ls ++ l ∷ [] })) count)
 
 pub goes_captures : (s : ScenarioParts) → KeepsRules s → Goes (with_captures s []) (map capture_words s.trace.captures) (with_captures s s.trace.captures)

@@ -16,9 +16,10 @@ use Rattle.scenario_text.specs.ScenarioGrammar.{last_tick, last_slot, is_step, I
 use Rattle.scenario_text.specs.ScenarioParts.{ScenarioParts}
 use Rattle.scenario_text.specs.declared.script.Act.{Act}
 use Rattle.scenario_text.specs.declared.script.Act.TheVariants.{On, Off, Declare, Leave, Put}
-use Rattle.scenario_text.proofs.CanonicalFacts.{IsNode, IsRateOf, IsHost, Fits, FitsAct, said_act, said_link, said_loss, said_cut, said_capture, judge, KeepsRules}
+use Rattle.scenario_text.proofs.CanonicalFacts.{IsNode, IsRateOf, IsHost, Fits, FitsAct, said_act, said_link}
+use Rattle.scenario_text.proofs.CanonicalFacts.{said_loss, said_cut, said_capture, judge, KeepsRules}
 use Rattle.scenario_text.proofs.CanonicalGoes.{frame_bound}
-use Rattle.scenario_text.proofs.DraftKept.{ends_differ}
+use Rattle.scenario_text.proofs.TraceKept.{ends_differ}
 use Rattle.scenario_text.proofs.RatesKept.{map_all, one_ascends}
 use Rattle.scenario_text.proofs.EachPair.{climbs_pairs}
 use Rattle.scenario_text.proofs.SaidParts.{known_id, said_is}
@@ -31,7 +32,8 @@ pub id_range : (i : ℕ) → is_id i ≡ true → (1 ≤ i) × (i ≤ 200)
 id_range i is = let p = and_parts (nat_le 1 i) (nat_le i 200) is in (leb-true 1 i p.0, leb-true i 200 p.1)
 
 ends_are : (s : ScenarioParts) (u v : ℕ) → are_ends u v ≡ true → (knows s.nodes u && knows s.nodes v) ≡ true → AreEnds s.nodes u v
-ends_are s u v ends known = let p = and_parts (knows s.nodes u) (knows s.nodes v) known in record { from_known = p.0; to_known = p.1; differ = ends_differ u v ends }
+ends_are s u v ends known = let p = and_parts (knows s.nodes u) (knows s.nodes v) known in
+    record { from_known = p.0; to_known = p.1; differ = ends_differ u v ends }
 
 step_is : (s : ScenarioParts) (f j k : ℕ) → is_step (judge s) f j k ≡ true → IsStepOf s f j k
 step_is s f j k is =
@@ -59,14 +61,22 @@ act_is s f i (Declare x y) fits =
     let o = and_parts (nat_lt f s.frames && is_id i && nat_le x 3 && nat_le 1 y) (nat_le y 120) fits.range in
     let q = and_parts (nat_lt f s.frames && is_id i && nat_le x 3) (nat_le 1 y) o.0 in
     let r = and_parts (nat_lt f s.frames && is_id i) (nat_le x 3) q.0 in
-    record { in_run = ltb-true f s.frames (and_parts (nat_lt f s.frames) (is_id i) r.0).0; known = fits.known; act = (leb-true x 3 r.1, leb-true 1 y q.1, leb-true y 120 o.1) }
+    record {
+      in_run = ltb-true f s.frames (and_parts (nat_lt f s.frames) (is_id i) r.0).0;
+      known = fits.known;
+      act = (leb-true x 3 r.1, leb-true 1 y q.1, leb-true y 120 o.1);
+    }
 act_is s f i (Leave x) fits =
     let r = and_parts (nat_lt f s.frames && is_id i) (nat_le x 3) fits.range in
     record { in_run = ltb-true f s.frames (and_parts (nat_lt f s.frames) (is_id i) r.0).0; known = fits.known; act = leb-true x 3 r.1 }
 act_is s f i (Put x b) fits =
     let o = and_parts (nat_lt f s.frames && is_id i && nat_le x 3) (nat_le (length b) s.profile.payload_max) fits.range in
     let r = and_parts (nat_lt f s.frames && is_id i) (nat_le x 3) o.0 in
-    record { in_run = ltb-true f s.frames (and_parts (nat_lt f s.frames) (is_id i) r.0).0; known = fits.known; act = (leb-true x 3 r.1, leb-true (length b) s.profile.payload_max o.1) }
+    record {
+      in_run = ltb-true f s.frames (and_parts (nat_lt f s.frames) (is_id i) r.0).0;
+      known = fits.known;
+      act = (leb-true x 3 r.1, leb-true (length b) s.profile.payload_max o.1);
+    }
 
 small_node : (s : ScenarioParts) (i : ℕ) → KeepsRules s → knows s.nodes i ≡ true → i ≤ 200
 small_node s i is known = (id_range i (known_id s.nodes i (map_all IsNode (λ n. is_id n.node ≡ true) s.nodes (λ n node. node.id) is.nodes) known)).1
@@ -89,23 +99,28 @@ rules_sound s is =
       rates_known = all_of (IsRateOf s.profile s.nodes) (λ r. knows s.nodes r.node ≡ true) s.rates (λ r rate. rate.known) is.rates;
       rates_ascend = λ i. one_ascends i s.rates is.follows;
       rates_in_run = all_of (IsRateOf s.profile s.nodes) (λ r. r.from ≤ last_tick s.profile) s.rates (λ r rate. rate.early) is.rates;
-      rates_early = all_of (IsRateOf s.profile s.nodes) (λ r. r.from < 2 ^ 47) s.rates (λ r rate. let early = rate.early in omega (arith, early, bound)) is.rates;
+      rates_early = all_of (IsRateOf s.profile s.nodes) (λ r. r.from < 2 ^ 47) s.rates
+          (λ r rate. let early = rate.early in omega (arith, early, bound)) is.rates;
       rates_small = all_of (IsRateOf s.profile s.nodes) (λ r. unsigned_abs r.ppm ≤ 20) s.rates (λ r rate. rate.small) is.rates;
       some_hosts = is.some_hosts;
       few_hosts = is.few_hosts;
       hosts_known = all_of (IsHost s.nodes) (λ h. knows s.nodes h ≡ true) s.hosts (λ h host. host.known) is.hosts;
       hosts_differ = λ i j d before within. eqb-false _ _ (climbs_pairs (λ g h. (g == h) ≡ false) s.hosts is.distinct i j d before within);
-      links = all_of (λ l. Fits (judge s) (said_link l)) (λ l. AreEnds s.nodes l.from l.to) s.trace.links (λ l fits. ends_are s l.from l.to fits.range fits.known) is.links;
+      links = all_of (λ l. Fits (judge s) (said_link l)) (λ l. AreEnds s.nodes l.from l.to) s.trace.links
+          (λ l fits. ends_are s l.from l.to fits.range fits.known) is.links;
       links_ascend = climbs_pairs (λ a b. by_link a b ≡ Less) s.trace.links is.links_climb;
-      losses = all_of (λ l. Fits (judge s) (said_loss l)) (λ l. IsStepOf s l.frame l.slot l.step × AreEnds s.nodes l.from l.to) s.trace.losses (loss_is s) is.losses;
+      losses = all_of (λ l. Fits (judge s) (said_loss l)) (λ l. IsStepOf s l.frame l.slot l.step × AreEnds s.nodes l.from l.to)
+          s.trace.losses (loss_is s) is.losses;
       losses_ascend = climbs_pairs (λ a b. by_loss a b ≡ Less) s.trace.losses is.losses_climb;
       cuts = all_of (λ l. Fits (judge s) (said_cut l)) (λ l. IsStepOf s l.frame l.slot l.step × (knows s.nodes l.node ≡ true)) s.trace.cuts (cut_is s) is.cuts;
       cuts_ascend = climbs_pairs (λ a b. by_cut a b ≡ Less) s.trace.cuts is.cuts_climb;
-      captures = all_of (λ l. Fits (judge s) (said_capture l)) (λ l. IsStepOf s l.frame l.slot l.step × AreEnds s.nodes l.at l.from) s.trace.captures (capture_is s) is.captures;
+      captures = all_of (λ l. Fits (judge s) (said_capture l)) (λ l. IsStepOf s l.frame l.slot l.step × AreEnds s.nodes l.at l.from)
+          s.trace.captures (capture_is s) is.captures;
       captures_ascend = climbs_pairs (λ a b. by_capture a b ≡ Less) s.trace.captures is.captures_climb;
       script = all_of (FitsAct (judge s)) (IsScriptLine s) s.script (λ l at. act_is s l.frame l.node l.act at.fits) is.script;
       script_ascends = climbs_pairs (λ a b. a.frame ≤ b.frame) s.script is.script_climbs;
-      few_boots = λ v. few_boots v s.script (map_all (FitsAct (judge s)) (λ l. l.node ≤ 200) s.script (λ l at. small_node s l.node is (act_is s l.frame l.node l.act at.fits).known) is.script) is.boots;
+      few_boots = λ v. few_boots v s.script (map_all (FitsAct (judge s)) (λ l. l.node ≤ 200) s.script
+          (λ l at. small_node s l.node is (act_is s l.frame l.node l.act at.fits).known) is.script) is.boots;
     }
 
 pub sound : (s : ScenarioParts) → IsScenario s → IsSoundScenario s

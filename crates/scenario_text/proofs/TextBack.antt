@@ -8,10 +8,10 @@ use Rattle.std.proofs.lemmas.Str.{IsUtf8-from_ascii, is_utf8-from_IsUtf8}
 use Rattle.std.specs.List.{AllByRecursion, slice_split, slice_index, join_with_byte, filter}
 use Rattle.std.specs.Str.{IsAscii, is_utf8}
 use Rattle.std.specs.Str.Lines.{lines, lines_of_parts, strip_carriage_return}
-use Rattle.scenario_text.specs.Words.{words, is_blank}
+use Rattle.text_readers.specs.Words.{words, is_blank}
 use Rattle.text_writers.specs.Lines.{render}
 use Rattle.scenario_text.proofs.RatesKept.{map_all, all_append}
-use Rattle.scenario_text.proofs.LineFeeds.{part_is_line, is_feed}
+use Rattle.text_readers.proofs.LineFeeds.{part_is_line, is_feed}
 
 -- a byte of a word
 abbrev pub IsGlyph : ℕ → Type 0
@@ -30,15 +30,18 @@ glyphs_shown w all = map_all IsGlyph IsShown w (λ b is. (omega (arith, is.0), i
 no_blanks : (w : List ℕ) → AllByRecursion IsGlyph w → All (λ b. is_blank b ≡ false) w
 no_blanks w all =
     All-from_recursion (λ b. is_blank b ≡ false) w
-    (map_all IsGlyph (λ b. is_blank b ≡ false) w (λ b is. let low = is.0 in or_from _ _ (ne_eqb b 32 (λ e. omega (arith, e, low))) (ne_eqb b 9 (λ e. omega (arith, e, low)))) all)
+    (map_all IsGlyph (λ b. is_blank b ≡ false) w
+    (λ b is. let low = is.0 in or_from _ _ (ne_eqb b 32 (λ e. omega (arith, e, low))) (ne_eqb b 9 (λ e. omega (arith, e, low)))) all)
 
 no_feeds : (l : List ℕ) → AllByRecursion IsShown l → All (λ b. is_feed b ≡ false) l
 no_feeds l all =
-    All-from_recursion (λ b. is_feed b ≡ false) l (map_all IsShown (λ b. is_feed b ≡ false) l (λ b is. let low = is.0 in ne_eqb b 10 (λ e. omega (arith, e, low))) all)
+    All-from_recursion (λ b. is_feed b ≡ false) l
+    (map_all IsShown (λ b. is_feed b ≡ false) l (λ b is. let low = is.0 in ne_eqb b 10 (λ e. omega (arith, e, low))) all)
 
 -- the words of a line
 some_word : (w : List ℕ) (ws : List (List ℕ)) → 0 < length w → filter (λ v. nat_lt 0 (length v)) (w ∷ ws) ≡ w ∷ filter (λ v. nat_lt 0 (length v)) ws
-some_word w ws some = cond-true (nat_lt 0 (length w)) (w ∷ filter (λ v. nat_lt 0 (length v)) ws) (filter (λ v. nat_lt 0 (length v)) ws) (lt-ltb 0 (length w) some)
+some_word w ws some = cond-true (nat_lt 0 (length w)) (w ∷ filter (λ v. nat_lt 0 (length v)) ws) (filter (λ v. nat_lt 0 (length v)) ws)
+    (lt-ltb 0 (length w) some)
 
 pub words_back : (ws : List (List ℕ)) → AllByRecursion IsWord ws → words (join_with_byte 32 ws) ≡ ws
 words_back [] all = refl
@@ -50,7 +53,8 @@ words_back (w ∷ v ∷ ws) all =
 line_shown : (ws : List (List ℕ)) → AllByRecursion IsWord ws → AllByRecursion IsShown (join_with_byte 32 ws)
 line_shown [] all = tt
 line_shown (w ∷ []) all = glyphs_shown w all.0.1
-line_shown (w ∷ v ∷ ws) all = all_append IsShown w (32 ∷ join_with_byte 32 (v ∷ ws)) (glyphs_shown w all.0.1) ((omega arith, omega arith), line_shown (v ∷ ws) all.1)
+line_shown (w ∷ v ∷ ws) all = all_append IsShown w (32 ∷ join_with_byte 32 (v ∷ ws)) (glyphs_shown w all.0.1)
+    ((omega arith, omega arith), line_shown (v ∷ ws) all.1)
 
 -- the text of a line is UTF-8
 shown_ascii : (l : List ℕ) → AllByRecursion IsShown l → IsAscii l
@@ -59,7 +63,8 @@ shown_ascii (b ∷ l) all zero = let high = all.0.1 in omega (arith, high)
 shown_ascii (b ∷ l) all (suc i) = shown_ascii l all.1 i
 
 pub line_is_text : (ws : List (List ℕ)) → AllByRecursion IsWord ws → is_utf8 (join_with_byte 32 ws) ≡ true
-line_is_text ws all = is_utf8-from_IsUtf8 (join_with_byte 32 ws) (IsUtf8-from_ascii (join_with_byte 32 ws) (shown_ascii (join_with_byte 32 ws) (line_shown ws all)))
+line_is_text ws all = is_utf8-from_IsUtf8 (join_with_byte 32 ws)
+    (IsUtf8-from_ascii (join_with_byte 32 ws) (shown_ascii (join_with_byte 32 ws) (line_shown ws all)))
 
 -- no carriage return is dropped
 not_return : (l : List ℕ) (i : ℕ) → AllByRecursion IsShown l → (slice_index l i == 13) ≡ false

@@ -1,17 +1,18 @@
 -- Lines whose words are not all plain numbers, which are read word by word.
-use Rattle.std.proofs.Common.{◌≡◌, ℕ, ◌<◌, ◌≤◌, List, [], ◌∷◌, Bool, true, false, ◌&&◌, if◌then◌else◌, Option, Result, Ok, Err, Bor, length, get_or, refl, arith}
-use Rattle.scenario_text.specs.Faults.{spelled, ◌>>=◌}
+use Rattle.std.proofs.Common.{◌≡◌, ℕ, ◌<◌, ◌≤◌, List, [], ◌∷◌, Bool, true, false, ◌&&◌, if◌then◌else◌}
+use Rattle.std.proofs.Common.{Option, Result, Ok, Err, Bor, length, get_or, refl, arith}
+use Rattle.text_readers.specs.Faults.{spelled, ◌>>=◌}
 use Rattle.scenario_text.specs.Network.{network_numbers}
 use Rattle.scenario_text.specs.Payloads.{is_payload, payload}
 use Rattle.scenario_text.specs.ScenarioGrammar.{put_line, scenario_numbers}
-use Rattle.scenario_text.specs.Words.{counted, word, is_number, number, number_at, is_signed, has_minus, magnitude}
-use Rattle.scenario_text.specs.declared.fault.FaultKind.{FaultKind}
-use Rattle.scenario_text.specs.declared.fault.FaultKind.TheVariants.{BadNumber}
+use Rattle.text_readers.specs.Words.{counted, word, is_number, number, number_at, is_signed, has_minus, magnitude}
+use Rattle.text_readers.specs.declared.fault.FaultKind.{FaultKind}
+use Rattle.text_readers.specs.declared.fault.FaultKind.TheVariants.{BadNumber}
 use Rattle.scenario_text.specs.declared.network_line.NetworkLine.{NetworkLine}
 use Rattle.scenario_text.specs.declared.network_line.NetworkLine.TheVariants.{Rate}
 use Rattle.scenario_text.specs.declared.scenario_line.ScenarioLine.{ScenarioLine}
 use Rattle.scenario_text.specs.declared.scenario_line.ScenarioLine.TheVariants.{Put}
-use Rattle.scenario_text.proofs.NumbersRead.{read, bytes_of}
+use Rattle.text_readers.proofs.NumbersRead.{read, bytes_of}
 
 -- what a word says that may have a `-`
 abbrev pub read_signed : List ℕ → Result (Bool × ℕ) FaultKind

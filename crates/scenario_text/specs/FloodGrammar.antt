@@ -1,16 +1,18 @@
 -- Flood text: what its lines say, and the first line that is refused.
-use Rattle.std.specs.Prelude.{ℕ, ◌+◌, List, [], ◌∷◌, Bool, not, ◌&&◌, nat_le, if◌then◌else◌, Some, None, Option, is_none, Result, length, drop, codes, option_map}
+use Rattle.std.specs.Prelude.{ℕ, ◌+◌, List, [], ◌∷◌, Bool, not, ◌&&◌, nat_le, if◌then◌else◌, Some, None}
+use Rattle.std.specs.Prelude.{Option, is_none, Result, length, drop, codes, option_map}
 use Rattle.std.specs.List.{list_all}
 use Rattle.std.specs.Option.{ok_or}
 use Rattle.std.specs.Str.{bytes_eq}
 use Rattle.std.specs.Str.Lines.{lines}
 use Rattle.scenario_text.specs.FloodParts.{FloodParts, knows}
-use Rattle.scenario_text.specs.Faults.{first_fault, unless_fault, spelled, in_line, ◌>>=◌, after_lines}
-use Rattle.scenario_text.specs.Reading.{after_line}
-use Rattle.scenario_text.specs.Words.{word, is_number, number_at, counted}
-use Rattle.scenario_text.specs.Network.{Drafted, Parts, network_parts, network_line, network_numbers, no_network, is_id, are_ends, network_fault, has_loss, has_script_room, with_line, with_loss, with_script_line}
-use Rattle.scenario_text.specs.declared.fault.FaultKind.{FaultKind}
-use Rattle.scenario_text.specs.declared.fault.FaultKind.TheVariants.{Range, UnknownNode, Twice, TooMany, Missing}
+use Rattle.text_readers.specs.Faults.{first_fault, unless_fault, spelled, in_line, ◌>>=◌, after_lines}
+use Rattle.text_readers.specs.Reading.{after_line}
+use Rattle.text_readers.specs.Words.{word, is_number, number_at, counted}
+use Rattle.scenario_text.specs.Network.{Drafted, Parts, network_parts, network_line, network_numbers, no_network, is_id, are_ends}
+use Rattle.scenario_text.specs.Network.{network_fault, has_loss, has_script_room, with_line, with_loss, with_script_line}
+use Rattle.text_readers.specs.declared.fault.FaultKind.{FaultKind}
+use Rattle.text_readers.specs.declared.fault.FaultKind.TheVariants.{Range, UnknownNode, Twice, TooMany, Missing}
 use Rattle.scenario_text.specs.declared.flood_line.FloodLine.{FloodLine}
 use Rattle.scenario_text.specs.declared.flood_line.FloodLine.TheVariants.{InNetwork, Lose, Start}
 

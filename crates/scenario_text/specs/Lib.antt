@@ -1,8 +1,4 @@
 pub mod FloodParts
-pub mod FaultNames
-pub mod Faults
-pub mod Words
-pub mod Reading
 pub mod Network
 pub mod FloodGrammar
 pub mod FloodDrafts

@@ -1,5 +1,7 @@
 -- The text of a scenario: what its lines say, and the first line that is refused.
-use Rattle.std.specs.Prelude.{◌≡◌, ℕ, ◌+◌, ◌-◌, ◌*◌, List, [], ◌∷◌, ◌++◌, Bool, true, false, not, ◌&&◌, ◌||◌, ◌==◌, nat_lt, nat_le, if◌then◌else◌, Some, None, Option, is_none, is_some, Ok, Err, Result, length, drop, codes, option_map, replicate, slice_get, slice_set, slice_index, slice_index_or}
+use Rattle.std.specs.Prelude.{◌≡◌, ℕ, ◌+◌, ◌-◌, ◌*◌, List, [], ◌∷◌, ◌++◌, Bool, true, false, not, ◌&&◌, ◌||◌, ◌==◌, nat_lt}
+use Rattle.std.specs.Prelude.{nat_le, if◌then◌else◌, Some, None, Option, is_none, is_some, Ok, Err, Result, length, drop, codes}
+use Rattle.std.specs.Prelude.{option_map, replicate, slice_get, slice_set, slice_index, slice_index_or}
 use Rattle.std.specs.List.{list_all, list_any}
 use Rattle.std.specs.Option.{option_map_or}
 use Rattle.std.specs.Str.{bytes_eq}
@@ -9,15 +11,18 @@ use Rattle.lwb_base.specs.Messages.{greatest_slot}
 use Rattle.link_trace.specs.Passes.{Lines}
 use Rattle.scenario_text.specs.FloodParts.{knows}
 use Rattle.scenario_text.specs.ScenarioParts.{ScenarioParts}
-use Rattle.scenario_text.specs.Faults.{first_fault, unless_fault, spelled, in_line, ◌>>=◌, after_lines}
-use Rattle.scenario_text.specs.Reading.{after_line}
+use Rattle.text_readers.specs.Faults.{first_fault, unless_fault, spelled, in_line, ◌>>=◌, after_lines}
+use Rattle.text_readers.specs.Reading.{after_line}
 use Rattle.scenario_text.specs.Payloads.{is_payload, payload}
-use Rattle.scenario_text.specs.Words.{word, is_number, number_at, counted}
-use Rattle.scenario_text.specs.Network.{Drafted, Parts, network_parts, network_line, network_numbers, no_network, is_id, are_ends, has_loss, has_cut, has_capture, has_script_room, with_line, with_loss, with_cut, with_capture, with_script_line, in_range, knows_ids, in_order, is_new, has_room}
-use Rattle.scenario_text.specs.declared.fault.FaultKind.{FaultKind}
-use Rattle.scenario_text.specs.declared.fault.FaultKind.TheVariants.{Range, UnknownNode, Order, Twice, TooMany, Missing, TooBig}
+use Rattle.text_readers.specs.Words.{word, is_number, number_at, counted}
+use Rattle.scenario_text.specs.Network.{Drafted, Parts, network_parts, network_line, network_numbers, no_network, is_id, are_ends}
+use Rattle.scenario_text.specs.Network.{has_loss, has_cut, has_capture, has_script_room, with_line, with_loss, with_cut}
+use Rattle.scenario_text.specs.Network.{with_capture, with_script_line, in_range, knows_ids, in_order, is_new, has_room}
+use Rattle.text_readers.specs.declared.fault.FaultKind.{FaultKind}
+use Rattle.text_readers.specs.declared.fault.FaultKind.TheVariants.{Range, UnknownNode, Order, Twice, TooMany, Missing, TooBig}
 use Rattle.scenario_text.specs.declared.scenario_line.ScenarioLine.{ScenarioLine}
-use Rattle.scenario_text.specs.declared.scenario_line.ScenarioLine.TheVariants.{InNetwork, Profile, Contend, Frames, Host, On, Off, Stream, Leave, Put, Lose, Cut, Capture}
+use Rattle.scenario_text.specs.declared.scenario_line.ScenarioLine.TheVariants.{InNetwork, Profile, Contend, Frames, Host, On, Off}
+use Rattle.scenario_text.specs.declared.scenario_line.ScenarioLine.TheVariants.{Stream, Leave, Put, Lose, Cut, Capture}
 use Rattle.scenario_text.specs.declared.script.ScriptLine.{ScriptLine}
 use Rattle.scenario_text.specs.declared.script.Act.{Act}
 use Rattle.scenario_text.specs.declared.script.Act.TheVariants as act

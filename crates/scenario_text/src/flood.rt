@@ -1,11 +1,11 @@
 ghost use Rattle.std.specs.Prelude.{◌<◌, ◌^◌, length};
 ghost use Rattle.scenario_text.specs.FloodGrammar.{flood_of};
-ghost use Rattle.scenario_text.specs.Faults.{Gives};
+ghost use Rattle.text_readers.specs.Faults.{Gives};
 
 use crate::flood_draft::FloodDraft;
-use crate::reading::read_lines;
 use crate::{FaultKind, FloodText, ParseFault};
 use std::alloc::Global;
+use text_readers::read_lines;
 
 /// Reads a flood text of fewer than 2^31 bytes. `Line` names the first line that is refused and why, or, with the
 /// number of lines plus 1, what is missing at the end.

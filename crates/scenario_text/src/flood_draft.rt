@@ -1,12 +1,10 @@
 ghost use Rattle.std.specs.Prelude.{◌≡◌, IfOk, OnOk};
-ghost use Rattle.scenario_text.specs.Faults.{Refuses, RefusesBy};
+ghost use Rattle.text_readers.specs.Faults.{Refuses, RefusesBy};
 ghost use Rattle.scenario_text.specs.FloodGrammar.{no_flood, rule_fault, with_flood_line, after_words, parts_of};
 ghost use Rattle.scenario_text.specs.FloodDrafts.{IsFlood};
 ghost use Rattle.scenario_text.specs.Network.{network_parts};
 ghost use Rattle.scenario_text.specs.declared.flood_line.FloodLine.TheVariants.{Lose, Start};
 
-use crate::draft::Draft;
-use crate::fault::{Refusal, refuse_unless};
 use crate::flood_line::FloodLine;
 use crate::known_nodes::{are_two_ids, is_id};
 use crate::network_draft::NetworkDraft;
@@ -14,6 +12,7 @@ use crate::{FaultKind, FloodText};
 use lwb_base::{Memory, NodeId};
 use std::alloc::Global;
 use std::marker::Model;
+use text_readers::{Draft, Refusal, refuse_unless};
 
 /// What the lines of a flood text say so far.
 #[derive(Drop)]

@@ -1,11 +1,10 @@
 ghost use Rattle.std.specs.Prelude.{◌≡◌, map};
-ghost use Rattle.scenario_text.specs.Faults.{spelled};
+ghost use Rattle.text_readers.specs.Faults.{spelled};
 ghost use Rattle.scenario_text.specs.FloodGrammar.{flood_line as flood_line_of, flood_numbers};
 
 use crate::FaultKind;
 use crate::network_line::NetworkLine;
-use crate::numbers::{one_number, three_numbers};
-use crate::words::{is, word};
+use text_readers::{is, one_number, three_numbers, word};
 
 /// A line of a flood text, with its numbers as they stand there.
 #[derive(Clone, Copy, Debug, PartialEq, Eq)]

@@ -25,7 +25,13 @@ impl Model for FloodText {
 
     ghost view = { λ t. record { sends = t.sends; nodes = t.nodes.items; rates = t.rates.items; trace = t.trace.lines; start = t.start } };
 
-    ghost invariant = { λ t. IsSound (record { sends = t.sends; nodes = t.nodes.items; rates = t.rates.items; trace = t.trace.lines; start = t.start }) × IsSealed t.trace t.nodes.items };
+    ghost invariant = { λ t. IsSound (record {
+      sends = t.sends;
+      nodes = t.nodes.items;
+      rates = t.rates.items;
+      trace = t.trace.lines;
+      start = t.start;
+    }) × IsSealed t.trace t.nodes.items };
 }
 
 impl FloodText {

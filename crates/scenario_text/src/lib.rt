@@ -1,8 +1,6 @@
 //! Texts of floods and scenarios: what they say, and the first line that is refused.
 #![tactic(auto)]
 
-mod draft;
-mod fault;
 mod flood;
 mod flood_draft;
 mod flood_line;
@@ -15,20 +13,16 @@ mod list_writers;
 mod network;
 mod network_draft;
 mod network_line;
-mod numbers;
 mod parsing;
 mod payloads;
 mod printing;
 mod rates;
-mod reading;
 mod scenario;
 mod scenario_draft;
 mod scenario_line;
 mod script;
 mod script_writers;
-mod words;
 
-pub use fault::{FaultKind, ParseFault};
 pub use flood::parse_flood;
 pub use flood_text::FloodText;
 pub use lines::{NodeLine, RateLine};
@@ -36,3 +30,4 @@ pub use parsing::parse;
 pub use printing::print;
 pub use scenario::Scenario;
 pub use script::{Act, ScriptLine};
+pub use text_readers::{FaultKind, ParseFault};

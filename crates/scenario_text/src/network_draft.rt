@@ -1,12 +1,12 @@
 ghost use Rattle.std.specs.Prelude.{◌≡◌, ◌≢◌, ◌&&◌, not, if◌then◌else◌, [], ◌∷◌, Ok, Some, None, true, IfOk, OnOk};
 ghost use Rattle.scenario_text.specs.FloodDrafts.{IsNetwork};
 ghost use Rattle.scenario_text.specs.FloodParts.{knows as knows_of};
-ghost use Rattle.scenario_text.specs.Network.{no_network, network_parts, network_fault, with_line, with_node, with_link, has_link, has_loss, with_loss, has_cut, with_cut, has_capture, with_capture, with_script_line, has_script_room};
-ghost use Rattle.scenario_text.specs.Faults.{first_fault, Refuses, RefusesBy};
-ghost use Rattle.scenario_text.specs.declared.fault.FaultKind.TheVariants.{Twice, TooMany};
+ghost use Rattle.scenario_text.specs.Network.{no_network, network_parts, network_fault, has_link, has_loss, has_cut, has_capture};
+ghost use Rattle.scenario_text.specs.Network.{has_script_room, with_line, with_node, with_link, with_loss, with_cut, with_capture, with_script_line};
+ghost use Rattle.text_readers.specs.Faults.{first_fault, Refuses, RefusesBy};
+ghost use Rattle.text_readers.specs.declared.fault.FaultKind.TheVariants.{Twice, TooMany};
 ghost use Rattle.scenario_text.specs.declared.network_line.NetworkLine.TheVariants.{Sends, Node, Rate, Link, Pair};
 
-use crate::fault::{Refusal, refuse_unless};
 use crate::known_nodes::{are_two_ids, count_below, ids, is_id, known, node_id, two_nodes};
 use crate::network::Network;
 use crate::network_line::NetworkLine;
@@ -16,6 +16,7 @@ use link_trace::Trace;
 use lwb_base::{Memory, NodeId};
 use std::alloc::Global;
 use std::marker::Model;
+use text_readers::{Refusal, refuse_unless};
 
 /// What the lines that both texts have say so far. The rates stand in the order of the text.
 #[derive(Drop)]

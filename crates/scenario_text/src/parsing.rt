@@ -1,12 +1,12 @@
 ghost use Rattle.std.specs.Prelude.{◌<◌, ◌^◌, length};
-ghost use Rattle.scenario_text.specs.Faults.{Gives};
+ghost use Rattle.text_readers.specs.Faults.{Gives};
 ghost use Rattle.scenario_text.specs.ScenarioGrammar.{scenario_of};
 
 use crate::ParseFault;
-use crate::reading::read_lines;
 use crate::scenario::Scenario;
 use crate::scenario_draft::ScenarioDraft;
 use std::alloc::Global;
+use text_readers::read_lines;
 
 /// Reads the text of a scenario of fewer than 2^31 bytes. `Line` names the first line that is refused and why, or, with
 /// the number of lines plus 1, what is missing or too big at the end.

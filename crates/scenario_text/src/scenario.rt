@@ -28,12 +28,30 @@ impl Model for Scenario {
 
     ghost Value = { ScenarioParts };
 
-    ghost view = { λ s. record { profile = s.profile; frames = s.frames; sends = s.sends; nodes = s.nodes.items; rates = s.rates.items; hosts = s.hosts.items; trace = s.trace.lines; script = s.script.items } };
+    ghost view = { λ s. record {
+      profile = s.profile;
+      frames = s.frames;
+      sends = s.sends;
+      nodes = s.nodes.items;
+      rates = s.rates.items;
+      hosts = s.hosts.items;
+      trace = s.trace.lines;
+      script = s.script.items;
+    } };
 
     ghost use Rattle.scenario_text.specs.ScenarioGrammar.{IsScenario};
     ghost use Rattle.scenario_text.specs.FloodParts.{IsSealed};
 
-    ghost invariant = { λ s. IsScenario (record { profile = s.profile; frames = s.frames; sends = s.sends; nodes = s.nodes.items; rates = s.rates.items; hosts = s.hosts.items; trace = s.trace.lines; script = s.script.items }) × IsSealed s.trace s.nodes.items };
+    ghost invariant = { λ s. IsScenario (record {
+      profile = s.profile;
+      frames = s.frames;
+      sends = s.sends;
+      nodes = s.nodes.items;
+      rates = s.rates.items;
+      hosts = s.hosts.items;
+      trace = s.trace.lines;
+      script = s.script.items;
+    }) × IsSealed s.trace s.nodes.items };
 }
 
 impl Scenario {
@@ -45,8 +63,26 @@ impl Scenario {
         hosts: Vec<NodeId>,
         script: Vec<ScriptLine>,
     ) -> Scenario
-        requires { IsScenario (record { profile = profile; frames = frames; sends = network.sends; nodes = network.nodes; rates = network.rates; hosts = hosts.items; trace = network.trace; script = script.items }) }
-        ensures { result ≡ record { profile = profile; frames = frames; sends = network.sends; nodes = network.nodes; rates = network.rates; hosts = hosts.items; trace = network.trace; script = script.items } }
+        requires { IsScenario (record {
+          profile = profile;
+          frames = frames;
+          sends = network.sends;
+          nodes = network.nodes;
+          rates = network.rates;
+          hosts = hosts.items;
+          trace = network.trace;
+          script = script.items;
+        }) }
+        ensures { result ≡ record {
+          profile = profile;
+          frames = frames;
+          sends = network.sends;
+          nodes = network.nodes;
+          rates = network.rates;
+          hosts = hosts.items;
+          trace = network.trace;
+          script = script.items;
+        } }
     {
         let Network {
             sends,
@@ -79,9 +115,27 @@ impl Scenario {
         trace: Trace,
         script: Vec<ScriptLine>,
     ) -> Scenario
-        requires said { IsSaid (record { profile = profile.now; frames = frames; sends = sends; nodes = nodes.items; rates = rates.items; hosts = hosts.items; trace = trace.lines; script = script.items }) }
+        requires said { IsSaid (record {
+          profile = profile.now;
+          frames = frames;
+          sends = sends;
+          nodes = nodes.items;
+          rates = rates.items;
+          hosts = hosts.items;
+          trace = trace.lines;
+          script = script.items;
+        }) }
         requires sealed { IsSealed trace nodes.items }
-        ensures { result ≡ record { profile = profile.now; frames = frames; sends = sends; nodes = nodes.items; rates = rates.items; hosts = hosts.items; trace = trace.lines; script = script.items } }
+        ensures { result ≡ record {
+          profile = profile.now;
+          frames = frames;
+          sends = sends;
+          nodes = nodes.items;
+          rates = rates.items;
+          hosts = hosts.items;
+          trace = trace.lines;
+          script = script.items;
+        } }
     {
         Scenario {
             profile: *profile,

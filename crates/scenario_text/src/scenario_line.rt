@@ -1,14 +1,16 @@
 ghost use Rattle.std.specs.Prelude.{◌≡◌, map};
-ghost use Rattle.scenario_text.specs.Faults.{spelled};
-ghost use Rattle.scenario_text.specs.ScenarioGrammar.{scenario_line as scenario_line_of, script_line as script_line_of, step_line as step_line_of, put_line as put_line_of, scenario_numbers, is_profile_two};
+ghost use Rattle.text_readers.specs.Faults.{spelled};
+ghost use Rattle.scenario_text.specs.ScenarioGrammar.{scenario_line as scenario_line_of, script_line as script_line_of};
+ghost use Rattle.scenario_text.specs.ScenarioGrammar.{step_line as step_line_of, put_line as put_line_of, scenario_numbers, is_profile_two};
 
 use crate::FaultKind;
-use crate::fault::refuse_unless;
 use crate::network_line::NetworkLine;
-use crate::numbers::{five_numbers, four_numbers, number, one_number, three_numbers, two_numbers};
 use crate::payloads::{is_payload, payload};
-use crate::words::{is, word};
 use lwb_base::Payload;
+use text_readers::{
+    five_numbers, four_numbers, is, number, one_number, refuse_unless, three_numbers, two_numbers,
+    word,
+};
 
 /// A line of a scenario, with its numbers as they stand there.
 #[derive(Drop)]

@@ -1,7 +1,7 @@
 use Rattle.std.proofs.Common.{◌≡◌, ◌∙◌, sym, ℕ, List, Ok, ap}
 use Rattle.std.specs.Str.Lines.{lines}
-use Rattle.scenario_text.specs.Faults.{after_lines}
-use Rattle.scenario_text.specs.Reading.{after_line}
+use Rattle.text_readers.specs.Faults.{after_lines}
+use Rattle.text_readers.specs.Reading.{after_line}
 use Rattle.scenario_text.specs.FloodGrammar.{Flood, after_words, no_flood}
 use Rattle.scenario_text.proofs.FloodKeeps.{text_sound}
 use Rattle.scenario_text.proofs.flood.parse_flood.Goals as goal

@@ -1,10 +1,10 @@
 use Rattle.std.proofs.Common.{◌≡◌, ◌+◌, ◌∙◌, sym, ℕ, List, Result, Ok, length, ap}
 use Rattle.std.specs.Str.Lines.{lines}
-use Rattle.scenario_text.specs.Faults.{after_lines, in_line, ◌>>=◌}
-use Rattle.scenario_text.specs.Reading.{after_line}
+use Rattle.text_readers.specs.Faults.{after_lines, in_line, ◌>>=◌}
+use Rattle.text_readers.specs.Reading.{after_line}
 use Rattle.scenario_text.specs.ScenarioGrammar.{Scenario, scenario_of, after_words, no_scenario, finished}
 use Rattle.scenario_text.specs.ScenarioParts.{ScenarioParts}
-use Rattle.scenario_text.specs.declared.fault.FaultKind.{FaultKind}
+use Rattle.text_readers.specs.declared.fault.FaultKind.{FaultKind}
 use Rattle.scenario_text.proofs.ScenarioKeeps.{text_sound}
 use Rattle.scenario_text.proofs.parsing.parse.Goals as goal
 

@@ -1,8 +1,8 @@
 use Rattle.std.proofs.Common.{◌≡◌, true, Ok, Err, ◌∙◌, sym, ap, refl}
 use Rattle.std.proofs.lemmas.Result.{err_from_is_err_and}
 use Rattle.scenario_text.specs.Payloads.{is_payload, payload}
-use Rattle.scenario_text.specs.Words.{word}
-use Rattle.scenario_text.proofs.NumbersRead.{bytes_of}
+use Rattle.text_readers.specs.Words.{word}
+use Rattle.text_readers.proofs.NumbersRead.{bytes_of}
 use Rattle.scenario_text.proofs.WordsRead.{put_read}
 use Rattle.scenario_text.proofs.scenario_line.put_line.Goals as goal
 

@@ -1,9 +1,0 @@
-use Rattle.std.proofs.lemmas.List.{take_rest}
-use Rattle.scenario_text.proofs.LineFeeds.{line_ends, line_is_last}
-use Rattle.deadline_plan.proofs.words.first_line.Goals as goal
-
-pub returns-in-Some-clause-cut : goal.returns-in-Some-clause-cut
-returns-in-Some-clause-cut c = rw (c.without_return.ensures, take_rest) (line_ends c.args.bytes.now c.in-Some.end c.in-Some.ensures)
-
-pub returns-in-None-clause-cut : goal.returns-in-None-clause-cut
-returns-in-None-clause-cut c = line_is_last c.args.bytes.now c.requires c.in-None.ensures

@@ -1,0 +1,7 @@
+-- kept for the crates above
+pub mod AllowedLines
+pub mod LineFeeds
+pub mod LinesRead
+pub mod NumbersRead
+-- for this crate alone
+pub mod Digits

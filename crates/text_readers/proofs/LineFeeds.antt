@@ -1,0 +1,50 @@
+-- Lines and words, as the code finds them.
+use Rattle.std.proofs.Common.{◌≡◌, ℕ, ◌+◌, ◌<◌, List, [], ◌∷◌, Bool, true, false, not, nat_lt, ◌==◌, Some, None, Result, Ok, Err}
+use Rattle.std.proofs.Common.{length, take, drop, position, MatchResult, is_ok, refl, sym, ◌∙◌, ap, arith, cond, All}
+use Rattle.std.proofs.lemmas.Bool.{ltb-true, ltb-false, false_from_ne_true, cond-false, ne_eqb, not-true}
+use Rattle.std.proofs.lemmas.List.Splits.{slice_split_first, slice_split_none, length-slice_split}
+use Rattle.std.proofs.lemmas.List.Sums.{prefix_len_passes}
+use Rattle.std.proofs.lemmas.Option.{cond_some}
+use Rattle.std.proofs.lemmas.Str.{IsUtf8-from_is_utf8, is_utf8-from_IsUtf8}
+use Rattle.std.specs.List.{slice_split, position_or_len, before_first, after_first}
+use Rattle.std.specs.Str.{IsUtf8, is_utf8}
+use Rattle.std.specs.Str.Lines.{lines, lines_of_parts, strip_carriage_return}
+
+abbrev pub is_feed : ℕ → Bool
+is_feed b = b == 10
+
+-- a part that others follow is a line
+pub part_is_line : (part : List ℕ) (parts : List (List ℕ)) → 0 < length parts
+    → lines_of_parts (part ∷ parts) ≡ strip_carriage_return part ∷ lines_of_parts parts
+part_is_line part [] some = absurd (omega arith)
+part_is_line part (next ∷ parts) some = refl
+
+-- the first line ends at the first line feed
+pub line_ends : (bytes : List ℕ) (end : ℕ) → Some end ≡ position is_feed bytes → lines bytes ≡ strip_carriage_return (take end bytes)
+    ∷ lines (drop (end + 1) bytes)
+line_ends bytes end is =
+    let at = cond_some (nat_lt (position_or_len is_feed bytes) (length bytes)) (position_or_len is_feed bytes) end (sym is) in
+    let cut = slice_split_first is_feed bytes 0 (ltb-true _ _ at.0) in
+    let more : 0 < length (slice_split is_feed (after_first is_feed bytes)) = omega (arith, length-slice_split is_feed (after_first is_feed bytes)) in
+    ap lines_of_parts cut ∙ part_is_line (before_first is_feed bytes) (slice_split is_feed (after_first is_feed bytes)) more
+    ∙ ap (λ (n : ℕ). strip_carriage_return (take n bytes) ∷ lines (drop (n + 1) bytes)) at.1
+
+none_is : (n : ℕ) (b : Bool) → None ≡ cond b (Some n) None → b ≡ false
+none_is n true is = cc
+none_is n false is = refl
+
+one_part : (bytes : List ℕ) → 0 < length bytes → lines_of_parts (bytes ∷ []) ≡ bytes ∷ []
+one_part bytes some = cond-false (length bytes == 0) [] (bytes ∷ []) (ne_eqb (length bytes) 0 (λ none. omega arith))
+
+-- without a line feed the whole is the one line
+pub line_is_last : (bytes : List ℕ) → 0 < length bytes → None ≡ position is_feed bytes → lines bytes ≡ bytes ∷ []
+line_is_last bytes some is =
+    let past = ltb-false _ _ (none_is (position_or_len is_feed bytes) (nat_lt (position_or_len is_feed bytes) (length bytes)) is) in
+    let passes : All (λ b. is_feed b ≡ false) bytes =
+    λ k d below. not-true _ (prefix_len_passes (λ b. not (is_feed b)) bytes k d (omega (arith, past, below))) in
+    ap lines_of_parts (slice_split_none is_feed bytes passes) ∙ one_part bytes some
+
+pub is_text : {S E : Type 0} (bytes : List ℕ) (P : S → Type 0) (Q : E → Type 0) (r : Result S E)
+    → MatchResult r (λ s. P s × IsUtf8 bytes) (λ e. (IsUtf8 bytes → ⊥) × Q e) → is_ok r ≡ is_utf8 bytes
+is_text bytes P Q (Ok s) holds = sym (is_utf8-from_IsUtf8 bytes holds.1)
+is_text bytes P Q (Err e) holds = sym (false_from_ne_true (is_utf8 bytes) (λ is. holds.0 (IsUtf8-from_is_utf8 bytes is)))

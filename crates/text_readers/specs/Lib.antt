@@ -1,0 +1,4 @@
+pub mod FaultNames
+pub mod Faults
+pub mod Words
+pub mod Reading

@@ -1,0 +1,16 @@
+//! Texts that are read line by line: their words and numbers, and the first line that is refused.
+#![tactic(auto)]
+
+mod draft;
+mod fault;
+mod numbers;
+mod reading;
+mod words;
+
+pub use draft::Draft;
+pub use fault::{FaultKind, ParseFault, Refusal, refuse_unless};
+pub use numbers::{
+    five_numbers, four_numbers, number, one_number, signed_number, three_numbers, two_numbers,
+};
+pub use reading::read_lines;
+pub use words::{is, word};

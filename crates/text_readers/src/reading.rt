@@ -1,0 +1,45 @@
+ghost use Rattle.std.specs.Prelude.{◌≡◌, ◌<◌, ◌≤◌, ◌^◌, ℕ, IfOk, length};
+ghost use Rattle.std.specs.Str.Lines.{lines};
+ghost use Rattle.text_readers.specs.Faults.{after_lines};
+ghost use Rattle.text_readers.specs.Reading.{after_line, Reads, Drafts};
+
+use crate::draft::Draft;
+use crate::fault::{Refusal, refuse_unless};
+use crate::words::{first_line, is_skipped, is_text, words};
+use crate::{FaultKind, ParseFault};
+use std::alloc::Global;
+
+/// Goes on from a draft by all lines of a text of fewer than 2^31 bytes. The draft behind them comes with their number,
+/// and `Line` names the first line that is refused and why.
+pub fn read_lines<D: Draft>(alloc: Global, draft: D, bytes: &[u8]) -> Result<(D, u32), ParseFault>
+    requires { length bytes.now < 2 ^ 31 }
+    ensures draft { Drafts result (after_lines (after_line D.after) 1 draft (lines bytes.now)) }
+    ensures count { IfOk result (λ d. (d.1 ≡ length (lines bytes.now)) × (d.1 ≤ length bytes.now)) }
+{
+    let mut draft = draft;
+    let mut rest = bytes;
+    let mut count = 0;
+    while !rest.is_empty() {
+        let (line, others) = first_line(rest);
+        match read_line(alloc, &mut draft, line) {
+            Ok(()) => {}
+            Err(refusal) => return Err(refusal.in_line(count + 1)),
+        }
+        rest = others;
+        count += 1;
+    }
+    Ok((draft, count))
+}
+
+// Goes on by one line, unless it is refused.
+#[tactic(auto, unfolding(crate::specs::Reading::after_line))]
+fn read_line<D: Draft>(alloc: Global, draft: &mut D, line: &[u8]) -> Result<(), Refusal>
+    ensures { Reads result draft.new (after_line D.after draft.old line.now) }
+{
+    let words = words(alloc, line)?;
+    if is_skipped(&words) {
+        return Ok(());
+    }
+    refuse_unless(is_text(line), FaultKind::NotUtf8)?;
+    draft.read(&words)
+}

@@ -1,0 +1,81 @@
+ghost use Rattle.std.specs.Prelude.{◌≡◌, ◌<◌, ◌==◌, ℕ, ◌∷◌, IfOk, position, length, map};
+ghost use Rattle.std.specs.Str.{bytes_eq, is_utf8 as is_utf8_of};
+ghost use Rattle.std.specs.Str.Lines.{lines, strip_carriage_return};
+ghost use Rattle.text_readers.specs.Words.{is_blank as is_blank_of, words as words_of, word as word_of, is_skipped as is_skipped_of};
+
+use lwb_base::Memory;
+use std::alloc::Global;
+
+/// The first line, without what ends it, and what follows.
+pub fn first_line(bytes: &[u8]) -> (&[u8], &[u8])
+    requires { 0 < length bytes.now }
+    ensures cut { lines bytes.now ≡ result.0.now ∷ lines result.1.now }
+    ensures shorter { length result.1.now < length bytes.now }
+{
+    match line_feed(bytes) {
+        Some(end) => (without_return(&bytes[..end]), &bytes[end + 1..]),
+        None => (bytes, &[]),
+    }
+}
+
+fn line_feed(bytes: &[u8]) -> Option<usize>
+    ensures { result ≡ position (λ b. b == 10) bytes.now }
+{
+    bytes.iter().position(|b| *b == b'\n')
+}
+
+// Without the one carriage return at its end.
+fn without_return(line: &[u8]) -> &[u8]
+    ensures { result.now ≡ strip_carriage_return line.now }
+{
+    match line {
+        [front @ .., b'\r'] => front,
+        _ => line,
+    }
+}
+
+fn is_blank(byte: u8) -> bool
+    ensures { result ≡ is_blank_of byte }
+{
+    byte == b' ' || byte == b'\t'
+}
+
+/// The words of a line, which blanks part.
+pub fn words(alloc: Global, line: &[u8]) -> Result<Vec<&[u8]>, Memory>
+    ensures { IfOk result (λ v. map (λ w. w.now) v.items ≡ words_of line.now) }
+{
+    let words = line
+        .split(|b| is_blank(*b))
+        .filter(|w| !w.is_empty())
+        .collect(alloc)?;
+    Ok(words)
+}
+
+/// Word i, where the first is word 0, or nothing.
+pub fn word<'a>(words: &[&'a [u8]], i: usize) -> &'a [u8]
+    ensures { result.now ≡ word_of (map (λ w. w.now) words.now) i }
+{
+    match words.get(i) {
+        Some(word) => word,
+        None => &[],
+    }
+}
+
+/// Whether there are no words, or the first begins with `#`.
+pub fn is_skipped(words: &[&[u8]]) -> bool
+    ensures { result ≡ is_skipped_of (map (λ w. w.now) words.now) }
+{
+    words.is_empty() || word(words, 0).first() == Some(&b'#')
+}
+
+pub fn is_text(line: &[u8]) -> bool
+    ensures { result ≡ is_utf8_of line.now }
+{
+    str::from_utf8(line).is_ok()
+}
+
+pub fn is(word: &[u8], letters: &[u8]) -> bool
+    ensures { result ≡ bytes_eq word.now letters.now }
+{
+    word == letters
+}
