@@ -4,7 +4,7 @@ use Rattle.std.specs.Result.{result_err}
 use Rattle.std.proofs.lemmas.List.{append-nil}
 use Rattle.std.specs.Io.KnownBytes.{Consumes, IsAtEnd}
 use Rattle.lwb_base.specs.declared.read.TheConstants.{INPUT_LIMIT}
-use Rattle.scenario_text.specs.declared.fault.FaultKind.{FaultKind}
+use Rattle.text_readers.specs.declared.fault.FaultKind.{FaultKind}
 use Rattle.air_log.specs.declared.entry.Entry.{Entry}
 use Rattle.replay_tool.specs.Commands.{Asks, reads, IsTextOf, HasFault}
 use Rattle.replay_tool.specs.CommandLine.{PartWritten, WholeRead, IsInput, IsFaultLine, IsComplete}

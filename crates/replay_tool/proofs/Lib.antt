@@ -3,7 +3,6 @@ pub mod Words
 pub mod Due
 pub mod StatedRuns
 pub mod ReportLines
-pub mod EnergyLines
-pub mod CostLines
+pub mod NodeLines
 pub mod StreamsDecided
 pub mod OwnersDiffer

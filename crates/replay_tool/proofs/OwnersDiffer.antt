@@ -1,27 +1,28 @@
 -- A text of streams has no owner twice.
 use Rattle.std.proofs.Common.{◌≡◌, ℕ, ◌+◌, ◌-◌, List, [], ◌∷◌, ◌++◌, false, not, Option, Some, None, Result, Ok, Err, IfOk, length, drop, take, get_or, inl}
 use Rattle.std.proofs.Common.{inr, refl, sym, ◌∙◌, ap, subst, arith}
-use Rattle.std.proofs.lemmas.Bool.{not-true, cond_both, cases_lt}
+use Rattle.std.proofs.lemmas.Bool.{not-true, cases_lt}
 use Rattle.std.proofs.lemmas.List.{length-append, take-append-le, get_or_append_left, get_or-append_right, take_all}
 use Rattle.std.specs.List.{list_all}
 use Rattle.std.specs.Option.{ok_or}
-use Rattle.std.specs.Str.{is_utf8}
 use Rattle.std.specs.Str.Lines.{lines}
 use Rattle.lwb_base.specs.Messages.{code}
-use Rattle.scenario_text.specs.Faults.{after_lines, in_line, ◌>>=◌}
-use Rattle.scenario_text.specs.Words.{words, is_skipped, is_number}
-use Rattle.scenario_text.specs.declared.fault.FaultKind.{FaultKind}
-use Rattle.scenario_text.specs.declared.fault.FaultKind.TheVariants.{NotUtf8, BadNumber, Range, Twice, Missing}
-use Rattle.scenario_text.proofs.FloodKeeps.{passed, unless_keeps, at_ok}
+use Rattle.text_readers.specs.Faults.{after_lines, in_line, unless_fault, ◌>>=◌}
+use Rattle.text_readers.specs.Reading.{after_line}
+use Rattle.text_readers.specs.Words.{words, is_number}
+use Rattle.text_readers.specs.declared.fault.FaultKind.{FaultKind}
+use Rattle.text_readers.specs.declared.fault.FaultKind.TheVariants.{Range, Twice, Missing}
+use Rattle.text_readers.proofs.AllowedLines.{passed, unless_keeps, spelled_keeps, at_ok}
+use Rattle.text_readers.proofs.LinesRead.{line_keeps, lines_keep}
 use Rattle.deadline_plan.specs.Admission.{Plan, has}
-use Rattle.deadline_plan.specs.DeadlineText.{Draft, no_lines, are_in_range, rule_fault, with_line, after_words, after_line, deadline_line, parts_of, finished}
+use Rattle.deadline_plan.specs.DeadlineText.{Drafted, no_lines, are_in_range, rule_fault, with_line, after_words, deadline_line, parts_of, finished}
 use Rattle.deadline_plan.specs.DeadlineText.{plan_of}
 use Rattle.deadline_plan.specs.declared.line.DeadlineLine.{DeadlineLine}
 use Rattle.deadline_plan.specs.declared.line.DeadlineLine.TheVariants.{Slots, Frames, Stream}
 use Rattle.deadline_plan.specs.declared.stream.DeadlineStream.{DeadlineStream}
 use Rattle.replay_tool.specs.DeadlineReport.{Differ}
 
-abbrev DraftDiffers : Draft → Type 0
+abbrev DraftDiffers : Drafted → Type 0
 DraftDiffers d = Differ d.streams
 
 -- a stream more, whose owner is new
@@ -39,7 +40,7 @@ differ_more ss s differ new i t below at =
           rw (front, own) new
     ]
 
-line_differs : (d : Draft) (l : DeadlineLine) → DraftDiffers d → rule_fault d l ≡ None → DraftDiffers (with_line d l)
+line_differs : (d : Drafted) (l : DeadlineLine) → DraftDiffers d → rule_fault d l ≡ None → DraftDiffers (with_line d l)
 line_differs d (Slots n) differ none = differ
 line_differs d (Frames n) differ none = differ
 line_differs d (Stream node stream start period deadline) differ none =
@@ -47,29 +48,19 @@ line_differs d (Stream node stream start period deadline) differ none =
     let fresh = passed (not (has d.streams (code node stream))) Twice _ range.1 in
     differ_more d.streams (record { owner = code node stream; start = start; period = period; deadline = deadline }) differ (not-true _ fresh.0)
 
-words_differ : (d : Draft) (ws : List (List ℕ)) (o : Option DeadlineLine) → DraftDiffers d → IfOk (after_words d ws o) DraftDiffers
-words_differ d ws None differ = tt
-words_differ d ws (Some l) differ =
-    cond_both (list_all is_number (drop 1 ws)) _ (Err BadNumber) (λ (r : Result Draft FaultKind). IfOk r DraftDiffers)
-    (λ is. unless_keeps DraftDiffers (rule_fault d l) (with_line d l) (λ none. line_differs d l differ none)) (λ not. tt)
+words_differ : (d : Drafted) (ws : List (List ℕ)) → DraftDiffers d → IfOk (after_words d ws) DraftDiffers
+unfolding after_words
+words_differ d ws differ =
+    spelled_keeps DraftDiffers (deadline_line ws) (λ _. list_all is_number (drop 1 ws)) (λ l. unless_fault (rule_fault d l) (with_line d l))
+    (λ l is. unless_keeps DraftDiffers (rule_fault d l) (with_line d l) (λ none. line_differs d l differ none))
 
-read_differs : (d : Draft) (line : List ℕ) → DraftDiffers d → IfOk (after_line d line) DraftDiffers
-unfolding after_line
-read_differs d line differ =
-    cond_both (is_skipped (words line)) (Ok d) _ (λ (r : Result Draft FaultKind). IfOk r DraftDiffers) (λ is. differ)
-    (λ not. cond_both (is_utf8 line) (after_words d (words line) (deadline_line (words line))) (Err NotUtf8)
-    (λ (r : Result Draft FaultKind). IfOk r DraftDiffers) (λ is. words_differ d (words line) _ differ) (λ not. tt))
+none_differ : Differ []
+none_differ i s below at = absurd (omega (arith, below))
 
--- behind a line that was answered so
-next_differs : (n : ℕ) (r : Result Draft FaultKind) (ls : List (List ℕ))
-    → ((e : Draft) → DraftDiffers e → IfOk (after_lines after_line (n + 1) e ls) DraftDiffers) → IfOk r DraftDiffers
-    → IfOk (in_line n r >>= (λ e. after_lines after_line (n + 1) e ls)) DraftDiffers
-next_differs n (Ok e) ls others is = others e is
-next_differs n (Err k) ls others is = tt
-
-all_differ : (n : ℕ) (d : Draft) (ls : List (List ℕ)) → DraftDiffers d → IfOk (after_lines after_line n d ls) DraftDiffers
-all_differ n d [] differ = differ
-all_differ n d (l ∷ ls) differ = next_differs n (after_line d l) ls (λ e is. all_differ (n + 1) e ls is) (read_differs d l differ)
+lines_differ : (d : Drafted) (ls : List (List ℕ)) → after_lines (after_line after_words) 1 no_lines ls ≡ Ok d → DraftDiffers d
+lines_differ d ls is =
+    lines_keep DraftDiffers (after_line after_words)
+    (λ e line differ. line_keeps DraftDiffers after_words e line differ (words_differ e (words line) differ)) 1 no_lines d ls none_differ is
 
 -- and behind the last
 abbrev PlanDiffers : Plan → Type 0
@@ -82,13 +73,12 @@ finished_differs n (Some slots) None ss differ = tt
 finished_differs n (Some slots) (Some frames) [] differ = tt
 finished_differs n (Some slots) (Some frames) (s ∷ ss) differ = differ
 
-plan_differs : (n : ℕ) (r : Result Draft (ℕ × FaultKind)) → IfOk r DraftDiffers → IfOk (r >>= (λ d. in_line n (finished d))) PlanDiffers
-plan_differs n (Ok d) differ = finished_differs n d.slots d.frames d.streams differ
+plan_differs : (n : ℕ) (r : Result Drafted (ℕ × FaultKind)) → ((d : Drafted) → r ≡ Ok d → DraftDiffers d)
+    → IfOk (r >>= (λ d. in_line n (finished d))) PlanDiffers
+plan_differs n (Ok d) differ = finished_differs n d.slots d.frames d.streams (differ d refl)
 plan_differs n (Err e) differ = tt
 
-none_differ : Differ []
-none_differ i s below at = absurd (omega (arith, below))
-
 pub owners_differ : (b : List ℕ) (p : Plan) → plan_of b ≡ Ok p → Differ p.streams
-owners_differ b p is = at_ok PlanDiffers (plan_of b) p is
-    (plan_differs (length (lines b) + 1) (after_lines after_line 1 no_lines (lines b)) (all_differ 1 no_lines (lines b) none_differ))
+owners_differ b p is =
+    at_ok PlanDiffers (plan_of b) p is
+    (plan_differs (length (lines b) + 1) (after_lines (after_line after_words) 1 no_lines (lines b)) (λ d read. lines_differ d (lines b) read))

@@ -3,8 +3,8 @@ use Rattle.std.specs.Prelude.{◌≡◌, ◌<◌, ◌≤◌, ◌+◌, ◌⊎◌,
 use Rattle.std.specs.Io.KnownBytes.{Appends, Consumes, IsAtEnd}
 use Rattle.lwb_base.specs.Reading.{Took}
 use Rattle.lwb_base.specs.declared.read.TheConstants.{INPUT_LIMIT}
-use Rattle.scenario_text.specs.FaultNames.{kind_name}
-use Rattle.scenario_text.specs.declared.fault.FaultKind.{FaultKind}
+use Rattle.text_readers.specs.FaultNames.{kind_name}
+use Rattle.text_readers.specs.declared.fault.FaultKind.{FaultKind}
 use Rattle.air_log.specs.declared.entry.Entry.{Entry}
 use Rattle.replay_tool.specs.Commands.{Asks, reads, IsCommand, IsTextOf, HasFault, usage}
 use Rattle.replay_tool.specs.Reports.{IsReport}

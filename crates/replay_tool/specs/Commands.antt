@@ -3,7 +3,7 @@ use Rattle.std.specs.Prelude.{◌≡◌, ◌<◌, ◌^◌, ℕ, List, [], ◌∷
 use Rattle.std.specs.Result.{result_err}
 use Rattle.scenario_text.specs.FloodGrammar.{flood_of}
 use Rattle.scenario_text.specs.ScenarioGrammar.{scenario_of}
-use Rattle.scenario_text.specs.declared.fault.FaultKind.{FaultKind}
+use Rattle.text_readers.specs.declared.fault.FaultKind.{FaultKind}
 use Rattle.scenario_maker.specs.Made.{IsSize}
 use Rattle.deadline_plan.specs.DeadlineText.{plan_of}
 use Rattle.replay_tool.specs.declared.command.Command.{Command}

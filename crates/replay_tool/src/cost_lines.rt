@@ -1,33 +1,31 @@
-ghost use Rattle.std.specs.Prelude.{◌≡◌, ◌++◌, OnOk, string_bytes};
+ghost use Rattle.std.specs.Prelude.{◌≡◌, ◌++◌, OnOk, true, string_bytes};
 ghost use Rattle.bus_frames.specs.BusRuns.{IsBusRun};
-ghost use Rattle.replay_tool.specs.BusReport.{cost_line, cost_lines};
+ghost use Rattle.scenario_text.specs.FloodParts.{knows};
+ghost use Rattle.scenario_text.specs.ScenarioParts.{ScenarioParts};
+ghost use Rattle.replay_tool.specs.BusReport.{node_cost, cost_lines};
 
-use bus_frames::{Bus, Cost};
-use lwb_base::NodeId;
-use scenario_text::Scenario;
+use bus_frames::Bus;
+use scenario_text::{NodeLine, Scenario};
 use std::alloc::AllocError;
-use std::fmt::Write;
+use text_writers::{write_line, write_lines};
 
 /// Writes a line for each node of the scenario: `cost NODE SENT WINDOWS SCANNED`, by its run on the bus.
 pub fn write_costs(text: &mut String, s: &Scenario, bus: &Bus) -> Result<(), AllocError>
     requires { IsBusRun s.now bus.now }
     ensures { OnOk result (string_bytes text.new ≡ string_bytes text.old ++ cost_lines s.now) }
 {
-    for line in s.nodes() {
-        let node = line.node;
-        // Each node of the scenario has a cost.
-        let cost = bus.cost(node).unwrap();
-        write_cost(text, node, cost)?;
-    }
-    Ok(())
+    write_lines(text, s.nodes(), |text, line| write_cost(text, bus, line))
 }
 
-fn write_cost(text: &mut String, node: NodeId, cost: Cost) -> Result<(), AllocError>
-    ensures { OnOk result (string_bytes text.new ≡ string_bytes text.old ++ cost_line node cost) }
+fn write_cost(text: &mut String, bus: &Bus, line: &NodeLine) -> Result<(), AllocError>
+    ensures { (s : ScenarioParts) → IsBusRun s bus.now → knows s.nodes line.now.node ≡ true
+        → OnOk result (string_bytes text.new ≡ string_bytes text.old ++ node_cost s line.now) }
 {
-    let node = node.number();
-    let sent = cost.sent;
-    let windows = cost.windows;
-    let scanned = cost.scanned;
-    write!(text, "cost {node} {sent} {windows} {scanned}\n")
+    // Each node of the scenario has a cost.
+    let Some(cost) = bus.cost(line.node) else {
+        return Ok(());
+    };
+    let node = u64::from(line.node.number());
+    let scanned = u64::from(cost.scanned);
+    write_line(text, "cost", &[node, cost.sent, cost.windows, scanned])
 }

@@ -5,7 +5,9 @@ ghost use Rattle.replay_tool.specs.DeadlineReport.{answer_line, owners_line, rou
 use deadline_plan::{Admit, DeadlineStream};
 use schedule_codec::Owners;
 use std::alloc::{AllocError, Global};
-use std::fmt::Write;
+use text_writers::{
+    end_line, write_line, write_lines, write_lines_in_places, write_number, write_words,
+};
 
 /// The report of a plan: `admit NODE S` or `refuse NODE S FROM UNTIL DEMAND` for each stream, then `round FRAME CODE ..` for
 /// each frame with an owner.
@@ -25,28 +27,22 @@ pub fn deadline_report(
 fn write_answers(text: &mut String, answers: &[(DeadlineStream, Admit)]) -> Result<(), AllocError>
     ensures { OnOk result (string_bytes text.new ≡ string_bytes text.old ++ flat_map answer_line answers.now) }
 {
-    for (stream, answer) in answers {
-        write_answer(text, stream, answer)?;
-    }
-    Ok(())
+    write_lines(text, answers, write_answer)
 }
 
-fn write_answer(
-    text: &mut String,
-    stream: &DeadlineStream,
-    answer: &Admit,
-) -> Result<(), AllocError>
-    ensures { OnOk result (string_bytes text.new ≡ string_bytes text.old ++ answer_line (stream.now, answer.now)) }
+fn write_answer(text: &mut String, answered: &(DeadlineStream, Admit)) -> Result<(), AllocError>
+    ensures { OnOk result (string_bytes text.new ≡ string_bytes text.old ++ answer_line answered.now) }
 {
-    let node = stream.owner.node().number();
-    let number = stream.owner.stream();
+    let (stream, answer) = answered;
+    let node = u32::from(stream.owner.node().number());
+    let number = u32::from(stream.owner.stream());
     match answer {
-        Admit::Yes => write!(text, "admit {node} {number}\n"),
+        Admit::Yes => write_line(text, "admit", &[node, number]),
         Admit::Over {
             from,
             until,
             demand,
-        } => { write!(text, "refuse {node} {number} {from} {until} {demand}\n") }
+        } => write_line(text, "refuse", &[node, number, *from, *until, *demand]),
         // An owner is nowhere twice in a text, nor are there more streams than can be admitted.
         Admit::Twice | Admit::Full => Ok(()),
     }
@@ -55,10 +51,7 @@ fn write_answer(
 fn write_rounds(text: &mut String, rounds: &[Owners]) -> Result<(), AllocError>
     ensures { OnOk result (string_bytes text.new ≡ string_bytes text.old ++ flat_map round_line (enumerate_from 0 rounds.now)) }
 {
-    for frame in 0..rounds.len() {
-        write_round(text, frame, &rounds[frame])?;
-    }
-    Ok(())
+    write_lines_in_places(text, rounds, write_round)
 }
 
 // Nothing for a frame without an owner.
@@ -68,12 +61,11 @@ fn write_round(text: &mut String, frame: usize, owners: &Owners) -> Result<(), A
     if owners.count() == 0 {
         return Ok(());
     }
-    write!(text, "round {frame}")?;
+    write_words(text, "round", &[frame])?;
     for place in 0..owners.count() {
-        let code = code_at(owners, place);
-        write!(text, " {code}")?;
+        write_number(text, code_at(owners, place))?;
     }
-    write!(text, "\n")
+    end_line(text)
 }
 
 fn code_at(owners: &Owners, place: u8) -> u16

@@ -1,16 +1,18 @@
-ghost use Rattle.std.specs.Prelude.{◌≡◌, ◌++◌, OnOk, string_bytes};
-ghost use Rattle.scenario_text.specs.ScenarioGrammar.{IsScenario};
+ghost use Rattle.std.specs.Prelude.{◌≡◌, ℕ, ◌++◌, Contains, OnOk, Some, flat_map, string_bytes};
+ghost use Rattle.scenario_text.specs.declared.lines.NodeLine.{NodeLine as NodeLineOf};
 ghost use Rattle.scenario_clocks.specs.StatedClocks.{scenario_clock};
 ghost use Rattle.air_log.specs.Lawful.{Lawful};
 ghost use Rattle.air_log.specs.NodeCharges.{charges_in};
+ghost use Rattle.energy_account.specs.Accounts.{line_of};
+ghost use Rattle.energy_account.specs.declared.energy.Energy.{Energy};
 ghost use Rattle.replay_tool.specs.RunReport.{energy_line, energy_lines};
 
 use air_log::{Air, NodeCharge};
-use energy_account::{Account, Energy};
-use lwb_base::{Memory, NodeId};
-use scenario_text::Scenario;
+use energy_account::Account;
+use lwb_base::Memory;
+use scenario_text::{NodeLine, Scenario};
 use std::alloc::{AllocError, Global};
-use std::fmt::Write;
+use text_writers::{write_line, write_lines};
 
 /// Writes a line for each node of the scenario: `energy NODE SENT WINDOWS SCANNED ON`, by the log of its run and what was
 /// counted in it.
@@ -21,30 +23,37 @@ pub fn write_energies(
     air: &Air,
     charges: &[NodeCharge],
 ) -> Result<(), Memory>
-    requires scenario { IsScenario s.now }
     requires lawful { Lawful s.now (scenario_clock s.now) air.now }
     requires charges { charges.now ≡ charges_in s.now (scenario_clock s.now) air.now }
     ensures { OnOk result (string_bytes text.new ≡ string_bytes text.old ++ energy_lines s.now (scenario_clock s.now) air.now) }
 {
+    let nodes = s.nodes();
     let account = Account::of_run(alloc, s, air, charges)?;
-    for line in s.nodes() {
-        let node = line.node;
-        // Each node of the scenario has a line.
-        let energy = account.line(node).unwrap();
-        write_energy(text, node, energy)?;
-    }
+    write_account(text, nodes, &account)?;
     Ok(())
 }
 
-fn write_energy(text: &mut String, node: NodeId, energy: Energy) -> Result<(), AllocError>
-    ensures { OnOk result (string_bytes text.new ≡ string_bytes text.old ++ energy_line node energy) }
+// The line of each of these nodes, which the account has.
+fn write_account(text: &mut String, nodes: &[NodeLine], account: &Account) -> Result<(), AllocError>
+    ensures { (energy : ℕ → Energy) → ((n : NodeLineOf) → Contains nodes.now n → line_of account.now n.node ≡ Some (energy n.node))
+        → OnOk result (string_bytes text.new ≡ string_bytes text.old ++ flat_map (λ n. energy_line n.node (energy n.node)) nodes.now) }
 {
-    let node = node.number();
-    let Energy {
-        sent,
-        windows,
-        scanned,
-        on,
-    } = energy;
-    write!(text, "energy {node} {sent} {windows} {scanned} {on}\n")
+    write_lines(text, nodes, |text, line| write_energy(text, account, line))
+}
+
+fn write_energy(text: &mut String, account: &Account, line: &NodeLine) -> Result<(), AllocError>
+    ensures { (e : Energy) → line_of account.now line.now.node ≡ Some e
+        → OnOk result (string_bytes text.new ≡ string_bytes text.old ++ energy_line line.now.node e) }
+{
+    // Each node of the scenario has a line.
+    let Some(energy) = account.line(line.node) else {
+        return Ok(());
+    };
+    let node = u64::from(line.node.number());
+    let scanned = u64::from(energy.scanned);
+    write_line(
+        text,
+        "energy",
+        &[node, energy.sent, energy.windows, scanned, energy.on],
+    )
 }

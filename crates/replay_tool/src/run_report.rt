@@ -1,10 +1,11 @@
-ghost use Rattle.std.specs.Prelude.{◌≡◌, ◌++◌, IfOk, OnOk, flat_map, string_bytes};
+ghost use Rattle.std.specs.Prelude.{◌≡◌, [], ◌∷◌, ◌++◌, IfOk, OnOk, flat_map, string_bytes};
+ghost use Rattle.text_writers.specs.HexWords.{payload_word};
 ghost use Rattle.replay_tool.specs.RunReport.{delivery_line, drop_line, report_lines};
 
 use bus_rules::{Delivery, DropLine};
+use lwb_base::Payload;
 use std::alloc::{AllocError, Global};
-use std::fmt::Write;
-use text_writers::write_payload;
+use text_writers::{end_line, write_line, write_lines, write_payload, write_words};
 
 /// The report of a run: a `deliver` line for each delivery, then a `drop` line for each packet that was lost before it
 /// was queued.
@@ -24,47 +25,49 @@ pub fn run_report(
 fn write_deliveries(text: &mut String, deliveries: &[Delivery]) -> Result<(), AllocError>
     ensures { OnOk result (string_bytes text.new ≡ string_bytes text.old ++ flat_map delivery_line deliveries.now) }
 {
-    for delivery in deliveries {
-        write_delivery(text, delivery)?;
-    }
-    Ok(())
+    write_lines(text, deliveries, write_delivery)
 }
 
 fn write_drops(text: &mut String, drops: &[DropLine]) -> Result<(), AllocError>
     ensures { OnOk result (string_bytes text.new ≡ string_bytes text.old ++ flat_map drop_line drops.now) }
 {
-    for drop in drops {
-        write_drop(text, drop)?;
-    }
-    Ok(())
+    write_lines(text, drops, write_drop)
 }
 
 // `deliver FRAME RANK SLOT NODE FROM BOOT STREAM SEQ PAYLOAD`.
 fn write_delivery(text: &mut String, delivery: &Delivery) -> Result<(), AllocError>
     ensures { OnOk result (string_bytes text.new ≡ string_bytes text.old ++ delivery_line delivery.now) }
 {
-    let frame = delivery.frame;
-    let rank = delivery.rank.number();
-    let slot = delivery.slot;
-    let node = delivery.node.number();
-    let from = delivery.from.number();
-    let boot = delivery.boot;
-    let stream = delivery.stream;
-    let seq = delivery.seq;
-    write!(
+    write_words(
         text,
-        "deliver {frame} {rank} {slot} {node} {from} {boot} {stream} {seq} "
+        "deliver",
+        &[
+            delivery.frame,
+            u32::from(delivery.rank.number()),
+            u32::from(delivery.slot),
+            u32::from(delivery.node.number()),
+            u32::from(delivery.from.number()),
+            u32::from(delivery.boot),
+            u32::from(delivery.stream),
+            u32::from(delivery.seq),
+        ],
     )?;
-    write_payload(text, delivery.payload.bytes())?;
-    write!(text, "\n")
+    end_with_payload(text, &delivery.payload)
+}
+
+// The payload behind a space, and the end of the line.
+fn end_with_payload(text: &mut String, payload: &Payload) -> Result<(), AllocError>
+    ensures { OnOk result (string_bytes text.new ≡ string_bytes text.old ++ 32 ∷ payload_word payload.now ++ 10 ∷ []) }
+{
+    text.push(' ')?;
+    write_payload(text, payload.bytes())?;
+    end_line(text)
 }
 
 // `drop FRAME NODE STREAM`.
 fn write_drop(text: &mut String, drop: &DropLine) -> Result<(), AllocError>
     ensures { OnOk result (string_bytes text.new ≡ string_bytes text.old ++ drop_line drop.now) }
 {
-    let frame = drop.frame;
-    let node = drop.node.number();
-    let stream = drop.stream;
-    write!(text, "drop {frame} {node} {stream}\n")
+    let node = u32::from(drop.node.number());
+    write_line(text, "drop", &[drop.frame, node, u32::from(drop.stream)])
 }

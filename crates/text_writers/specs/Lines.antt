@@ -23,13 +23,17 @@ module _ {F T E Z : Type 0} (g : Shared F (MutBor (String Z) × (Bor T × Unit {
       (old : MutBor (String Z)) (item : Bor T) (result : Result (Unit {0}) E) (new : MutBor (String Z)) → Contains items item.now
       → g.post write (old, (item, tt)) (result, (new, tt)) → OnOk result (string_bytes new.now ≡ string_bytes old.now ++ line item.now)
 
-module _ {F T E Z : Type 0} (g : Shared F (MutBor (String Z) × (ℕ × (Bor T × Unit {0}))) (Result (Unit {0}) E × (MutBor (String Z) × Unit {0}))) (write : F) where
-  -- it may be called with a text, and any of the items with its place
-  abbrev pub TakesPlaces : List T → Type 0
-  TakesPlaces items = (text : MutBor (String Z)) (place : ℕ) (item : Bor T) → place < length items → item.now ≡ get_or items place item.now → g.pre write (text, (place, (item, tt)))
+module _ {F T E Z : Type 0} (g : Shared F (MutBor (String Z) × (ℕ × (Bor T × Unit {0}))) (Result (Unit {0}) E × (MutBor (String Z) × Unit {0}))) (write : F)
+  where
+    -- it may be called with a text, and any of the items with its place
+    abbrev pub TakesPlaces : List T → Type 0
+    TakesPlaces items =
+        (text : MutBor (String Z)) (place : ℕ) (item : Bor T) → place < length items → item.now ≡ get_or items place item.now
+        → g.pre write (text, (place, (item, tt)))
 
-  -- an Ok of it says that it wrote the line of the item in its place
-  abbrev pub WritesPlaces : List T → (ℕ × T → List ℕ) → Type 0
-  WritesPlaces items line =
-      (old : MutBor (String Z)) (place : ℕ) (item : Bor T) (result : Result (Unit {0}) E) (new : MutBor (String Z)) → place < length items → item.now ≡ get_or items place item.now
-      → g.post write (old, (place, (item, tt))) (result, (new, tt)) → OnOk result (string_bytes new.now ≡ string_bytes old.now ++ line (place, item.now))
+    -- an Ok of it says that it wrote the line of the item in its place
+    abbrev pub WritesPlaces : List T → (ℕ × T → List ℕ) → Type 0
+    WritesPlaces items line =
+        (old : MutBor (String Z)) (place : ℕ) (item : Bor T) (result : Result (Unit {0}) E) (new : MutBor (String Z)) → place < length items
+        → item.now ≡ get_or items place item.now
+        → g.post write (old, (place, (item, tt))) (result, (new, tt)) → OnOk result (string_bytes new.now ≡ string_bytes old.now ++ line (place, item.now))

@@ -42,7 +42,8 @@ pub fn write_lines<T, F>(text: &mut String, items: &[T], write: F) -> Result<(),
 where
     F: Fn(&mut String, &T) -> Result<(), AllocError>,
     requires { F.IsAlwaysCallable write }
-    ensures { (line : T → List ℕ) → WritesEach F.Fn write items.now line → OnOk result (string_bytes text.new ≡ string_bytes text.old ++ flat_map line items.now) }
+    ensures { (line : T → List ℕ) → WritesEach F.Fn write items.now line
+        → OnOk result (string_bytes text.new ≡ string_bytes text.old ++ flat_map line items.now) }
 {
     write_lines_in_places(text, items, |text, _place, item| write(text, item))
 }
@@ -56,7 +57,8 @@ pub fn write_lines_in_places<T, F>(
 where
     F: Fn(&mut String, usize, &T) -> Result<(), AllocError>,
     requires { TakesPlaces F.Fn write items.now }
-    ensures { (line : ℕ × T → List ℕ) → WritesPlaces F.Fn write items.now line → OnOk result (string_bytes text.new ≡ string_bytes text.old ++ flat_map line (enumerate_from 0 items.now)) }
+    ensures { (line : ℕ × T → List ℕ) → WritesPlaces F.Fn write items.now line
+        → OnOk result (string_bytes text.new ≡ string_bytes text.old ++ flat_map line (enumerate_from 0 items.now)) }
 {
     for (place, item) in items.iter().enumerate() {
         write(text, place, item)?;

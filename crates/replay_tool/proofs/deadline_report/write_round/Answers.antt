@@ -8,9 +8,9 @@ pub loop-place-preserved : goal.loop-place-preserved
 loop-place-preserved c =
     let owners = c.args.owners.now in
     let i = c.loop-place.place in
-    let code = c.code_at-code.result in
+    let code = c.code_at.result in
     let old = string_bytes c.args.text.now in
-    c.in_ok-write-2.ensures.bytes
+    c.in_ok-write_number.ensures
     ∙ ap (λ (l : List ℕ). l ++ 32 ∷ decimal code) c.loop-place.invariant
     ∙ append_assoc old (join_with_byte 32 (codes "round" ∷ map decimal (c.args.frame ∷ take i owners))) (32 ∷ decimal code)
-    ∙ ap (λ (l : List ℕ). old ++ l) (sym (owner_more (codes "round") c.args.frame i owners code (omega arith) c.code_at-code.ensures))
+    ∙ ap (λ (l : List ℕ). old ++ l) (sym (owner_more (codes "round") c.args.frame i owners code (omega arith) c.code_at.ensures))

@@ -1,26 +1,19 @@
-use Rattle.std.proofs.Common.{◌≡◌, ℕ, List, ◌++◌, IsSome, sym, ◌∙◌, ap, arith, refl, subst}
+use Rattle.std.proofs.Common.{ℕ, List, ◌++◌, ◌∙◌, Some, None, flat_map, string_bytes, ap}
+use Rattle.std.proofs.lemmas.Bool.{cond-true}
+use Rattle.scenario_text.specs.FloodParts.{knows}
+use Rattle.scenario_text.specs.declared.lines.NodeLine.{NodeLine}
 use Rattle.scenario_clocks.specs.StatedClocks.{scenario_clock}
 use Rattle.energy_account.specs.Energies.{energy_of}
-use Rattle.replay_tool.specs.RunReport.{energy_line}
-use Rattle.replay_tool.proofs.EnergyLines.{line_at, same_energy, energy_more}
+use Rattle.energy_account.specs.declared.energy.Energy.{Energy}
+use Rattle.replay_tool.specs.RunReport.{node_energy}
+use Rattle.replay_tool.proofs.NodeLines.{known_in}
 use Rattle.replay_tool.proofs.energy_lines.write_energies.Goals as goal
 
-pub unwrap-energy-requires : goal.unwrap-energy-requires
-unwrap-energy-requires c =
+pub returns : goal.returns
+returns c =
     let s = c.args.s.now in
-    let said = line_at s (scenario_clock s) c.args.air.now c.in_ok-account.account c.nodes-line-items.result.now c.loop-line.line-index c.line-item.result c.in_ok-account.ensures c.nodes-line-items.ensures.value (omega arith) c.line-item.is in
-    subst (λ o. IsSome o) (sym (c.line.ensures ∙ said)) refl
-
-pub loop-line-preserved : goal.loop-line-preserved
-loop-line-preserved c =
-    let s = c.args.s.now in
-    let air = c.args.air.now in
-    let line = c.line-item.result in
-    let items = c.nodes-line-items.result.now in
-    let i = c.loop-line.line-index in
-    let energy = c.unwrap-energy.result in
-    let said = line_at s (scenario_clock s) air c.in_ok-account.account items i line c.in_ok-account.ensures c.nodes-line-items.ensures.value (omega arith) c.line-item.is in
-    let is : energy ≡ energy_of s (scenario_clock s) air line.node = same_energy _ _ (sym c.unwrap-energy.ensures ∙ c.line.ensures ∙ said) in
-    c.in_ok-write_energy.ensures
-    ∙ ap (λ (t : List ℕ). t ++ energy_line line.node energy) c.loop-line.invariant
-    ∙ energy_more s (scenario_clock s) air _ items i line energy (omega arith) c.line-item.is is
+    let nodes = c.nodes-nodes.ensures.value in
+    let energy : ℕ → Energy = energy_of s (scenario_clock s) c.args.air.now in
+    c.in_ok-write_account.ensures energy (λ n here.
+    c.in_ok-account.ensures n.node ∙ cond-true (knows s.nodes n.node) (Some (energy n.node)) None (known_in c.nodes-nodes.result.now s.nodes n nodes here))
+    ∙ ap (λ (ns : List NodeLine). string_bytes c.args.text.now ++ flat_map (node_energy s (scenario_clock s) c.args.air.now) ns) nodes
