@@ -1,5 +1,6 @@
 -- Where the capture line of a key is.
-use Rattle.std.proofs.Common.{◌≡◌, ℕ, zero, suc, ◌<◌, List, [], ◌∷◌, Bool, true, false, length, get_or, Result, Ok, Err, IfOk, IfErr, Some, None, ◌||◌, cond, refl, sym, ◌∙◌, ap, subst, arith}
+use Rattle.std.proofs.Common.{◌≡◌, ℕ, zero, suc, ◌<◌, List, [], ◌∷◌, Bool, true, false, length, get_or, Result, Ok, Err}
+use Rattle.std.proofs.Common.{IfOk, IfErr, Some, None, ◌||◌, cond, refl, sym, ◌∙◌, ap, subst, arith}
 use Rattle.std.proofs.lemmas.Bool.{false≢true}
 use Rattle.std.proofs.lemmas.Cmp.{alike_right}
 use Rattle.std.proofs.lemmas.List.Folds.{list_any_at}
@@ -21,7 +22,11 @@ find_first test (x ∷ xs) zero d first = rw (first.here x) refl
 find_first test (x ∷ xs) (suc at) d first =
     let within = first.within in
     rw (first.earlier 0 x (omega arith) (omega arith))
-    (find_first test xs at d (record { within = omega arith; here = first.here; earlier = λ k e low high. first.earlier (suc k) e (omega arith) (omega arith) }))
+    (find_first test xs at d (record {
+      within = omega arith;
+      here = first.here;
+      earlier = λ k e low high. first.earlier (suc k) e (omega arith) (omega arith);
+    }))
 
 pub any_first : {L : Type 0} (test : L → Bool) (ls : List L) (at : ℕ) (d : L) → IsFirst test ls at → list_any test ls ≡ true
 any_first test ls at d first = list_any_at test ls at d first.within (first.here d)
@@ -46,7 +51,9 @@ one_by_one Equal Greater c d = refl
 one_by_one Equal Equal c d = refl
 
 -- the test by the order is the test of the key
-same_any : (f j k v u : ℕ) (ls : List CaptureLine) → list_any (λ x. is_eq (by_capture x (record { frame = f; slot = j; step = k; at = v; from = u }))) ls ≡ list_any (is_capture f j k v) ls
+same_any : (f j k v u : ℕ) (ls : List CaptureLine)
+    → list_any (λ x. is_eq (by_capture x (record { frame = f; slot = j; step = k; at = v; from = u }))) ls
+    ≡ list_any (is_capture f j k v) ls
 same_any f j k v u ls = λ i. list_any (λ x. tells_capture f j k v u x i) ls
 
 module _ (f j k v : ℕ) (ls : List CaptureLine) (up : Ascends by_capture ls) where
@@ -68,22 +75,26 @@ module _ (f j k v : ℕ) (ls : List CaptureLine) (up : Ascends by_capture ls) wh
   }
 
   -- what a search by the tuples finds, a search by the order of the lines does
-  pub by_tuples : (r : Result ℕ ℕ) → IsBinarySearchResult (λ x. by_four (x.frame, x.slot, x.step, x.at) (f, j, k, v)) ls r → IsBinarySearchResult (λ x. by_capture x (key 0)) ls r
+  pub by_tuples : (r : Result ℕ ℕ) → IsBinarySearchResult (λ x. by_four (x.frame, x.slot, x.step, x.at) (f, j, k, v)) ls r
+      → IsBinarySearchResult (λ x. by_capture x (key 0)) ls r
   by_tuples r found =
       subst (λ (o : CaptureLine → Ordering). IsBinarySearchResult o ls r)
       (λ i x. one_by_one (nat_cmp x.frame f) (nat_cmp x.slot j) (nat_cmp x.step k) (nat_cmp x.at v) i) found
 
   -- a place of one line of the key is that of all of them
-  pub found_by_key : (r : Result ℕ ℕ) → IsSearchInRange r (length ls) → IsBinarySearchResult (λ x. by_capture x (key 0)) ls r → IfOk r (IsFirst (is_capture f j k v) ls)
+  pub found_by_key : (r : Result ℕ ℕ) → IsSearchInRange r (length ls) → IsBinarySearchResult (λ x. by_capture x (key 0)) ls r
+      → IfOk r (IsFirst (is_capture f j k v) ls)
   found_by_key (Ok at) inside found = first_of_key at inside found
   found_by_key (Err at) inside parted = tt
 
-  pub place_of_key : (r : Result ℕ ℕ) → IsSearchInRange r (length ls) → IsBinarySearchResult (λ x. by_capture x (key 0)) ls r → IfErr r (λ at. (u : ℕ) → HasPlace by_capture ls (key u) at)
+  pub place_of_key : (r : Result ℕ ℕ) → IsSearchInRange r (length ls) → IsBinarySearchResult (λ x. by_capture x (key 0)) ls r
+      → IfErr r (λ at. (u : ℕ) → HasPlace by_capture ls (key u) at)
   place_of_key (Ok at) inside found = tt
   place_of_key (Err at) inside parted = λ u.
       let place = searched by_capture by_capture_total ls (key 0) up (Err at) inside parted in
       record { within = place.within; below = place.below; above = place.above }
 
-  pub none_of_key : (r : Result ℕ ℕ) → IsSearchInRange r (length ls) → IsBinarySearchResult (λ x. by_capture x (key 0)) ls r → IfErr r (λ at. list_any (is_capture f j k v) ls ≡ false)
+  pub none_of_key : (r : Result ℕ ℕ) → IsSearchInRange r (length ls) → IsBinarySearchResult (λ x. by_capture x (key 0)) ls r
+      → IfErr r (λ at. list_any (is_capture f j k v) ls ≡ false)
   none_of_key (Ok at) inside found = tt
   none_of_key (Err at) inside parted = absent 0 at (searched by_capture by_capture_total ls (key 0) up (Err at) inside parted)

@@ -1,5 +1,6 @@
 -- A line added in its order: what the list then holds, that it ascends, and where a search finds its place.
-use Rattle.std.proofs.Common.{◌≡◌, ℕ, zero, suc, ◌+◌, ◌-◌, ◌<◌, ◌≤◌, List, [], ◌∷◌, ◌++◌, Bool, true, false, ◌||◌, ◌&&◌, length, get_or, Result, Ok, Err, refl, sym, ◌∙◌, ap, subst, arith, inl, inr, if◌then◌else◌}
+use Rattle.std.proofs.Common.{◌≡◌, ℕ, zero, suc, ◌+◌, ◌-◌, ◌<◌, ◌≤◌, List, [], ◌∷◌, ◌++◌, Bool, true, false, ◌||◌, ◌&&◌, length}
+use Rattle.std.proofs.Common.{get_or, Result, Ok, Err, refl, sym, ◌∙◌, ap, subst, arith, inl, inr, if◌then◌else◌}
 use Rattle.std.proofs.lemmas.Bool.{cases_lt, false≢true}
 use Rattle.std.proofs.lemmas.List.Edits.{length-insert, get_or-insert_below, get_or-insert_at, get_or-insert_above, insert_end}
 use Rattle.std.proofs.lemmas.List.Sorted.{searchable_from_sorted}
@@ -58,18 +59,21 @@ module _ {L : Type 0} (order : L → L → Ordering) where
   length-with_line l (x ∷ xs) = one_longer l x xs (order x l) (length-with_line l xs)
 
   -- an insert at its place
-  pub insert_is : (l : L) (at : ℕ) (ls : List L) → at ≤ length ls → AllWithin (λ x. order x l ≡ Less) ls 0 at → AllWithin (λ x. order x l ≡ Greater) ls at (length ls)
+  pub insert_is : (l : L) (at : ℕ) (ls : List L) → at ≤ length ls → AllWithin (λ x. order x l ≡ Less) ls 0 at
+      → AllWithin (λ x. order x l ≡ Greater) ls at (length ls)
       → insert ls at l ≡ with_line order l ls
   insert_is l zero [] within below above = refl
   insert_is l zero (x ∷ xs) within below above = rw (above 0 x (omega arith) (omega arith)) refl
   insert_is l (suc at) [] within below above = absurd (omega arith)
   insert_is l (suc at) (x ∷ xs) within below above =
       rw (below 0 x (omega arith) (omega arith))
-      (ap (λ (ys : List L). x ∷ ys) (insert_is l at xs (omega arith) (λ k d low high. below (suc k) d (omega arith) (omega arith)) (λ k d low high. above (suc k) d (omega arith) (omega arith))))
+      (ap (λ (ys : List L). x ∷ ys) (insert_is l at xs (omega arith) (λ k d low high. below (suc k) d (omega arith) (omega arith))
+      (λ k d low high. above (suc k) d (omega arith) (omega arith))))
 
   -- a line above all others stands last
   pub with_last : (l : L) (ls : List L) → ((k : ℕ) (d : L) → k < length ls → order (get_or ls k d) l ≡ Less) → with_line order l ls ≡ ls ++ l ∷ []
-  with_last l ls below = sym (insert_is l (length ls) ls (omega arith) (λ k d low high. below k d high) (λ k d low high. absurd (omega arith))) ∙ insert_end ls l
+  with_last l ls below = sym
+      (insert_is l (length ls) ls (omega arith) (λ k d low high. below k d high) (λ k d low high. absurd (omega arith))) ∙ insert_end ls l
 
 module _ {L : Type 0} (order : L → L → Ordering) (total : IsTotalOrder order) where
   turned_less : (x y : L) → order x y ≡ Less → order y x ≡ Greater
@@ -94,16 +98,19 @@ module _ {L : Type 0} (order : L → L → Ordering) (total : IsTotalOrder order
         ])
 
     -- what a binary search finds: the line, or its place
-    pub searched : Ascends order ls → (r : Result ℕ ℕ) → IsSearchInRange r (length ls) → IsBinarySearchResult (λ x. order x l) ls r → MatchResult r (λ at. there ≡ true) (HasPlace order ls l)
+    pub searched : Ascends order ls → (r : Result ℕ ℕ) → IsSearchInRange r (length ls) → IsBinarySearchResult (λ x. order x l) ls r
+        → MatchResult r (λ at. there ≡ true) (HasPlace order ls l)
     searched up (Ok at) inside found = list_any_at (λ (x : L). is_eq (order x l)) ls at l inside (ap is_eq (found l))
     searched up (Err at) inside parted = let parts = parted (rises ls up l) in record { within = inside; below = parts.0; above = parts.1 }
 
     -- it finds the line exactly where it is there
-    pub found_there : Ascends order ls → (r : Result ℕ ℕ) → IsSearchInRange r (length ls) → IsBinarySearchResult (λ x. order x l) ls r → IfOk r (λ at. there ≡ true)
+    pub found_there : Ascends order ls → (r : Result ℕ ℕ) → IsSearchInRange r (length ls) → IsBinarySearchResult (λ x. order x l) ls r
+        → IfOk r (λ at. there ≡ true)
     found_there up (Ok at) inside found = searched up (Ok at) inside found
     found_there up (Err at) inside parted = tt
 
-    pub not_found_there : Ascends order ls → (r : Result ℕ ℕ) → IsSearchInRange r (length ls) → IsBinarySearchResult (λ x. order x l) ls r → IfErr r (λ at. there ≡ false)
+    pub not_found_there : Ascends order ls → (r : Result ℕ ℕ) → IsSearchInRange r (length ls) → IsBinarySearchResult (λ x. order x l) ls r
+        → IfErr r (λ at. there ≡ false)
     not_found_there up (Ok at) inside found = tt
     not_found_there up (Err at) inside parted = not_there at (searched up (Err at) inside parted)
 
@@ -115,7 +122,8 @@ module _ {L : Type 0} (order : L → L → Ordering) (total : IsTotalOrder order
       added = insert ls at l
 
       moved_up : (k : ℕ) (d : L) → at < k → get_or added k d ≡ get_or ls (k - 1) d
-      moved_up k d above = subst (λ (q : ℕ). get_or added q d ≡ get_or ls (k - 1) d) {x = k - 1 + 1} (omega arith) (get_or-insert_above ls at l d (k - 1) (omega arith) place.within)
+      moved_up k d above = subst (λ (q : ℕ). get_or added q d ≡ get_or ls (k - 1) d) {x = k - 1 + 1} (omega arith)
+          (get_or-insert_above ls at l d (k - 1) (omega arith) place.within)
 
       longer : length added ≡ length ls + 1
       longer = length-insert ls at l place.within
@@ -131,7 +139,8 @@ module _ {L : Type 0} (order : L → L → Ordering) (total : IsTotalOrder order
 
       from_it : (i j : ℕ) (d : L) → i ≡ at → at < j → j < length added → order (get_or added i d) (get_or added j d) ≡ Less
       from_it i j d here after inside =
-          rw (here, moved_up j d after, get_or-insert_at ls at l d place.within) (turned_greater _ _ (place.above (j - 1) d (omega arith) (omega (arith, longer))))
+          rw (here, moved_up j d after, get_or-insert_at ls at l d place.within)
+          (turned_greater _ _ (place.above (j - 1) d (omega arith) (omega (arith, longer))))
 
       over_it : Ascends order ls → (i j : ℕ) (d : L) → i < at → at < j → j < length added → order (get_or added i d) (get_or added j d) ≡ Less
       over_it up i j d before after inside =
@@ -184,7 +193,8 @@ module _ {L : Type 0} (order : L → L → Ordering) (total : IsTotalOrder order
   has_place l (x ∷ xs) up new =
       by (order x l) refl new (λ rest_new. has_place l xs (λ i j d less inside. up (suc i) (suc j) d (omega arith) (omega arith)) rest_new)
     where
-      by : (o : Ordering) → order x l ≡ o → (is_eq o || there xs l) ≡ false → (there xs l ≡ false → (at : ℕ) × HasPlace order xs l at) → (at : ℕ) × HasPlace order (x ∷ xs) l at
+      by : (o : Ordering) → order x l ≡ o → (is_eq o || there xs l) ≡ false → (there xs l ≡ false → (at : ℕ) × HasPlace order xs l at)
+          → (at : ℕ) × HasPlace order (x ∷ xs) l at
       by Less is new rest = let later = rest new in (suc later.0, place_later l x xs later.0 is later.1)
       by Equal is new rest = absurd (false≢true (sym new))
       by Greater is new rest = (0, place_here l x xs up is)

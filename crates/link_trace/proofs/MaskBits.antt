@@ -1,5 +1,6 @@
 -- Masks of nodes bit by bit: one more node, one node alone, both masks together, and one without the other.
-use Rattle.std.proofs.Common.{◌≡◌, ◌≢◌, ℕ, ◌+◌, ◌-◌, ◌*◌, ◌%◌, ◌^◌, ◌<◌, ◌≤◌, min, max, List, Bool, true, false, not, ◌||◌, ◌&&◌, ◌==◌, nat_lt, length, get_or, take, if◌then◌else◌, bit_and, bit_or, w64, Ok, Err, refl, sym, ◌∙◌, ap, arith, inl, inr}
+use Rattle.std.proofs.Common.{◌≡◌, ◌≢◌, ℕ, ◌+◌, ◌-◌, ◌*◌, ◌%◌, ◌^◌, ◌<◌, ◌≤◌, min, max, List, Bool, true, false, not, ◌||◌, ◌&&◌, ◌==◌, nat_lt}
+use Rattle.std.proofs.Common.{length, get_or, take, if◌then◌else◌, bit_and, bit_or, w64, Ok, Err, refl, sym, ◌∙◌, ap, arith, inl, inr}
 use Rattle.std.proofs.lemmas.Bool.{cases_lt, cases_eq, lt-ltb, le-ltb, eq-eqb, ne_eqb}
 use Rattle.std.proofs.lemmas.List.Folds.{list_any_more}
 use Rattle.std.specs.List.{list_any, AllPairs}
@@ -59,7 +60,8 @@ module _ (nodes : List ℕ) where
   ])
 
   -- what one more line names
-  pub one_more_line : {L : Type 0} (names : ℕ → L → Bool) (ls : List L) (i : ℕ) (d : L) (a b : ℕ) → i < length ls → IsMask (λ u. list_any (names u) (take i ls)) nodes a → IsMask (λ u. names u (get_or ls i d)) nodes b
+  pub one_more_line : {L : Type 0} (names : ℕ → L → Bool) (ls : List L) (i : ℕ) (d : L) (a b : ℕ) → i < length ls
+      → IsMask (λ u. list_any (names u) (take i ls)) nodes a → IsMask (λ u. names u (get_or ls i d)) nodes b
       → IsMask (λ u. list_any (names u) (take (i + 1) ls)) nodes (bit_or a b)
   one_more_line names ls i d a b inside a_is b_is =
       same_tests (λ u. list_any (names u) (take i ls) || names u (get_or ls i d)) (λ u. list_any (names u) (take (i + 1) ls)) (bit_or a b)
@@ -73,7 +75,8 @@ module _ (nodes : List ℕ) where
         outside i far = grind (arith, nat_tests)
 
     -- both of node i's bits
-    pub removed : (p q : ℕ → Bool) (a b : ℕ) → b < 2 ^ 64 → IsMask p nodes a → IsMask q nodes b → IsMask (λ u. p u && not (q u)) nodes (bit_and a (bit_not w64 b))
+    pub removed : (p q : ℕ → Bool) (a b : ℕ) → b < 2 ^ 64 → IsMask p nodes a → IsMask q nodes b
+        → IsMask (λ u. p u && not (q u)) nodes (bit_and a (bit_not w64 b))
     removed p q a b small a_is b_is i =
         let u = get_or nodes i 0 in
         let n = nat_lt i (length nodes) in
@@ -81,7 +84,8 @@ module _ (nodes : List ℕ) where
           | inl near ↦
               bit_at_and a (bit_not w64 b) i ∙ rw (a_is i, bit_at_not w64 b i small near, b_is i) (without (n && p u) (n && q u)) ∙ ap bit (less n (p u) (q u))
           | inr far ↦
-              (let none : bit_at a i ≡ 0 = a_is i ∙ past p i far in bit_at_and a (bit_not w64 b) i ∙ omega (arith, none)) ∙ sym (past (λ u. p u && not (q u)) i far)
+              (let none : bit_at a i ≡ 0 = a_is i ∙ past p i far in bit_at_and a (bit_not w64 b) i ∙ omega (arith, none))
+              ∙ sym (past (λ u. p u && not (q u)) i far)
         ]
 
     -- node i alone
@@ -109,7 +113,8 @@ module _ (nodes : List ℕ) where
         ]
 
     module _ (p : ℕ → Bool) (i mask : ℕ) (inside : i < length nodes) (is : IsMaskUpto p nodes i mask) where
-      one_more_bit : (k : ℕ) (b : Bool) → p (get_or nodes i 0) ≡ b → k ≢ i → bit (nat_lt k i && p (get_or nodes k 0)) ≡ bit (nat_lt k (i + 1) && p (get_or nodes k 0))
+      one_more_bit : (k : ℕ) (b : Bool) → p (get_or nodes i 0) ≡ b → k ≢ i
+          → bit (nat_lt k i && p (get_or nodes k 0)) ≡ bit (nat_lt k (i + 1) && p (get_or nodes k 0))
       one_more_bit k b here other = ap (λ (c : Bool). bit (c && p (get_or nodes k 0))) (lower k other)
         where
           lower : (k : ℕ) → k ≢ i → nat_lt k i ≡ nat_lt k (i + 1)
@@ -142,12 +147,14 @@ rising nodes ascending i j le inside = elim (cases_lt i j) [
   | inr not_before ↦ let same : i ≡ j = omega arith in rw same (omega arith)
 ]
 
-pub found_alone : (nodes : List ℕ) → length nodes ≤ 64 → AllPairs (λ a b. a < b) nodes → (v i : ℕ) → i < length nodes → IsBinarySearchResult (λ y. nat_cmp y v) nodes (Ok i) → IsMask (λ u. v == u) nodes (1 * 2 ^ i % 2 ^ 64)
+pub found_alone : (nodes : List ℕ) → length nodes ≤ 64 → AllPairs (λ a b. a < b) nodes → (v i : ℕ) → i < length nodes
+    → IsBinarySearchResult (λ y. nat_cmp y v) nodes (Ok i) → IsMask (λ u. v == u) nodes (1 * 2 ^ i % 2 ^ 64)
 found_alone nodes few ascending v i inside found =
     let at = searched nodes v (Ok i) found (rising nodes ascending) in
     alone nodes few ascending i v inside at.1
 
-pub found_none : (nodes : List ℕ) → AllPairs (λ a b. a < b) nodes → (v i : ℕ) → IsBinarySearchResult (λ y. nat_cmp y v) nodes (Err i) → IsMask (λ u. v == u) nodes 0
+pub found_none : (nodes : List ℕ) → AllPairs (λ a b. a < b) nodes → (v i : ℕ) → IsBinarySearchResult (λ y. nat_cmp y v) nodes (Err i)
+    → IsMask (λ u. v == u) nodes 0
 found_none nodes ascending v i parted =
     let at = searched nodes v (Err i) parted (rising nodes ascending) in
     none nodes v (λ k near same. elim (cases_lt k i) [ inl before ↦ omega (arith, at.1 k before) | inr after ↦ omega (arith, at.2 k after near) ])

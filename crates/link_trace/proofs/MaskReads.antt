@@ -11,11 +11,15 @@ pub read_at : (xs : List ℕ) (i at x : ℕ) → at < length xs → i ≡ at →
 read_at xs i at x inside same read = read ∙ ap (λ (n : ℕ). get_or xs n x) same ∙ get_or_default xs at x 0 inside
 
 -- whether a line of such a slice names the node
-pub named : (cuts found : List CutLine) (f j k to v : ℕ) → found ≡ filter (cuts_by f j k) cuts → to ≡ v → list_any (λ l. l.node == v) (filter (cuts_by f j k) cuts) ≡ list_any (λ l. l.node == to) found
+pub named : (cuts found : List CutLine) (f j k to v : ℕ) → found ≡ filter (cuts_by f j k) cuts → to ≡ v
+    → list_any (λ l. l.node == v) (filter (cuts_by f j k) cuts) ≡ list_any (λ l. l.node == to) found
 named cuts found f j k to v is same =
-    ap (λ (w : ℕ). list_any (λ (l : CutLine). l.node == w) (filter (cuts_by f j k) cuts)) (sym same) ∙ ap (λ (ls : List CutLine). list_any (λ (l : CutLine). l.node == to) ls) (sym is)
+    ap (λ (w : ℕ). list_any (λ (l : CutLine). l.node == w) (filter (cuts_by f j k) cuts)) (sym same)
+    ∙ ap (λ (ls : List CutLine). list_any (λ (l : CutLine). l.node == to) ls) (sym is)
 
-pub cut_at : (nodes passed : List ℕ) (found cuts : List CutLine) (m : ℕ) → passed ≡ nodes → found ≡ cuts → IsMask (λ node. list_any (λ (l : CutLine). l.node == node) found) passed m → IsMask (λ node. list_any (λ (l : CutLine). l.node == node) cuts) nodes m
+pub cut_at : (nodes passed : List ℕ) (found cuts : List CutLine) (m : ℕ)
+    → passed ≡ nodes → found ≡ cuts → IsMask (λ node. list_any (λ (l : CutLine). l.node == node) found) passed m
+    → IsMask (λ node. list_any (λ (l : CutLine). l.node == node) cuts) nodes m
 cut_at nodes passed found cuts m same_nodes same_lines is =
     subst (λ (ls : List CutLine). IsMask (λ node. list_any (λ (l : CutLine). l.node == node) ls) nodes m) same_lines
     (subst (λ (ns : List ℕ). IsMask (λ node. list_any (λ (l : CutLine). l.node == node) found) ns m) same_nodes is)

@@ -1,5 +1,5 @@
 -- The masks of the links, less those that are lost and the nodes that are cut off, tell which links pass.
-use Rattle.std.proofs.Common.{◌≡◌, ℕ, ◌^◌, ◌<◌, ◌≤◌, List, Bool, true, false, not, ◌&&◌, ◌==◌, length, bit_and, w64, refl, sym, ◌∙◌, ap}
+use Rattle.std.proofs.Common.{◌≡◌, ℕ, ◌^◌, ◌<◌, ◌≤◌, List, [], Bool, true, false, not, ◌&&◌, ◌==◌, length, bit_and, w64, refl, sym, ◌∙◌, ap}
 use Rattle.std.specs.Int.{bit_not}
 use Rattle.std.specs.List.{filter, list_any}
 use Rattle.link_trace.specs.declared.lines.LoseLine.{LoseLine}
@@ -12,6 +12,19 @@ use Rattle.link_trace.proofs.Together.{list_any-filter, one_of_these}
 pub grouped : (a b c : Bool) → (a && (b && c)) ≡ (a && b && c)
 grouped true b c = refl
 grouped false b c = refl
+
+-- where no line loses a link or cuts a node off, each link passes
+pub each_passes : (t : Lines) (f j k from to : ℕ) → t.losses ≡ [] → t.cuts ≡ [] → list_any (is_link from to) t.links ≡ passes t f j k from to
+each_passes t f j k from to no_losses no_cuts =
+    let linked = list_any (is_link from to) t.links in
+    whole linked
+    ∙ ap (λ (ls : List LoseLine). linked && not (list_any (is_loss f j k from to) ls) && not false && not false) (sym no_losses)
+    ∙ ap (λ (cs : List CutLine). linked && not (list_any (is_loss f j k from to) t.losses) && not (cut_off cs f j k from) && not (cut_off cs f j k to))
+    (sym no_cuts)
+  where
+    whole : (x : Bool) → x ≡ (x && not false && not false && not false)
+    whole true = refl
+    whole false = refl
 
 module _ (t : Lines) (f j k to : ℕ) where
   abbrev linked : ℕ → Bool
@@ -46,11 +59,14 @@ module _ (t : Lines) (f j k to : ℕ) where
       ∙ ap (λ (b : Bool). linked from && not (list_any (is_loss f j k from to) t.losses) && not b && not (cut to)) (cut_is from)
       ∙ ap (λ (b : Bool). linked from && not (list_any (is_loss f j k from to) t.losses) && not (cut_off t.cuts f j k from) && not b) (cut_is to)
 
-  pub mask_of_passing : (nodes : List ℕ) → length nodes ≤ 64 → (a b c : ℕ) → b < 2 ^ 64 → c < 2 ^ 64 → cut to ≡ false → IsMask linked nodes a → IsMask lost nodes b → IsMask cut nodes c
+  pub mask_of_passing : (nodes : List ℕ) → length nodes ≤ 64 → (a b c : ℕ) → b < 2 ^ 64 → c < 2 ^ 64 → cut to ≡ false → IsMask linked nodes a
+      → IsMask lost nodes b → IsMask cut nodes c
       → IsMask (λ from. passes t f j k from to) nodes (bit_and (bit_and a (bit_not w64 b)) (bit_not w64 c))
   mask_of_passing nodes few a b c b_small c_small none a_is b_is c_is =
-      same_tests nodes (λ from. linked from && not (lost from) && not (cut from)) (λ from. passes t f j k from to) (bit_and (bit_and a (bit_not w64 b)) (bit_not w64 c)) (λ from. passing_is from none)
-      (removed nodes few (λ from. linked from && not (lost from)) cut (bit_and a (bit_not w64 b)) c c_small (removed nodes few linked lost a b b_small a_is b_is) c_is)
+      same_tests nodes (λ from. linked from && not (lost from) && not (cut from)) (λ from. passes t f j k from to)
+      (bit_and (bit_and a (bit_not w64 b)) (bit_not w64 c)) (λ from. passing_is from none)
+      (removed nodes few (λ from. linked from && not (lost from)) cut (bit_and a (bit_not w64 b)) c c_small
+      (removed nodes few linked lost a b b_small a_is b_is) c_is)
 
   none_left : (a b c d : Bool) → d ≡ true → false ≡ (a && b && c && not d)
   none_left a b c true is = nothing (a && b && c)
@@ -64,4 +80,10 @@ module _ (t : Lines) (f j k to : ℕ) where
   pub none_passing : (nodes : List ℕ) → cut to ≡ true → IsMask (λ from. passes t f j k from to) nodes 0
   none_passing nodes is =
       same_tests nodes (λ from. false) (λ from. passes t f j k from to) 0
-      (λ from. none_left (linked from) (not (list_any (is_loss f j k from to) t.losses)) (not (cut_off t.cuts f j k from)) (cut_off t.cuts f j k to) (sym (cut_is to) ∙ is)) (empty_mask nodes)
+      (λ from. none_left (linked from) (not (list_any (is_loss f j k from to) t.losses)) (not (cut_off t.cuts f j k from)) (cut_off t.cuts f j k to)
+      (sym (cut_is to) ∙ is)) (empty_mask nodes)
+
+  -- where there are links alone
+  pub all_passing : (nodes : List ℕ) (a : ℕ) → t.losses ≡ [] → t.cuts ≡ [] → IsMask linked nodes a → IsMask (λ from. passes t f j k from to) nodes a
+  all_passing nodes a no_losses no_cuts a_is =
+      same_tests nodes linked (λ from. passes t f j k from to) a (λ from. each_passes t f j k from to no_losses no_cuts) a_is

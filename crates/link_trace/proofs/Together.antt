@@ -1,5 +1,6 @@
 -- The lines that pass a test, where they stand together.
-use Rattle.std.proofs.Common.{◌≡◌, ℕ, zero, suc, ◌+◌, ◌-◌, ◌<◌, ◌≤◌, List, [], ◌∷◌, Bool, true, false, ◌||◌, ◌&&◌, ◌==◌, nat_lt, nat_le, length, get_or, take, drop, cond, refl, sym, ◌∙◌, ap, arith, inl, inr, length-drop}
+use Rattle.std.proofs.Common.{◌≡◌, ℕ, zero, suc, ◌+◌, ◌-◌, ◌<◌, ◌≤◌, List, [], ◌∷◌, Bool, true, false, ◌||◌, ◌&&◌, ◌==◌, nat_lt}
+use Rattle.std.proofs.Common.{nat_le, length, get_or, take, drop, cond, refl, sym, ◌∙◌, ap, arith, inl, inr, length-drop}
 use Rattle.std.proofs.lemmas.Bool.{cases_lt}
 use Rattle.std.proofs.lemmas.Bool.Decides.{nat_tests}
 use Rattle.std.proofs.lemmas.Cmp.{ranked}
@@ -19,12 +20,14 @@ module _ {L : Type 0} (q : L → Bool) where
   none_pass [] none = refl
   none_pass (x ∷ xs) none = rw (none 0 x (omega arith) (omega arith)) (none_pass xs (λ k d low high. none (suc k) d (omega arith) (omega arith)))
 
-  front_passes : (n : ℕ) (xs : List L) → n ≤ length xs → AllWithin (λ x. q x ≡ true) xs 0 n → AllWithin (λ x. q x ≡ false) xs n (length xs) → filter q xs ≡ take n xs
+  front_passes : (n : ℕ) (xs : List L) → n ≤ length xs → AllWithin (λ x. q x ≡ true) xs 0 n → AllWithin (λ x. q x ≡ false) xs n (length xs)
+      → filter q xs ≡ take n xs
   front_passes zero xs within pass none = none_pass xs none
   front_passes (suc n) [] within pass none = absurd (omega arith)
   front_passes (suc n) (x ∷ xs) within pass none =
       rw (pass 0 x (omega arith) (omega arith))
-      (ap (λ (ys : List L). x ∷ ys) (front_passes n xs (omega arith) (λ k d low high. pass (suc k) d (omega arith) (omega arith)) (λ k d low high. none (suc k) d (omega arith) (omega arith))))
+      (ap (λ (ys : List L). x ∷ ys) (front_passes n xs (omega arith) (λ k d low high. pass (suc k) d (omega arith) (omega arith))
+      (λ k d low high. none (suc k) d (omega arith) (omega arith))))
 
   front_fails : (m : ℕ) (xs : List L) → m ≤ length xs → AllWithin (λ x. q x ≡ false) xs 0 m → filter q xs ≡ filter q (drop m xs)
   front_fails zero xs within none = refl
@@ -33,14 +36,16 @@ module _ {L : Type 0} (q : L → Bool) where
       rw (none 0 x (omega arith) (omega arith)) (front_fails m xs (omega arith) (λ k d low high. none (suc k) d (omega arith) (omega arith)))
 
   -- the lines from m on, as many as n of them, are those that pass
-  pub between_is_filter : (m n : ℕ) (xs : List L) → m ≤ length xs → n ≤ length (drop m xs) → AllWithin (λ x. q x ≡ false) xs 0 m → AllWithin (λ x. q x ≡ true) (drop m xs) 0 n → AllWithin (λ x. q x ≡ false) (drop m xs) n (length (drop m xs))
+  pub between_is_filter : (m n : ℕ) (xs : List L) → m ≤ length xs → n ≤ length (drop m xs) → AllWithin (λ x. q x ≡ false) xs 0 m
+      → AllWithin (λ x. q x ≡ true) (drop m xs) 0 n → AllWithin (λ x. q x ≡ false) (drop m xs) n (length (drop m xs))
       → take n (take (length xs - m) (drop m xs)) ≡ filter q xs
   between_is_filter m n xs m_within n_within before pass after =
       ap (take n) (take_all (length xs - m) (drop m xs) (omega (arith, length-drop m xs)))
       ∙ sym (front_passes n (drop m xs) n_within pass after)
       ∙ sym (front_fails m xs m_within before)
 
-  any_step : (p : L → Bool) (b : Bool) (x : L) (xs : List L) → list_any p (filter q xs) ≡ list_any (λ y. q y && p y) xs → list_any p (cond b (x ∷ filter q xs) (filter q xs)) ≡ ((b && p x) || list_any (λ y. q y && p y) xs)
+  any_step : (p : L → Bool) (b : Bool) (x : L) (xs : List L) → list_any p (filter q xs) ≡ list_any (λ y. q y && p y) xs
+      → list_any p (cond b (x ∷ filter q xs) (filter q xs)) ≡ ((b && p x) || list_any (λ y. q y && p y) xs)
   any_step p true x xs rest = ap (λ (c : Bool). p x || c) rest
   any_step p false x xs rest = rest
 
@@ -50,7 +55,8 @@ module _ {L : Type 0} (q : L → Bool) where
   list_any-filter p (x ∷ xs) = any_step p (q x) x xs (list_any-filter p xs)
 
 -- one of the cut lines so far
-pub one_of_these : (f j k v : ℕ) (cuts : List CutLine) → list_any (λ l. l.node == v) (filter (cuts_by f j k) cuts) ≡ list_any (λ l. cuts_by f j k l && (l.node == v)) cuts
+pub one_of_these : (f j k v : ℕ) (cuts : List CutLine)
+    → list_any (λ l. l.node == v) (filter (cuts_by f j k) cuts) ≡ list_any (λ l. cuts_by f j k l && (l.node == v)) cuts
 one_of_these f j k v cuts = list_any-filter (cuts_by f j k) (λ l. l.node == v) cuts
 
 -- a first field below, or equal and the rest below
@@ -72,7 +78,8 @@ record Rises (f j k g i h : ℕ) : Type 0 where
   slots : f ≡ g → j ≤ i
   steps : f ≡ g → j ≡ i → k ≤ h
 
-steps_rise : (f j k g i h : ℕ) (rest : Ordering) → ordering_then (nat_cmp f g) (ordering_then (nat_cmp j i) (ordering_then (nat_cmp k h) rest)) ≡ Less → Rises f j k g i h
+steps_rise : (f j k g i h : ℕ) (rest : Ordering)
+    → ordering_then (nat_cmp f g) (ordering_then (nat_cmp j i) (ordering_then (nat_cmp k h) rest)) ≡ Less → Rises f j k g i h
 steps_rise f j k g i h rest less =
     elim (then_less f g _ less) [
       | lower frame ↦ record { frames = omega arith; slots = λ same. absurd (omega arith); steps = λ same also. absurd (omega arith) }
@@ -120,13 +127,15 @@ module _ {L : Type 0} (order : L → L → Ordering) (xs : List L) (up : Ascends
       ]
 
   -- the lines from m on, none of which passes p
-  pub partitioned_after : (p q : L → Bool) (m : ℕ) → AllWithin (λ x. p x ≡ false) xs m (length xs) → ((a b : L) → order a b ≡ Less → p a ≡ false → q b ≡ true → q a ≡ true) → IsPartitionedBy q (drop m xs)
+  pub partitioned_after : (p q : L → Bool) (m : ℕ) → AllWithin (λ x. p x ≡ false) xs m (length xs)
+      → ((a b : L) → order a b ≡ Less → p a ≡ false → q b ≡ true → q a ≡ true) → IsPartitionedBy q (drop m xs)
   partitioned_after p q m after earlier i j d le inside passes =
       let inside_whole : m + j < length xs = omega (arith, length-drop m xs) in
       elim (cases_lt i j) [
         | inl less ↦
             rw (get_or-drop m xs i d)
-            (earlier _ (get_or xs (m + j) d) (up (m + i) (m + j) d (omega arith) inside_whole) (after (m + i) d (omega arith) (omega arith)) (rw (get_or-drop m xs j d) at passes))
+            (earlier _ (get_or xs (m + j) d) (up (m + i) (m + j) d (omega arith) inside_whole) (after (m + i) d (omega arith) (omega arith))
+            (rw (get_or-drop m xs j d) at passes))
         | inr not_less ↦ let same : i ≡ j = omega arith in rw same passes
       ]
 
@@ -136,7 +145,8 @@ module _ (f j k : ℕ) (cuts : List CutLine) (up : Ascends by_cut cuts) where
   cut_rise a b less = steps_rise a.frame a.slot a.step b.frame b.slot b.step _ less
 
   pub first_cuts : IsPartitionedBy (λ l. nat_lt l.frame f) cuts
-  first_cuts = partitioned by_cut cuts up (λ l. nat_lt l.frame f) (λ a b less later. frame_earlier f j k a.frame a.slot a.step b.frame b.slot b.step (cut_rise a b less) later)
+  first_cuts = partitioned by_cut cuts up (λ l. nat_lt l.frame f)
+      (λ a b less later. frame_earlier f j k a.frame a.slot a.step b.frame b.slot b.step (cut_rise a b less) later)
 
   pub next_cuts : (m : ℕ) → AllWithin (λ l. nat_lt l.frame f ≡ false) cuts m (length cuts) → IsPartitionedBy (cuts_by f j k) (drop m cuts)
   next_cuts m after =
@@ -150,7 +160,8 @@ module _ (f j k : ℕ) (cuts : List CutLine) (up : Ascends by_cut cuts) where
       → IsPartitionPoint (λ l. cuts_by f j k l ≡ true) (λ l. cuts_by f j k l ≡ false) (drop m cuts) n
       → take n (take (length cuts - m) (drop m cuts)) ≡ filter (cuts_by f j k) cuts
   cuts_are m n m_within n_within first next =
-      between_is_filter (cuts_by f j k) m n cuts m_within n_within (λ i d low high. let l = get_or cuts i d in earlier_frame l.frame l.slot l.step (first.0 i d low high)) next.0 next.1
+      between_is_filter (cuts_by f j k) m n cuts m_within n_within
+      (λ i d low high. let l = get_or cuts i d in earlier_frame l.frame l.slot l.step (first.0 i d low high)) next.0 next.1
 
 -- the lose lines of frame f, slot j, step k
 module _ (f j k : ℕ) (losses : List LoseLine) (up : Ascends by_loss losses) where
@@ -161,7 +172,8 @@ module _ (f j k : ℕ) (losses : List LoseLine) (up : Ascends by_loss losses) wh
   is_earlier l = nat_lt l.frame f || ((l.frame == f) && (nat_lt l.slot j || ((l.slot == j) && nat_lt l.step k)))
 
   pub first_losses : IsPartitionedBy is_earlier losses
-  first_losses = partitioned by_loss losses up is_earlier (λ a b less later. step_earlier f j k a.frame a.slot a.step b.frame b.slot b.step (loss_rise a b less) later)
+  first_losses = partitioned by_loss losses up is_earlier
+      (λ a b less later. step_earlier f j k a.frame a.slot a.step b.frame b.slot b.step (loss_rise a b less) later)
 
   pub next_losses : (m : ℕ) → AllWithin (λ l. is_earlier l ≡ false) losses m (length losses) → IsPartitionedBy (is_of_step f j k) (drop m losses)
   next_losses m after =
@@ -175,4 +187,5 @@ module _ (f j k : ℕ) (losses : List LoseLine) (up : Ascends by_loss losses) wh
       → IsPartitionPoint (λ l. is_of_step f j k l ≡ true) (λ l. is_of_step f j k l ≡ false) (drop m losses) n
       → take n (take (length losses - m) (drop m losses)) ≡ filter (is_of_step f j k) losses
   losses_are m n m_within n_within first next =
-      between_is_filter (is_of_step f j k) m n losses m_within n_within (λ i d low high. let l = get_or losses i d in earlier_step l.frame l.slot l.step (first.0 i d low high)) next.0 next.1
+      between_is_filter (is_of_step f j k) m n losses m_within n_within
+      (λ i d low high. let l = get_or losses i d in earlier_step l.frame l.slot l.step (first.0 i d low high)) next.0 next.1

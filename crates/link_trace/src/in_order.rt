@@ -1,10 +1,10 @@
 ghost use Rattle.std.specs.Prelude.{◌≡◌, Ok, true, false, IfOk, IfErr, OnErr};
 ghost use Rattle.std.specs.List.{list_any};
 ghost use Rattle.std.specs.Ordering.{is_eq};
-ghost use Rattle.link_trace.specs.Passes.{is_link};
-ghost use Rattle.link_trace.specs.Order.{Ascends, HasPlace, by_link, with_line};
+ghost use Rattle.link_trace.specs.Passes.{is_link, is_loss};
+ghost use Rattle.link_trace.specs.Order.{Ascends, HasPlace, by_link, by_loss, with_line};
 
-use crate::LinkLine;
+use crate::{LinkLine, LoseLine};
 use lwb_base::{Memory, NodeId};
 
 /// Adds a line where it stands in the ascending lines. `Ok(false)` comes exactly where it is there already.
@@ -41,6 +41,28 @@ pub fn has_link(links: &[LinkLine], from: NodeId, to: NodeId) -> bool
     ensures { result ≡ list_any (is_link from to) links.now }
 {
     is_there(links, &LinkLine { from, to })
+}
+
+/// Whether one of the lose lines loses the link of the pair in that frame, slot and step.
+pub fn has_loss(
+    losses: &[LoseLine],
+    frame: u32,
+    slot: u8,
+    step: u8,
+    from: NodeId,
+    to: NodeId,
+) -> bool
+    requires { Ascends by_loss losses.now }
+    ensures { result ≡ list_any (is_loss frame slot step from to) losses.now }
+{
+    let line = LoseLine {
+        frame,
+        slot,
+        step,
+        from,
+        to,
+    };
+    is_there(losses, &line)
 }
 
 // Where the line is, or where it would go.

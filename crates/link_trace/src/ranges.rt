@@ -1,7 +1,7 @@
 ghost use Rattle.std.specs.Prelude.{◌≡◌, ◌==◌};
 ghost use Rattle.std.specs.List.{filter, list_any};
 ghost use Rattle.link_trace.specs.Order.{Ascends, by_loss, by_cut};
-ghost use Rattle.link_trace.specs.Passes.{cuts_by, is_of_step};
+ghost use Rattle.link_trace.specs.Passes.{cut_off, cuts_by, is_of_step};
 
 use crate::{CutLine, LoseLine};
 use lwb_base::NodeId;
@@ -37,4 +37,13 @@ pub fn names(cuts: &[CutLine], node: NodeId) -> bool
     ensures { result ≡ list_any (λ l. l.node == node) cuts.now }
 {
     cuts.iter().any(|l| l.node == node)
+}
+
+/// Whether one of the cut lines cuts the node off by that step of the frame.
+#[tactic(auto, using(crate::proofs::Together::one_of_these))]
+pub fn is_cut_off(cuts: &[CutLine], frame: u32, slot: u8, step: u8, node: NodeId) -> bool
+    requires { Ascends by_cut cuts.now }
+    ensures { result ≡ cut_off cuts.now frame slot step node }
+{
+    names(cuts_so_far(cuts, frame, slot, step), node)
 }

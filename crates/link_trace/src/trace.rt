@@ -1,14 +1,14 @@
 ghost use Rattle.std.specs.Prelude.{◌≡◌, ◌<◌, [], length, slice_index, OnOk, OnErr, Ok, true, false};
 ghost use Rattle.std.specs.List.{list_any};
-ghost use Rattle.link_trace.specs.Passes.{is_link, is_loss, is_cut, is_capture, cut_off};
+ghost use Rattle.link_trace.specs.Passes.{is_link, is_loss, is_cut, is_capture};
 ghost use Rattle.link_trace.specs.Order.{Ascends, by_link, by_loss, by_cut, by_capture, with_link, with_loss, with_cut, with_capture};
 ghost use Rattle.link_trace.specs.Sealed.{unsealed, no_lines};
 ghost use Rattle.link_trace.specs.Masks.{AreNodes, IsMask};
 
 use crate::captures::{add_capture, captured_sender};
-use crate::in_order::{add_in_order, has_link, is_there};
+use crate::in_order::{add_in_order, has_link, has_loss};
 use crate::masks::{LinkMasks, cut_mask, link_masks, lost_from_mask, lost_mask};
-use crate::ranges::{cuts_so_far, losses_of_step, names};
+use crate::ranges::{cuts_so_far, is_cut_off, losses_of_step, names};
 use crate::{CaptureLine, CutLine, LinkLine, LoseLine};
 use lwb_base::{Memory, NodeId};
 use std::alloc::Global;
@@ -211,6 +211,10 @@ impl Trace {
         ensures { IsMask (λ from. passes_by self.now.lines frame slot step from (slice_index self.now.nodes at))
             self.now.nodes result }
     {
+        let links = self.masks[usize::from(at)];
+        if are_none(&self.losses, &self.cuts) {
+            return links.to_it;
+        }
         let to = self.nodes[usize::from(at)];
         let cuts = cuts_so_far(&self.cuts, frame, slot, step);
         if names(cuts, to) {
@@ -219,7 +223,6 @@ impl Trace {
         let losses = losses_of_step(&self.losses, frame, slot, step);
         let lost = lost_mask(losses, &self.nodes, to);
         let cut = cut_mask(cuts, &self.nodes);
-        let links = self.masks[usize::from(at)];
         links.to_it & !lost & !cut
     }
 
@@ -230,6 +233,10 @@ impl Trace {
         ensures { IsMask (λ to. passes_by self.now.lines frame slot step (slice_index self.now.nodes from) to)
             self.now.nodes result }
     {
+        let links = self.masks[usize::from(from)];
+        if are_none(&self.losses, &self.cuts) {
+            return links.from_it;
+        }
         let node = self.nodes[usize::from(from)];
         let cuts = cuts_so_far(&self.cuts, frame, slot, step);
         if names(cuts, node) {
@@ -238,7 +245,6 @@ impl Trace {
         let losses = losses_of_step(&self.losses, frame, slot, step);
         let lost = lost_from_mask(losses, &self.nodes, node);
         let cut = cut_mask(cuts, &self.nodes);
-        let links = self.masks[usize::from(from)];
         links.from_it & !lost & !cut
     }
 
@@ -283,25 +289,10 @@ fn unseal(nodes: &mut Vec<NodeId>, masks: &mut Vec<LinkMasks>)
     nodes.clear();
     masks.clear();
 }
-
-fn has_loss(losses: &[LoseLine], frame: u32, slot: u8, step: u8, from: NodeId, to: NodeId) -> bool
-    requires { Ascends by_loss losses.now }
-    ensures { result ≡ list_any (is_loss frame slot step from to) losses.now }
+// Whether there is neither a lose line nor a cut line, so that each link passes.
+fn are_none(losses: &[LoseLine], cuts: &[CutLine]) -> bool
+    ensures losses { result ≡ true → losses.now ≡ [] }
+    ensures cuts { result ≡ true → cuts.now ≡ [] }
 {
-    let line = LoseLine {
-        frame,
-        slot,
-        step,
-        from,
-        to,
-    };
-    is_there(losses, &line)
-}
-
-#[tactic(auto, using(crate::proofs::Together::one_of_these))]
-fn is_cut_off(cuts: &[CutLine], frame: u32, slot: u8, step: u8, node: NodeId) -> bool
-    requires { Ascends by_cut cuts.now }
-    ensures { result ≡ cut_off cuts.now frame slot step node }
-{
-    names(cuts_so_far(cuts, frame, slot, step), node)
+    losses.is_empty() && cuts.is_empty()
 }

@@ -1,5 +1,6 @@
 -- Requests that are put to a table, one after another, and acknowledgements in their places by code.
-use Rattle.std.proofs.Common.{◌≡◌, ℕ, zero, suc, ◌+◌, ◌-◌, ◌<◌, ◌≤◌, List, [], ◌∷◌, ◌++◌, Bool, true, not, ◌==◌, nat_lt, nat_le, if◌then◌else◌, length, get_or, take, fold, refl, sym, ◌∙◌, ap, subst, arith}
+use Rattle.std.proofs.Common.{◌≡◌, ℕ, zero, suc, ◌+◌, ◌-◌, ◌<◌, ◌≤◌, List, [], ◌∷◌, ◌++◌, Bool, true, not, ◌==◌, nat_lt}
+use Rattle.std.proofs.Common.{nat_le, if◌then◌else◌, length, get_or, take, fold, refl, sym, ◌∙◌, ap, subst, arith}
 use Rattle.std.specs.List.{All, list_all, slice_get}
 use Rattle.std.proofs.lemmas.List.{take_more, length-take}
 use Rattle.std.proofs.lemmas.List.Sums.{fold_more}
@@ -28,7 +29,8 @@ leading b (x ∷ xs) up = and_parts (nat_lt (code_of b) (code_of x)) (strictly_a
 leads_with : (b a : Ask) (xs : List Ask) → nat_lt (code_of b) (code_of a) ≡ true → leads b xs ≡ true → leads b (with_ack a xs) ≡ true
 leads_with b a [] below first = below
 leads_with b a (x ∷ xs) below first =
-    cond_both (code_of a == code_of x) (a ∷ xs) (if nat_lt (code_of a) (code_of x) then a ∷ x ∷ xs else x ∷ with_ack a xs) (λ (l : List Ask). leads b l ≡ true) (λ same. below)
+    cond_both (code_of a == code_of x) (a ∷ xs) (if nat_lt (code_of a) (code_of x) then a ∷ x ∷ xs else x ∷ with_ack a xs) (λ (l : List Ask). leads b l ≡ true)
+    (λ same. below)
     (λ other. cond_both (nat_lt (code_of a) (code_of x)) (a ∷ x ∷ xs) (x ∷ with_ack a xs) (λ (l : List Ask). leads b l ≡ true) (λ less. below) (λ more. first))
 
 same_leads : (a x : Ask) (xs : List Ask) → code_of a ≡ code_of x → leads x xs ≡ true → leads a xs ≡ true
@@ -40,7 +42,8 @@ with_ascends a [] up = refl
 with_ascends a (x ∷ xs) up =
     let parts = leading x xs up in
     let rest = with_ascends a xs parts.1 in
-    cond_both (code_of a == code_of x) (a ∷ xs) (if nat_lt (code_of a) (code_of x) then a ∷ x ∷ xs else x ∷ with_ack a xs) (λ (l : List Ask). strictly_ascend l ≡ true)
+    cond_both (code_of a == code_of x) (a ∷ xs) (if nat_lt (code_of a) (code_of x) then a ∷ x ∷ xs else x ∷ with_ack a xs)
+    (λ (l : List Ask). strictly_ascend l ≡ true)
     (λ same. led a xs (same_leads a x xs (eqb-true (code_of a) (code_of x) same) parts.0) parts.1)
     (λ other. cond_both (nat_lt (code_of a) (code_of x)) (a ∷ x ∷ xs) (x ∷ with_ack a xs) (λ (l : List Ask). strictly_ascend l ≡ true)
     (λ less. led a (x ∷ xs) less up)
@@ -54,7 +57,8 @@ pub with_ranges : (a : Ask) (xs : List Ask) → ask_in_range a ≡ true → list
 with_ranges a [] this all = rw this refl
 with_ranges a (x ∷ xs) this all =
     let parts = and_parts (ask_in_range x) (list_all ask_in_range xs) all in
-    cond_both (code_of a == code_of x) (a ∷ xs) (if nat_lt (code_of a) (code_of x) then a ∷ x ∷ xs else x ∷ with_ack a xs) (λ (l : List Ask). list_all ask_in_range l ≡ true)
+    cond_both (code_of a == code_of x) (a ∷ xs) (if nat_lt (code_of a) (code_of x) then a ∷ x ∷ xs else x ∷ with_ack a xs)
+    (λ (l : List Ask). list_all ask_in_range l ≡ true)
     (λ same. rw this parts.1)
     (λ other. cond_both (nat_lt (code_of a) (code_of x)) (a ∷ x ∷ xs) (x ∷ with_ack a xs) (λ (l : List Ask). list_all ask_in_range l ≡ true)
     (λ less. rw this all)
@@ -69,19 +73,22 @@ with_early frame e [] this all = All-cons (Early frame) e [] this all
 with_early frame e (x ∷ es) this all =
     let first = All-head (Early frame) x es all in
     let rest = All-tail (Early frame) x es all in
-    cond_both (e.code == x.code) (e ∷ es) (if nat_lt e.code x.code then e ∷ x ∷ es else x ∷ with_entry e es) (All (Early frame)) (λ same. All-cons (Early frame) e es this rest)
+    cond_both (e.code == x.code) (e ∷ es) (if nat_lt e.code x.code then e ∷ x ∷ es else x ∷ with_entry e es) (All (Early frame))
+    (λ same. All-cons (Early frame) e es this rest)
     (λ other. cond_both (nat_lt e.code x.code) (e ∷ x ∷ es) (x ∷ with_entry e es) (All (Early frame)) (λ less. All-cons (Early frame) e (x ∷ es) this all)
     (λ more. All-cons (Early frame) x (with_entry e es) first (with_early frame e es this rest)))
 
 pub request_early : (frame : ℕ) (t : Table) (a : Ask) → IsEarly frame t → IsEarly frame (after_request frame t a)
 request_early frame t a all =
-    cond_both (is_full a t) t.entries (if a.interval == 0 then without (code_of a) t.entries else with_entry (new_entry a frame) t.entries) (All (Early frame)) (λ full. all)
+    cond_both (is_full a t) t.entries (if a.interval == 0 then without (code_of a) t.entries else with_entry (new_entry a frame) t.entries) (All (Early frame))
+    (λ full. all)
     (λ room. cond_both (a.interval == 0) (without (code_of a) t.entries) (with_entry (new_entry a frame) t.entries) (All (Early frame))
     (λ ends. All-filter (λ (e : Entry). not (has_code (code_of a) e)) (Early frame) t.entries all)
     (λ asks. with_early frame (new_entry a frame) t.entries (omega arith) all))
 
 -- each may follow those before it
-follows_at : (xs : List Ask) (i n : ℕ) (a : Ask) → strictly_ascend xs ≡ true → suc n ≡ i → i < length xs → a ≡ get_or xs i a → may_follow (slice_get (take i xs) n) a ≡ true
+follows_at : (xs : List Ask) (i n : ℕ) (a : Ask) → strictly_ascend xs ≡ true → suc n ≡ i → i < length xs → a ≡ get_or xs i a
+    → may_follow (slice_get (take i xs) n) a ≡ true
 follows_at [] i n a up next within is = absurd (omega arith)
 follows_at (x ∷ xs) zero n a up next within is = absurd (omega arith)
 follows_at (x ∷ []) (suc i) n a up next within is = absurd (omega arith)
@@ -94,7 +101,8 @@ follows_at (x ∷ y ∷ ys) (suc (suc i)) (suc n) a up next within is =
     let parts = and_parts (nat_lt (code_of x) (code_of y)) (strictly_ascend (y ∷ ys)) up in
     follows_at (y ∷ ys) (suc i) n a parts.1 (omega arith) (omega arith) is
 
-follows_next : (xs : List Ask) (i : ℕ) (a : Ask) → strictly_ascend xs ≡ true → i < length xs → a ≡ get_or xs i a → may_follow (slice_get (take i xs) (length (take i xs) - 1)) a ≡ true
+follows_next : (xs : List Ask) (i : ℕ) (a : Ask) → strictly_ascend xs ≡ true → i < length xs → a ≡ get_or xs i a
+    → may_follow (slice_get (take i xs) (length (take i xs) - 1)) a ≡ true
 follows_next xs zero a up within is = refl
 follows_next xs (suc i) a up within is =
     let long = length-take (suc i) xs in
@@ -107,21 +115,25 @@ takes_next xs i a are within is =
     let long = length-take i xs in
     rw (lt-ltb (length (take i xs)) 4 (omega arith)) (follows_next xs i a parts.1 within is)
 
-pub added_next : (xs acks new : List Ask) (i : ℕ) (a : Ask) (b : Bool) → are_acks xs ≡ true → i < length xs → a ≡ get_or xs i a → acks ≡ take i xs → b ≡ takes_ack acks a → new ≡ (if b then acks ++ a ∷ [] else acks)
+pub added_next : (xs acks new : List Ask) (i : ℕ) (a : Ask) (b : Bool) → are_acks xs ≡ true → i < length xs → a ≡ get_or xs i a → acks ≡ take i xs
+    → b ≡ takes_ack acks a → new ≡ (if b then acks ++ a ∷ [] else acks)
     → new ≡ take (i + 1) xs
 added_next xs acks new i a b are within is before answer now =
     let takes : b ≡ true = answer ∙ ap (λ (l : List Ask). takes_ack l a) before ∙ takes_next xs i a are within is in
-    now ∙ ap (λ (t : Bool). if t then acks ++ a ∷ [] else acks) takes ∙ ap (λ (l : List Ask). l ++ a ∷ []) before ∙ ap (λ (x : Ask). take i xs ++ x ∷ []) is ∙ sym (take_more xs i a within)
+    now ∙ ap (λ (t : Bool). if t then acks ++ a ∷ [] else acks) takes ∙ ap (λ (l : List Ask). l ++ a ∷ []) before ∙ ap (λ (x : Ask). take i xs ++ x ∷ []) is
+    ∙ sym (take_more xs i a within)
 
 -- one after another
 abbrev pub collected : Table → List Ask → Answered
 collected t acks = record { table = t; acks = acks }
 
 pub answered_more : (frame : ℕ) (kept : List Ask) (i : ℕ) (a : Ask) (start t t' : Table) (acks acks' : List Ask) → i < length kept → a ≡ get_or kept i a
-    → collected t acks ≡ answered frame (take i kept) start → t' ≡ after_request frame t a → acks' ≡ (answer frame (collected t acks) a).acks → collected t' acks' ≡ answered frame (take (i + 1) kept) start
+    → collected t acks ≡ answered frame (take i kept) start → t' ≡ after_request frame t a → acks' ≡ (answer frame (collected t acks) a).acks
+    → collected t' acks' ≡ answered frame (take (i + 1) kept) start
 answered_more frame kept i a start t t' acks acks' within is before table acked =
     let now : collected t' acks' ≡ answer frame (collected t acks) a = cc (table, acked) in
-    now ∙ ap (λ (x : Answered). answer frame x a) before ∙ ap (λ (x : Ask). answer frame (answered frame (take i kept) start) x) is ∙ sym (fold_more (answer frame) (collected start []) kept i a within)
+    now ∙ ap (λ (x : Answered). answer frame x a) before ∙ ap (λ (x : Ask). answer frame (answered frame (take i kept) start) x) is
+    ∙ sym (fold_more (answer frame) (collected start []) kept i a within)
 
 abbrev pub four : List ℕ
 four = 0 ∷ 1 ∷ 2 ∷ 3 ∷ []
@@ -140,14 +152,18 @@ serving t s = record { table = t; streams = s }
 abbrev pub served_to : ℕ → ℕ → ℕ → Table → Streams → ℕ → Served
 served_to frame node boot t s i = fold (serve frame node boot) (serving t s) (take i four)
 
-pub served_more : (frame node boot i owner : ℕ) (start t t' : Table) (first s s' : Streams) → i < 4 → owner ≡ code node i → serving t s ≡ served_to frame node boot start first i
-    → t' ≡ (serve frame (node_of owner) boot (serving t s) (stream_of owner)).table → s' ≡ (serve frame (node_of owner) boot (serving t s) (stream_of owner)).streams → serving t' s' ≡ served_to frame node boot start first (i + 1)
+pub served_more : (frame node boot i owner : ℕ) (start t t' : Table) (first s s' : Streams) → i < 4 → owner ≡ code node i
+    → serving t s ≡ served_to frame node boot start first i
+    → t' ≡ (serve frame (node_of owner) boot (serving t s) (stream_of owner)).table
+    → s' ≡ (serve frame (node_of owner) boot (serving t s) (stream_of owner)).streams → serving t' s' ≡ served_to frame node boot start first (i + 1)
 served_more frame node boot i owner start t t' first s s' within is before table streams =
     let its : node_of owner ≡ node = omega arith in
     let this : stream_of owner ≡ i = omega arith in
     let now : serving t' s' ≡ serve frame (node_of owner) boot (serving t s) (stream_of owner) = cc (table, streams) in
-    now ∙ ap (λ (n : ℕ). serve frame n boot (serving t s) (stream_of owner)) its ∙ ap (λ (n : ℕ). serve frame node boot (serving t s) n) this ∙ ap (λ (x : Served). serve frame node boot x i) before
-    ∙ ap (λ (n : ℕ). serve frame node boot (served_to frame node boot start first i) n) (sym (four_at i within)) ∙ sym (fold_more (serve frame node boot) (serving start first) four i i within)
+    now ∙ ap (λ (n : ℕ). serve frame n boot (serving t s) (stream_of owner)) its ∙ ap (λ (n : ℕ). serve frame node boot (serving t s) n) this
+    ∙ ap (λ (x : Served). serve frame node boot x i) before
+    ∙ ap (λ (n : ℕ). serve frame node boot (served_to frame node boot start first i) n) (sym (four_at i within))
+    ∙ sym (fold_more (serve frame node boot) (serving start first) four i i within)
 
 pub with_are : (a : Ask) (bs : List Ask) → ask_in_range a ≡ true → AreAnswers bs → AreAnswers (with_ack a bs)
 with_are a bs this are = record { ascend = with_ascends a bs are.ascend; ranges = with_ranges a bs this are.ranges }

@@ -33,7 +33,8 @@ pub with_few : (a : Ask) (xs : List Ask) → length (with_ack a xs) ≤ length x
 with_few a [] = omega arith
 with_few a (x ∷ xs) =
     let rest = with_few a xs in
-    cond_both (code_of a == code_of x) (a ∷ xs) (if nat_lt (code_of a) (code_of x) then a ∷ x ∷ xs else x ∷ with_ack a xs) (λ (l : List Ask). length l ≤ length (x ∷ xs) + 1)
+    cond_both (code_of a == code_of x) (a ∷ xs) (if nat_lt (code_of a) (code_of x) then a ∷ x ∷ xs else x ∷ with_ack a xs)
+    (λ (l : List Ask). length l ≤ length (x ∷ xs) + 1)
     (λ same. omega arith)
     (λ other. cond_both (nat_lt (code_of a) (code_of x)) (a ∷ x ∷ xs) (x ∷ with_ack a xs) (λ (l : List Ask). length l ≤ length (x ∷ xs) + 1)
     (λ less. omega arith) (λ more. omega arith))

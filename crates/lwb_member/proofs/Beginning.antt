@@ -14,7 +14,8 @@ holder : (r due : ℕ) (b : Bool) → hosts (if b then Hold r due else Scan r 0)
 holder r due true host = host
 holder r due false host = host
 
-pub hosted_before : (t : Tune) (f : ℕ) (joined : Bool) (own : Option ℕ) (ranks : ℕ) → begins_host t (next_tune t f joined own ranks) ≡ None → hosts (next_tune t f joined own ranks) ≡ true → hosts t ≡ true
+pub hosted_before : (t : Tune) (f : ℕ) (joined : Bool) (own : Option ℕ) (ranks : ℕ) → begins_host t (next_tune t f joined own ranks) ≡ None
+    → hosts (next_tune t f joined own ranks) ≡ true → hosts t ≡ true
 hosted_before (Host r due) f joined own ranks is host = refl
 hosted_before (Hold r due) f joined own ranks is host = holder r due (nat_lt f due) host
 hosted_before (Scan r w) f joined own ranks is host = scanner r w (next_tune (Scan r w) f joined own ranks) is host

@@ -1,5 +1,6 @@
 -- The parts of a host's plan, one after another.
-use Rattle.std.proofs.Common.{◌≡◌, ℕ, zero, suc, ◌+◌, ◌≤◌, ◌==◌, List, length, Bool, true, false, nat_le, if◌then◌else◌, map, refl, sym, ◌∙◌, ap, subst, ⊎_elim, arith}
+use Rattle.std.proofs.Common.{◌≡◌, ℕ, zero, suc, ◌+◌, ◌≤◌, ◌==◌, List, length, Bool, true, false, nat_le}
+use Rattle.std.proofs.Common.{if◌then◌else◌, map, refl, sym, ◌∙◌, ap, subst, ⊎_elim, arith}
 use Rattle.std.specs.List.{All, sum_by}
 use Rattle.std.proofs.lemmas.Bool.{cond_both, le-leb, ne_eqb}
 use Rattle.std.proofs.lemmas.List.Elements.{All-map}
@@ -20,11 +21,13 @@ use Rattle.bus_rules.specs.Slots.{planned, host_closes}
 use Rattle.lwb_member.specs.Planning.{IsEarly}
 
 -- the fields of a plan, by the results of its parts
-module _ (p : Numbers) (node boot rank frame : ℕ) (kept : List Ask) (t first own after : Table) (s streams : Streams) (acks : List Ask) (host contend gap : ℕ) (owners : List ℕ)
+module _ (p : Numbers) (node boot rank frame : ℕ) (kept : List Ask) (t first own after : Table) (s streams : Streams) (acks : List Ask) (host contend gap : ℕ)
+    (owners : List ℕ)
     (ranked : host ≡ rank) (named : contend ≡ p.contend)
     (answers : first ≡ (answered frame kept t).table) (acked : acks ≡ (answered frame kept t).acks)
     (served_table : own ≡ (served frame node boot first s).table) (served_streams : streams ≡ (served frame node boot first s).streams)
-    (gapped : gap ≡ (plan_round p.seconds frame own).gap) (owned : owners ≡ (plan_round p.seconds frame own).owners) (granted : after ≡ (plan_round p.seconds frame own).table) where
+    (gapped : gap ≡ (plan_round p.seconds frame own).gap) (owned : owners ≡ (plan_round p.seconds frame own).owners)
+    (granted : after ≡ (plan_round p.seconds frame own).table) where
   abbrev pub made : HostPlan
   made = record { gap = gap; plan = record { rank = host; boot = boot; contend = contend; acks = acks; owners = owners }; table = after; streams = streams }
 
@@ -61,12 +64,15 @@ module _ (p : Numbers) (node boot rank frame : ℕ) (kept : List Ask) (t first o
   pub is_plan : made ≡ host_plan p node boot rank frame kept t s
   unfolding host_plan
   is_plan =
-      ap (λ (r : ℕ). begun r contend) ranked ∙ ap (begun rank) named ∙ ap (λ (g : ℕ). plan_of g acks owners after streams) gap_is ∙ ap (λ (l : List Ask). plan_of all_grants.gap l owners after streams) acked
-      ∙ ap (λ (os : List ℕ). plan_of all_grants.gap all_acks os after streams) owners_are ∙ ap (λ (x : Table). plan_of all_grants.gap all_acks all_grants.owners x streams) after_is
+      ap (λ (r : ℕ). begun r contend) ranked ∙ ap (begun rank) named ∙ ap (λ (g : ℕ). plan_of g acks owners after streams) gap_is
+      ∙ ap (λ (l : List Ask). plan_of all_grants.gap l owners after streams) acked
+      ∙ ap (λ (os : List ℕ). plan_of all_grants.gap all_acks os after streams) owners_are
+      ∙ ap (λ (x : Table). plan_of all_grants.gap all_acks all_grants.owners x streams) after_is
       ∙ ap (λ (y : Streams). plan_of all_grants.gap all_acks all_grants.owners all_grants.table y) streams_is
 
 -- the gap of a plan
-one_of : (four three two : Bool) → (1 ≤ (if four then 4 else if three then 3 else if two then 2 else 1)) × ((if four then 4 else if three then 3 else if two then 2 else 1) ≤ 4)
+one_of : (four three two : Bool)
+    → (1 ≤ (if four then 4 else if three then 3 else if two then 2 else 1)) × ((if four then 4 else if three then 3 else if two then 2 else 1) ≤ 4)
 one_of true three two = (omega arith, omega arith)
 one_of false true two = (omega arith, omega arith)
 one_of false false true = (omega arith, omega arith)
@@ -80,7 +86,8 @@ gap_bounds seconds frame es = one_of (fits_in seconds (frame + 4) es) (fits_in s
 
 gap_stays : (owes : Entry → ℕ) (gap : ℕ) (t : Table) → (grants_for owes gap t).gap ≡ gap
 gap_stays owes gap t =
-    cond_both (nat_le (sum_by owes t.entries) 40) (granted_by owes gap t.place t.entries) (granted_by (share_in (given owes t)) gap (last_code (given owes t) + 1) t.entries) (λ (g : Grants). g.gap ≡ gap)
+    cond_both (nat_le (sum_by owes t.entries) 40) (granted_by owes gap t.place t.entries)
+    (granted_by (share_in (given owes t)) gap (last_code (given owes t) + 1) t.entries) (λ (g : Grants). g.gap ≡ gap)
     (λ fit. refl) (λ turns. refl)
 
 pub gap_in_range : (seconds frame : ℕ) (t : Table) → (1 ≤ (plan_round seconds frame t).gap) × ((plan_round seconds frame t).gap ≤ 4)
@@ -98,7 +105,8 @@ shares_early frame share es all = All-map (Early frame) (grant share) es all
 
 grants_early : (frame : ℕ) (owes : Entry → ℕ) (gap : ℕ) (t : Table) → IsEarly frame t → IsEarly frame (grants_for owes gap t).table
 grants_early frame owes gap t all =
-    cond_both (nat_le (sum_by owes t.entries) 40) (granted_by owes gap t.place t.entries) (granted_by (share_in (given owes t)) gap (last_code (given owes t) + 1) t.entries) (λ (g : Grants). IsEarly frame g.table)
+    cond_both (nat_le (sum_by owes t.entries) 40) (granted_by owes gap t.place t.entries)
+    (granted_by (share_in (given owes t)) gap (last_code (given owes t) + 1) t.entries) (λ (g : Grants). IsEarly frame g.table)
     (λ fit. shares_early frame owes t.entries all) (λ turns. shares_early frame (share_in (given owes t)) t.entries all)
 
 pub plan_early : (seconds frame : ℕ) (t : Table) → IsEarly frame t → IsEarly frame (plan_round seconds frame t).table
@@ -114,11 +122,13 @@ host_due (Hold r d) due host = cc
 host_due (Scan r w) due host = cc
 
 -- by the plan of the host
-pub closes : (s : Setup) (f : ℕ) (c : Core) (h : HostPlan) → h ≡ host_plan s.profile s.id c.boot (rank_of c.tune) f c.kept c.table c.streams → planned (rank_of c.tune) f c h ≡ host_closes s f c
+pub closes : (s : Setup) (f : ℕ) (c : Core) (h : HostPlan) → h ≡ host_plan s.profile s.id c.boot (rank_of c.tune) f c.kept c.table c.streams
+    → planned (rank_of c.tune) f c h ≡ host_closes s f c
 closes s f c h is = ap (planned (rank_of c.tune) f c) is
 
 -- a closing schedule stands in the last slot of a round
-of_named : (owners contend slot : ℕ) (b : Bool) → owners ≤ 40 → contend ≤ 4 → slot ≡ owners + (if b then 1 else contend) + 1 → (1 ≤ (if b then 1 else contend)) → between 2 (if b then 42 else 45) slot ≡ true
+of_named : (owners contend slot : ℕ) (b : Bool) → owners ≤ 40 → contend ≤ 4 → slot ≡ owners + (if b then 1 else contend) + 1 → (1 ≤ (if b then 1 else contend))
+    → between 2 (if b then 42 else 45) slot ≡ true
 of_named owners contend slot true few named is some = rw (le-leb 2 slot (omega arith), le-leb slot 42 (omega arith)) refl
 of_named owners contend slot false few named is some = rw (le-leb 2 slot (omega arith), le-leb slot 45 (omega arith)) refl
 
@@ -126,10 +136,12 @@ some_named : (contend : ℕ) → 1 ≤ (if contend == 0 then 1 else contend)
 some_named zero = omega arith
 some_named (suc n) = rw (ne_eqb (suc n) 0 (omega arith)) (omega arith)
 
-pub closing_fits : (gap contend slot : ℕ) (p : Plan) → 1 ≤ gap → contend ≤ 4 → p.contend ≡ contend → length p.owners ≤ 40 → slot ≡ last_slot p → slot_fits gap contend slot ≡ true
+pub closing_fits : (gap contend slot : ℕ) (p : Plan) → 1 ≤ gap → contend ≤ 4 → p.contend ≡ contend → length p.owners ≤ 40 → slot ≡ last_slot p
+    → slot_fits gap contend slot ≡ true
 closing_fits zero contend slot p some named same few is = absurd (omega arith)
 closing_fits (suc g) contend slot p some named same few is =
-    rw (ne_eqb (suc g) 0 (omega arith)) (of_named (length p.owners) contend slot (contend == 0) few named (is ∙ ap (λ (n : ℕ). length p.owners + (if n == 0 then 1 else n) + 1) same) (some_named contend))
+    rw (ne_eqb (suc g) 0 (omega arith)) (of_named (length p.owners) contend slot (contend == 0) few named
+    (is ∙ ap (λ (n : ℕ). length p.owners + (if n == 0 then 1 else n) + 1) same) (some_named contend))
 
 -- a host keeps no more requests than it acknowledges
 pub acks_fit : (contend : ℕ) → contend ≤ 4 → (if contend == 0 then 1 else contend) ≤ most_acks contend

@@ -21,20 +21,25 @@ put frame (Some e) es this all = All-cons (Early frame) e es this all
 
 missed_early : (frame c : ℕ) (e : Entry) → Early frame e → IfSome (missed c e) (Early frame)
 missed_early frame c e early =
-    cond_both (has_code c e) (if nat_lt (e.unheard + 1) 16 then Some (record e { unheard = e.unheard + 1 }) else None) (Some e) (λ (o : Option Entry). IfSome o (Early frame))
-    (λ is. cond_both (nat_lt (e.unheard + 1) 16) (Some (record e { unheard = e.unheard + 1 })) None (λ (o : Option Entry). IfSome o (Early frame)) (λ less. early) (λ goes. tt))
+    cond_both (has_code c e) (if nat_lt (e.unheard + 1) 16 then Some (record e { unheard = e.unheard + 1 }) else None) (Some e)
+    (λ (o : Option Entry). IfSome o (Early frame))
+    (λ is. cond_both (nat_lt (e.unheard + 1) 16) (Some (record e { unheard = e.unheard + 1 })) None (λ (o : Option Entry). IfSome o (Early frame))
+    (λ less. early) (λ goes. tt))
     (λ other. early)
 
 each_missed : (frame c : ℕ) (es : List Entry) → All (Early frame) es → All (Early frame) (filter_map (missed c) es)
 each_missed frame c [] all = all
-each_missed frame c (e ∷ es) all = put frame (missed c e) (filter_map (missed c) es) (missed_early frame c e (All-head (Early frame) e es all)) (each_missed frame c es (All-tail (Early frame) e es all))
+each_missed frame c (e ∷ es) all =
+    put frame (missed c e) (filter_map (missed c) es) (missed_early frame c e (All-head (Early frame) e es all))
+    (each_missed frame c es (All-tail (Early frame) e es all))
 
 owner_early : (frame owner : ℕ) (heard : Bool) (t : Table) → IsEarly frame t → IsEarly frame (owner_heard heard owner t)
 owner_early frame owner true t all = All-map (Early frame) (seen owner) t.entries all
 owner_early frame owner false t all = each_missed frame owner t.entries all
 
 pub slot_early : (frame : ℕ) (part : Part) (heard : Bool) (c : Core) → IsEarly frame c.table → IsEarly frame (slot_heard frame part heard c).table
-slot_early frame (DataSlot owner) heard c all = cond_both (hosts_now frame c) (owner_heard heard owner c.table) c.table (IsEarly frame) (λ now. owner_early frame owner heard c.table all) (λ not. all)
+slot_early frame (DataSlot owner) heard c all =
+    cond_both (hosts_now frame c) (owner_heard heard owner c.table) c.table (IsEarly frame) (λ now. owner_early frame owner heard c.table all) (λ not. all)
 slot_early frame Opening heard c all = all
 slot_early frame (Contention i) heard c all = all
 slot_early frame Closing heard c all = all

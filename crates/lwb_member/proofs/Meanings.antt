@@ -12,7 +12,9 @@ pub joined : (n : ℕ) → 256 * (n / 256) + n % 256 ≡ n
 joined n = omega arith
 
 pub says_data : (p : List ℕ) (d : DataPacket) → SpellsData p d → DataOf (data_in p) ≡ meaning (HeardData d)
-says_data p d s = subst (λ (q : List ℕ). DataOf (data_in q) ≡ meaning (HeardData d)) s.bytes (ap (λ (n : ℕ). DataOf (record (data_in (data_spelling d)) { seq = n })) (joined d.seq))
+says_data p d s =
+    subst (λ (q : List ℕ). DataOf (data_in q) ≡ meaning (HeardData d)) s.bytes
+    (ap (λ (n : ℕ). DataOf (record (data_in (data_spelling d)) { seq = n })) (joined d.seq))
 
 pub says_request : (p : List ℕ) (r : Request) → SpellsRequest p r → RequestOf (request_in p) ≡ meaning (HeardRequest r)
 says_request p r s = subst (λ (q : List ℕ). RequestOf (request_in q) ≡ meaning (HeardRequest r)) s.bytes refl

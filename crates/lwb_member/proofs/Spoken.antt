@@ -20,12 +20,14 @@ is_data_packet : (p : List ℕ) → data_packets.is_data p ≡ true → is_packe
 is_data_packet p is = or_left (data_packets.is_data p || requests.is_request p) (is_schedule p) (or_left (data_packets.is_data p) (requests.is_request p) is)
 
 is_request_packet : (p : List ℕ) → requests.is_request p ≡ true → is_packet p ≡ true
-is_request_packet p is = or_left (data_packets.is_data p || requests.is_request p) (is_schedule p) (or_right (data_packets.is_data p) (requests.is_request p) is)
+is_request_packet p is =
+    or_left (data_packets.is_data p || requests.is_request p) (is_schedule p) (or_right (data_packets.is_data p) (requests.is_request p) is)
 
 is_schedule_packet : (p : List ℕ) → is_schedule p ≡ true → is_packet p ≡ true
 is_schedule_packet p is = or_right (data_packets.is_data p || requests.is_request p) (is_schedule p) is
 
-pub data_spoken : (d : DataPacket) → data_packets.InRange d → d.counter ≡ 0 → 1 ≤ d.node → d.node ≤ 200 → length d.payload ≤ 96 → IsSaid Kinds.Payload (data_packets.spelling d)
+pub data_spoken : (d : DataPacket) → data_packets.InRange d → d.counter ≡ 0 → 1 ≤ d.node → d.node ≤ 200 → length d.payload ≤ 96
+    → IsSaid Kinds.Payload (data_packets.spelling d)
 data_spoken d in_range none low high short =
     let is : data_packets.is_data (data_packets.spelling d) ≡ true = grind (arith, nat_tests) in
     record { packet = is_data_packet (data_packets.spelling d) is; counter = none; named = refl; spelled = is }
@@ -42,4 +44,9 @@ kind_of_byte (suc n) = rw (ne_eqb (suc n) 0 (omega arith)) refl
 pub schedule_spoken : (p : List ℕ) (s : Schedule) (slot : ℕ) → schedule_of p ≡ Some s → p ≡ spelling s slot 0 → IsSaid Kinds.Schedule p
 schedule_spoken p s slot is bytes =
     let spelled : is_schedule p ≡ true = rw is refl in
-    record { packet = is_schedule_packet p spelled; counter = ap (λ (q : List ℕ). slice_index q 2) bytes; named = ap kind_named bytes ∙ kind_of_byte s.plan.contend; spelled = spelled }
+    record {
+      packet = is_schedule_packet p spelled;
+      counter = ap (λ (q : List ℕ). slice_index q 2) bytes;
+      named = ap kind_named bytes ∙ kind_of_byte s.plan.contend;
+      spelled = spelled;
+    }

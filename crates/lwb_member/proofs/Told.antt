@@ -1,5 +1,6 @@
 -- A packet says what its initiator said.
-use Rattle.std.proofs.Common.{◌≡◌, ◌≤◌, ◌&&◌, ◌==◌, ℕ, zero, suc, List, Bool, true, false, Some, None, Option, IfSome, if◌then◌else◌, sym, subst, length, slice_index, option_map, refl, ap, ◌∙◌, arith}
+use Rattle.std.proofs.Common.{◌≡◌, ◌≤◌, ◌&&◌, ◌==◌, ℕ, zero, suc, List, Bool, true, false, Some, None, Option, IfSome}
+use Rattle.std.proofs.Common.{if◌then◌else◌, sym, subst, length, slice_index, option_map, refl, ap, ◌∙◌, arith}
 use Rattle.std.proofs.lemmas.Bool.{cond-true, cond-false, ne_eqb}
 use Rattle.std.proofs.lemmas.Bool.Decides.{nat_tests}
 use Rattle.lwb_base.specs.Messages.{Ask, Schedule}
@@ -18,10 +19,12 @@ use Rattle.lwb_member.specs.declared.message.Heard.TheVariants.{Data as HeardDat
 use Rattle.lwb_member.specs.Said.{IsSaid, MaySay, bytes_of, said_in, message_of, meaning, data_in, request_in, data_packet, request_packet}
 use Rattle.lwb_member.proofs.Meanings.{joined}
 
-pub told_data : (d : DataPacket) → data_packets.InRange d → 1 ≤ d.node → d.node ≤ 200 → length d.payload ≤ 96 → message_of (data_packets.spelling d) ≡ Some (meaning (HeardData d))
+pub told_data : (d : DataPacket) → data_packets.InRange d → 1 ≤ d.node → d.node ≤ 200 → length d.payload ≤ 96
+    → message_of (data_packets.spelling d) ≡ Some (meaning (HeardData d))
 told_data d in_range low high short =
     let is : data_packets.is_data (data_packets.spelling d) ≡ true = grind (arith, nat_tests) in
-    cond-true (data_packets.is_data (data_packets.spelling d)) _ _ is ∙ ap (λ (n : ℕ). Some (DataOf (record (data_in (data_packets.spelling d)) { seq = n }))) (joined d.seq)
+    cond-true (data_packets.is_data (data_packets.spelling d)) _ _ is
+    ∙ ap (λ (n : ℕ). Some (DataOf (record (data_in (data_packets.spelling d)) { seq = n }))) (joined d.seq)
 
 pub told_request : (r : Request) → requests.InRange r → 1 ≤ r.node → r.node ≤ 200 → message_of (requests.spelling r) ≡ Some (meaning (HeardRequest r))
 told_request r in_range low high =
@@ -68,4 +71,5 @@ pub told_asked : (b : Bool) (g : ℕ → Ask) (o : Option ℕ) (j : ℕ) (result
 told_asked false g o j result is said = ap (option_and_then message_of) is
 told_asked true g None j result is said = ap (option_and_then message_of) is
 told_asked true g (Some i) j result is said =
-    ap (option_and_then message_of) is ∙ asked (g i) j (bytes_of (RequestOf (g i)) j) refl (subst (λ (r : Option (List ℕ)). IfSome r (IsSaid Kinds.Request)) is said)
+    ap (option_and_then message_of) is
+    ∙ asked (g i) j (bytes_of (RequestOf (g i)) j) refl (subst (λ (r : Option (List ℕ)). IfSome r (IsSaid Kinds.Request)) is said)

@@ -44,7 +44,13 @@ abbrev pub said_in : ℕ → Message → List ℕ
 said_in j m = bytes_of m j
 
 abbrev pub data_in : List ℕ → DataSaid
-data_in p = record { node = slice_index p 3; boot = slice_index p 4; stream = slice_index p 5; seq = 256 * slice_index p 6 + slice_index p 7; payload = drop 8 p }
+data_in p = record {
+  node = slice_index p 3;
+  boot = slice_index p 4;
+  stream = slice_index p 5;
+  seq = 256 * slice_index p 6 + slice_index p 7;
+  payload = drop 8 p;
+}
 
 abbrev pub request_in : List ℕ → Ask
 request_in p = record { node = slice_index p 3; boot = slice_index p 4; stream = slice_index p 5; interval = slice_index p 6 }

@@ -1,6 +1,6 @@
 //! What a member does with what it accepted in a slot, where the slot closes.
 
-ghost use Rattle.std.specs.Prelude.{◌≡◌, ◌≤◌, ◌+◌, ◌%◌, ◌==◌, true, false, Some, IfSome, if◌then◌else◌};
+ghost use Rattle.std.specs.Prelude.{◌≡◌, ◌≤◌, ◌+◌, ◌%◌, ◌==◌, true, false, Some, None, IfSome, if◌then◌else◌};
 ghost use Rattle.std.specs.Option.{option_map};
 ghost use Rattle.lwb_packets.specs.Requests.{InRange};
 ghost use Rattle.schedule_codec.specs.AckLists.{ask_in_range};
@@ -36,7 +36,8 @@ impl Member {
         requires host { MayAccept self.old.core (option_map meaning accepted) }
         requires early { IsEarly frame self.old.core.table }
         ensures core { self.new ≡ record self.old { core = (closed self.old.setup frame part initiated self.old.core (option_map meaning accepted)).core } }
-        ensures delivery { result ≡ option_map (delivery_of self.old.setup.id frame (rank_in self.old.core.tune) slot) (closed self.old.setup frame part initiated self.old.core (option_map meaning accepted)).delivered }
+        ensures delivery { result ≡ option_map (delivery_of self.old.setup.id frame (rank_in self.old.core.tune) slot)
+            (closed self.old.setup frame part initiated self.old.core (option_map meaning accepted)).delivered }
         ensures early { IsEarly frame self.new.core.table }
     {
         match accepted {
@@ -54,10 +55,20 @@ impl Member {
                 None
             }
             None => {
-                self.hear_owner(frame, part, initiated);
+                self.pass(frame, part, initiated);
                 None
             }
         }
+    }
+
+    /// As `close`, where the node accepted nothing. Most windows close so, and a message is long.
+    pub fn pass(&mut self, frame: u32, part: Part, initiated: bool)
+        requires frame { frame ≤ 16777215 }
+        requires early { IsEarly frame self.old.core.table }
+        ensures core { self.new ≡ record self.old { core = (closed self.old.setup frame part initiated self.old.core None).core } }
+        ensures early { IsEarly frame self.new.core.table }
+    {
+        self.hear_owner(frame, part, initiated);
     }
 
     // A schedule was accepted in this frame, by a node that does not host.
@@ -120,7 +131,8 @@ impl Member {
 
     // A data packet that it accepted in this slot.
     fn delivery(&self, frame: u32, slot: u8, packet: DataPacket) -> Delivery
-        ensures { result ≡ delivery_of self.now.setup.id frame (rank_in self.now.core.tune) slot (record { node = packet.node; boot = packet.boot; stream = packet.stream; seq = packet.seq; payload = packet.payload }) }
+        ensures { result ≡ delivery_of self.now.setup.id frame (rank_in self.now.core.tune) slot
+            (record { node = packet.node; boot = packet.boot; stream = packet.stream; seq = packet.seq; payload = packet.payload }) }
     {
         Delivery {
             frame,

@@ -42,7 +42,15 @@ impl Model for Member {
 
     ghost view = { λ m. record {
       setup = record { profile = m.profile; id = m.id; own = m.tuner.own; ranks = m.tuner.ranks; sends = m.sends };
-      core = record { boot = m.boot; tune = m.tuner.tune; plan = m.plan.plan; streams = m.streams; table = m.table; own_slot = m.own_slot; kept = m.kept.items };
+      core = record {
+        boot = m.boot;
+        tune = m.tuner.tune;
+        plan = m.plan.plan;
+        streams = m.streams;
+        table = m.table;
+        own_slot = m.own_slot;
+        kept = m.kept.items;
+      };
     } };
 
     ghost invariant = { λ m. IsMember
@@ -71,7 +79,8 @@ impl Member {
         requires ranks { (1 ≤ ranks) × (ranks ≤ 4) }
         requires own { IfSome own (λ r. r < ranks) }
         requires sends { (1 ≤ sends) × (sends ≤ 4) }
-        ensures { IfOk result (λ m. m ≡ record { setup = record { profile = profile.now; id = id; own = own; ranks = ranks; sends = sends }; core = booted 1 }) }
+        ensures { IfOk result
+            (λ m. m ≡ record { setup = record { profile = profile.now; id = id; own = own; ranks = ranks; sends = sends }; core = booted 1 }) }
     {
         Ok(Member {
             profile: *profile,

@@ -24,12 +24,15 @@ first_slot false other j last fits less = omega arith
 of_schedules : (x : Schedule) → Kinds.Schedule ≡ kind_for (part_by x)
 of_schedules x = cond_both (x.gap == 0) Opening Closing (λ (q : Part). Kinds.Schedule ≡ kind_for q) (λ opens. refl) (λ closes. refl)
 
-pub joined_stands : (c : Core) (x : Schedule) (p : List ℕ) (j n last z : ℕ) (part : Part) (flood : FloodState) → part ≡ part_by x → last ≡ last_by x j → flood ≡ after_heard (listening Kinds.Schedule j n) p → slot_fits x.gap x.plan.contend j ≡ true → z < 2 ^ 47
+pub joined_stands : (c : Core) (x : Schedule) (p : List ℕ) (j n last z : ℕ) (part : Part) (flood : FloodState) → part ≡ part_by x → last ≡ last_by x j
+    → flood ≡ after_heard (listening Kinds.Schedule j n) p → slot_fits x.gap x.plan.contend j ≡ true → z < 2 ^ 47
     → IsWindow c j (record { part = part; last = last; flood = flood; reference = Some z })
 joined_stands c x p j n last z part flood part_is last_is flood_is fits early =
     let kind = of_schedules x in
-    let heard : Carries Kinds.Schedule flood = subst (λ (f : FloodState). Carries Kinds.Schedule f) (sym flood_is) (carried Kinds.Schedule (listening Kinds.Schedule j n) p (refl, tt)) in
-    let own : Carries (kind_for part) flood = subst (λ (q : Part). Carries (kind_for q) flood) (sym part_is) (subst (λ (k : Kind). Carries k flood) kind heard) in
+    let heard : Carries Kinds.Schedule flood =
+    subst (λ (f : FloodState). Carries Kinds.Schedule f) (sym flood_is) (carried Kinds.Schedule (listening Kinds.Schedule j n) p (refl, tt)) in
+    let own : Carries (kind_for part) flood =
+    subst (λ (q : Part). Carries (kind_for q) flood) (sym part_is) (subst (λ (k : Kind). Carries k flood) kind heard) in
     record {
       next = λ less. inl (first_slot (x.gap == 0) _ j (last_slot x.plan) fits (subst (λ (l : ℕ). j < l) last_is less));
       kind = own.0;

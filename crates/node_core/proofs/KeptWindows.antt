@@ -27,7 +27,8 @@ spelled f p is =
     let three = and_parts (room && is_spelling f.kind p) (slot_of p == f.slot) all.0 in
     (and_parts room (is_spelling f.kind p) three.0).1
 
-first_carried : (k : Kind) (first : Option (List ℕ)) (p : List ℕ) → is_spelling k p ≡ true → IfSome first (λ q. is_spelling k q ≡ true) → IfSome (first_of first p) (λ q. is_spelling k q ≡ true)
+first_carried : (k : Kind) (first : Option (List ℕ)) (p : List ℕ) → is_spelling k p ≡ true → IfSome first (λ q. is_spelling k q ≡ true)
+    → IfSome (first_of first p) (λ q. is_spelling k q ≡ true)
 first_carried k None p is had = is
 first_carried k (Some q) p is had = had
 
@@ -48,15 +49,20 @@ hearing_stands p rank now j c w q early is =
       next = is.next;
       kind = after.0;
       carried = after.1;
-      reference = cond_both test (Some (zero_from p now q)) w.reference (λ (o : Option ℕ). IfSome o (λ z. z < 2 ^ 47)) (λ first. omega arith) (λ not. is.reference);
+      reference =
+          cond_both test (Some (zero_from p now q)) w.reference (λ (o : Option ℕ). IfSome o (λ z. z < 2 ^ 47)) (λ first. omega arith) (λ not. is.reference);
     }
 
 -- a host that says the schedules of its round itself goes on doing so
 begun_here : (f : FloodState) (p : List ℕ) → (after_heard f p).initiated ≡ f.initiated
-begun_here f p = cond_both (fits f p) (record f { waiting = nat_lt (counter_of p) 11; first = first_of f.first p }) f (λ (g : FloodState). g.initiated ≡ f.initiated) (λ is. refl) (λ is. refl)
+begun_here f p =
+    cond_both (fits f p) (record f { waiting = nat_lt (counter_of p) 11; first = first_of f.first p }) f (λ (g : FloodState). g.initiated ≡ f.initiated)
+    (λ is. refl) (λ is. refl)
 
-pub hearing_hosted : (p : Numbers) (rank now frame j : ℕ) (c : Core) (w : Window) (q : List ℕ) → HostsIn frame c (InWindow j w) → HostsIn frame c (InWindow j (hearing p rank now w q))
+pub hearing_hosted : (p : Numbers) (rank now frame j : ℕ) (c : Core) (w : Window) (q : List ℕ) → HostsIn frame c (InWindow j w)
+    → HostsIn frame c (InWindow j (hearing p rank now w q))
 hearing_hosted p rank now frame j c w q hosted =
     let same : (hearing p rank now w q).flood.initiated ≡ w.flood.initiated =
-    cond_both (is_foreign rank (message_of q)) w.flood (after_heard w.flood q) (λ (g : FloodState). g.initiated ≡ w.flood.initiated) (λ foreign. refl) (λ own. begun_here w.flood q) in
+    cond_both (is_foreign rank (message_of q)) w.flood (after_heard w.flood q) (λ (g : FloodState). g.initiated ≡ w.flood.initiated) (λ foreign. refl)
+    (λ own. begun_here w.flood q) in
     (hosted.0, λ host is. same ∙ hosted.1 host is)

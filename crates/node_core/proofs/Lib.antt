@@ -3,6 +3,7 @@ pub mod KeptBoots
 pub mod NamedDeliveries
 -- for this crate alone
 pub mod KeptWindows
+pub mod PassedWindows
 pub mod Timed
 pub mod OffNodes
 pub mod OpenedWindows

@@ -1,5 +1,6 @@
 -- What an event does to a node, by the reading of its clock. Each row is named.
-use Rattle.std.specs.Prelude.{true, ℕ, ◌+◌, ◌*◌, ◌/◌, List, [], ◌∷◌, ◌++◌, Bool, false, not, ◌&&◌, ◌==◌, nat_lt, if◌then◌else◌, Some, None, option_map, option_and_then, is_none}
+use Rattle.std.specs.Prelude.{true, ℕ, ◌+◌, ◌*◌, ◌/◌, List, [], ◌∷◌, ◌++◌, Bool, false, not, ◌&&◌, ◌==◌, nat_lt}
+use Rattle.std.specs.Prelude.{if◌then◌else◌, Some, None, option_map, option_and_then, is_none}
 use Rattle.std.specs.declared.option.Option.{Option}
 use Rattle.lwb_base.specs.Profile.{Numbers}
 use Rattle.lwb_base.specs.Messages.{Schedule}
@@ -88,7 +89,10 @@ window_opens s n j =
     let part = part_of n.core.plan j in
     let o = opened s n.frame part n.core in
     record {
-      node = record n { core = o.core; stage = InWindow j (record { part = part; last = last_slot n.core.plan; flood = flood_for s part j o.message; reference = None }) };
+      node = record n {
+        core = o.core;
+        stage = InWindow j (record { part = part; last = last_slot n.core.plan; flood = flood_for s part j o.message; reference = None });
+      };
       orders = Listen (rank_of n.core.tune) ∷ first_sending s.profile n.zero j o.message ++ AlarmAt (closes_at s.profile n.zero j) ∷ [];
       delivery = None;
     }
@@ -198,7 +202,8 @@ accepted_in w = option_and_then (λ a. message_of a.0) (accepted_of w.flood)
 abbrev pub window_closes : Setup → Node → ℕ → Window → Stepped
 window_closes s n j w =
     let c = closed s n.frame w.part w.flood.initiated n.core (accepted_in w) in
-    goes_on s j w.last (record n { core = c.core; zero = zero_by s.profile n.zero w.reference (accepted_in w) }) (option_map (delivery_of s.id n.frame (rank_of n.core.tune) j) c.delivered)
+    goes_on s j w.last (record n { core = c.core; zero = zero_by s.profile n.zero w.reference (accepted_in w) })
+    (option_map (delivery_of s.id n.frame (rank_of n.core.tune) j) c.delivered)
 
 -- the row that fits, by the place and the event; none where no row fits
 abbrev pub at_alarm : Setup → Node → Stage → Option Stepped

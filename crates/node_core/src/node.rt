@@ -48,7 +48,11 @@ impl Model for Node {
 
     ghost Value = { NodeState };
 
-    ghost view = { λ n. record { setup = n.member.setup; node = record { core = n.member.core; frame = n.frame; zero = n.reference.zero; stage = n.stage }; delivery = n.delivery } };
+    ghost view = { λ n. record {
+      setup = n.member.setup;
+      node = record { core = n.member.core; frame = n.frame; zero = n.reference.zero; stage = n.stage };
+      delivery = n.delivery;
+    } };
 
     ghost invariant = { λ n. IsNode n.member.setup.profile n.member.core n.frame n.reference n.stage };
 }
@@ -65,7 +69,11 @@ impl Node {
     ) -> Result<Node, Memory>
         requires hosts { (1 ≤ length hosts.now) × (length hosts.now ≤ 4) }
         requires sends { (1 ≤ n) × (n ≤ 4) }
-        ensures { IfOk result (λ x. x ≡ record { setup = record { profile = profile.now; id = id; own = own_rank id hosts.now; ranks = length hosts.now; sends = n }; node = rebooted 1; delivery = None }) }
+        ensures { IfOk result (λ x. x ≡ record {
+          setup = record { profile = profile.now; id = id; own = own_rank id hosts.now; ranks = length hosts.now; sends = n };
+          node = rebooted 1;
+          delivery = None;
+        }) }
     {
         let own = rank_among(id, hosts);
         Ok(Node {
@@ -111,7 +119,8 @@ impl Node {
     pub fn put(&mut self, stream: u8, payload: &Payload) -> Put
         requires stream { stream ≤ 3 }
         requires payload { length payload.now ≤ self.old.setup.profile.payload_max }
-        ensures answer { result ≡ (if rule.drops self.old.node.core.streams stream then Dropped else Queued (rule.stream_at self.old.node.core.streams stream).next) }
+        ensures answer { result
+            ≡ (if rule.drops self.old.node.core.streams stream then Dropped else Queued (rule.stream_at self.old.node.core.streams stream).next) }
         ensures after { self.new ≡ record self.old { node = with_streams self.old.node (rule.put stream payload.now self.old.node.core.streams) } }
     {
         self.member.put(stream, payload)

@@ -40,7 +40,8 @@ impl Node {
         requires host { hosts self.old.node.core.tune ≡ false }
         requires now { now < 2 ^ 46 }
         requires room { 2 ≤ (R.told radio.old).room }
-        ensures { Follows self.old self.new (R.told radio.old) (R.told radio.new) (scanner_hears self.old.setup self.old.node now packet.now (message_of packet.now)) }
+        ensures { Follows self.old self.new (R.told radio.old) (R.told radio.new)
+            (scanner_hears self.old.setup self.old.node now packet.now (message_of packet.now)) }
     {
         match message_in(packet) {
             Some(Heard::Schedule(schedule)) => {

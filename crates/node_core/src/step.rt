@@ -26,19 +26,18 @@ impl Node {
         ensures row { Follows self.old self.new (R.told radio.old) (R.told radio.new) (row self.old.setup self.old.node (C.time clock.now) event.now) }
         ensures setup { self.new.setup ≡ self.old.setup }
     {
-        self.go_through(clock.now(), radio, event);
+        self.go_through(clock, radio, event);
     }
 
-    // The event happens at this reading.
-    fn go_through<R: Radio>(&mut self, now: u64, radio: &mut R, event: &Event)
-        requires now { now < 2 ^ 46 }
-        requires room { 4 ≤ (R.told radio.old).room }
-        ensures { Follows self.old self.new (R.told radio.old) (R.told radio.new) (row self.old.setup self.old.node now event.now) }
+    // The clock is read only where a time is needed.
+    fn go_through<C: LocalClock, R: Radio>(&mut self, clock: &C, radio: &mut R, event: &Event)
+        requires { 4 ≤ (R.told radio.old).room }
+        ensures { Follows self.old self.new (R.told radio.old) (R.told radio.new) (row self.old.setup self.old.node (C.time clock.now) event.now) }
     {
         match event {
-            Event::Boot => self.boot(now, radio),
+            Event::Boot => self.boot(clock.now(), radio),
             Event::Alarm => self.alarm(radio),
-            Event::Heard(packet) => self.hear(now, packet, radio),
+            Event::Heard(packet) => self.hear(clock.now(), packet, radio),
             Event::Sent => self.end_sending(radio),
         }
     }

@@ -23,7 +23,29 @@ use time_reference::Reference;
 
 impl Node {
     // Window closes, and round ends in the last slot: what the window accepted takes effect, and the node goes on.
+    #[tactic(auto, using(crate::proofs::PassedWindows::window_passes))]
     pub(crate) fn close_window<R: Radio>(&mut self, radio: &mut R)
+        requires { 2 ≤ (R.told radio.old).room }
+        ensures { Follows self.old self.new (R.told radio.old) (R.told radio.new) (at_closing self.old.setup self.old.node self.old.node.stage) }
+    {
+        let Stage::InWindow(slot, window) = &self.stage else {
+            return;
+        };
+        // Most windows accept nothing, and then there is no long message to take along.
+        if window.flood.has_accepted() {
+            self.close_heard(radio);
+            return;
+        }
+        let (slot, last, part) = (*slot, window.last, window.part);
+        let initiated = window.flood.initiated();
+        self.stage = Stage::AwaitFrame;
+        self.delivery = None;
+        self.member.pass(self.frame, part, initiated);
+        self.go_on(slot, last, radio);
+    }
+
+    // As `close_window`, for a window that may have accepted something.
+    fn close_heard<R: Radio>(&mut self, radio: &mut R)
         requires { 2 ≤ (R.told radio.old).room }
         ensures { Follows self.old self.new (R.told radio.old) (R.told radio.new) (at_closing self.old.setup self.old.node self.old.node.stage) }
     {

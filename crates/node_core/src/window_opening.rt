@@ -2,7 +2,7 @@
 
 ghost use Rattle.std.specs.Prelude.{◌≡◌, ◌≤◌, [], ◌∷◌, ◌++◌, None, IfSome};
 ghost use Rattle.lwb_base.specs.declared.order.Order.TheVariants.{Listen, Alarm};
-ghost use Rattle.node_core.specs.declared.stage.Stage.TheVariants.{AwaitSlot};
+ghost use Rattle.node_core.specs.declared.stage.Stage.TheVariants.{AwaitSlot, InWindow};
 ghost use Rattle.lwb_member.specs.Places.{kind_for};
 ghost use Rattle.node_core.specs.Rows.{window_opens};
 ghost use Rattle.lwb_member.specs.Said.{IsSaid};
@@ -38,32 +38,45 @@ impl Node {
         );
         let times = round.window(slot);
         let part = self.member.part(slot);
-        let kind = kind_in(&part);
         let rank = self.member.rank();
         let packet = self.member.speak(&part, slot, frame);
         order(rank, &packet, times.start, times.until, radio);
         self.delivery = None;
-        self.stage = Stage::InWindow(
-            slot,
-            Window {
-                part,
-                last,
-                flood: begin(&packet, kind, slot, sends),
-                reference: None,
-            },
-        );
+        open(&mut self.stage, slot, part, last, sends, &packet);
     }
 }
 
-// The flood of a slot, which begins here with this packet or listens.
-fn begin(packet: &Option<Packet>, kind: Kind, slot: u8, sends: u8) -> Flood
-    requires said { IfSome packet.now (IsSaid kind) }
+// The window of a slot opens, whose flood begins here with this packet or listens. A flood is long: where each of the two
+// makes its own stage, it is made in its place, and not moved there.
+fn open(stage: &mut Stage, slot: u8, part: Part, last: u8, sends: u8, packet: &Option<Packet>)
+    requires said { IfSome packet.now (IsSaid (kind_for part)) }
     requires sends { (1 ≤ sends) × (sends ≤ 4) }
-    ensures { result ≡ flood_with kind slot sends packet.now }
+    ensures { stage.new ≡ InWindow slot (record { part = part; last = last; flood = flood_with (kind_for part) slot sends packet.now; reference = None }) }
 {
     match packet {
-        Some(packet) => Flood::initiate(packet, sends),
-        None => Flood::listen(kind, slot, sends),
+        Some(packet) => {
+            *stage = Stage::InWindow(
+                slot,
+                Window {
+                    part,
+                    last,
+                    flood: Flood::initiate(packet, sends),
+                    reference: None,
+                },
+            );
+        }
+        None => {
+            let kind = kind_in(&part);
+            *stage = Stage::InWindow(
+                slot,
+                Window {
+                    part,
+                    last,
+                    flood: Flood::listen(kind, slot, sends),
+                    reference: None,
+                },
+            );
+        }
     }
 }
 

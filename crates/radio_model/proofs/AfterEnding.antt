@@ -1,5 +1,6 @@
 -- What the medium holds after a sending ends.
-use Rattle.std.proofs.Common.{◌≡◌, ℕ, zero, suc, ◌+◌, ◌-◌, ◌*◌, ◌≤◌, ◌⊎◌, inl, inr, List, [], ◌∷◌, ◌++◌, length, drop, ◌==◌, Option, Some, None, option_to_list, refl, sym, ◌∙◌, ap, subst, arith, Contains, append-nil, length-append}
+use Rattle.std.proofs.Common.{◌≡◌, ℕ, zero, suc, ◌+◌, ◌-◌, ◌*◌, ◌≤◌, ◌⊎◌, inl, inr, List, [], ◌∷◌, ◌++◌, length, drop, ◌==◌, Option, Some}
+use Rattle.std.proofs.Common.{None, option_to_list, refl, sym, ◌∙◌, ap, subst, arith, Contains, append-nil, length-append}
 use Rattle.std.proofs.lemmas.Bool.{cond_both, cases_lt, eqb-true}
 use Rattle.std.proofs.Math.Nat.{mul-le-mul_right}
 use Rattle.std.proofs.lemmas.List.Elements.{Contains-append_cases, All-contains}
@@ -54,7 +55,8 @@ module _ (s : ℕ) where
       let first = turn.0 in
       omega (arith, ends_after y.end ys x turn.1 (λ z there. lasting z (in_tail (ys ++ x ∷ []) y z there)))
 
-  pub kept_or_over : (k from : ℕ) (ys : List Sending) (x y : Sending) → InTurn from (ys ++ x ∷ []) → Lasting (ys ++ x ∷ []) → Contains (ys ++ x ∷ []) y → k ≤ length ys
+  pub kept_or_over : (k from : ℕ) (ys : List Sending) (x y : Sending) → InTurn from (ys ++ x ∷ []) → Lasting (ys ++ x ∷ []) → Contains (ys ++ x ∷ []) y
+      → k ≤ length ys
       → Contains (drop k (ys ++ x ∷ [])) y ⊎ (y.end + (length ys + 1 - k) * s ≤ x.end)
   kept_or_over zero from ys x y turn lasting there few = inl there
   kept_or_over (suc k) from [] x y turn lasting there few = absurd (omega arith)
@@ -80,13 +82,16 @@ lasts_least p v y own =
     omega arith
 
 -- what a station forgets when its sending ends at t has been over for long
-module _ (p : Numbers) (now t : ℕ) (st : Station) (room : st.ended.capacity ≡ 13) (is : IsOrderly p now st) (ends : (x : Sending) → st.sending ≡ Some x → x.end ≡ t) where
-  kept_by : (o : Option Sending) → st.sending ≡ o → (y : Sending) → Contains (on_air st) y → Contains ((with_ended st.ended o).items ++ []) y ⊎ (y.end + longest p ≤ t)
+module _ (p : Numbers) (now t : ℕ) (st : Station) (room : st.ended.capacity ≡ 13) (is : IsOrderly p now st)
+    (ends : (x : Sending) → st.sending ≡ Some x → x.end ≡ t) where
+  kept_by : (o : Option Sending) → st.sending ≡ o → (y : Sending) → Contains (on_air st) y
+      → Contains ((with_ended st.ended o).items ++ []) y ⊎ (y.end + longest p ≤ t)
   kept_by None same y there = inl (subst (λ (q : Option Sending). Contains (st.ended.items ++ option_to_list q) y) same there)
   kept_by (Some x) same y there =
       let air : on_air st ≡ st.ended.items ++ x ∷ [] = ap (λ (q : Option Sending). st.ended.items ++ option_to_list q) same in
       let turn : InTurn 0 (st.ended.items ++ x ∷ []) = subst (InTurn 0) air is.in_turn in
-      let lasting : Lasting (shortest p) (st.ended.items ++ x ∷ []) = λ z in_it. lasts_least p st.node z (is.own z (subst (λ (l : List Sending). Contains l z) (sym air) in_it)) in
+      let lasting : Lasting (shortest p) (st.ended.items ++ x ∷ []) =
+      λ z in_it. lasts_least p st.node z (is.own z (subst (λ (l : List Sending). Contains l z) (sym air) in_it)) in
       let in_it : Contains (st.ended.items ++ x ∷ []) y = subst (λ (l : List Sending). Contains l y) air there in
       let k : ℕ = length (st.ended.items ++ x ∷ []) - st.ended.capacity in
       let long : length (st.ended.items ++ x ∷ []) ≡ length st.ended.items + 1 = length-append st.ended.items (x ∷ []) in
@@ -94,7 +99,8 @@ module _ (p : Numbers) (now t : ℕ) (st : Station) (room : st.ended.capacity �
       elim (cases_lt (length st.ended.items) 13) [
         | inl few ↦
             let none : k ≡ 0 = omega arith in
-            inl (subst (λ (l : List Sending). Contains l y) (sym (air_less st.ended (Some x))) (subst (λ (n : ℕ). Contains (drop n (st.ended.items ++ x ∷ [])) y) (sym none) in_it))
+            inl (subst (λ (l : List Sending). Contains l y) (sym (air_less st.ended (Some x)))
+            (subst (λ (n : ℕ). Contains (drop n (st.ended.items ++ x ∷ [])) y) (sym none) in_it))
         | inr full ↦
             elim (kept_or_over (shortest p) k 0 st.ended.items x y turn lasting in_it (omega arith)) [
               | inl kept ↦ inl (subst (λ (l : List Sending). Contains l y) (sym (air_less st.ended (Some x))) kept)
@@ -114,7 +120,8 @@ module _ (p : Numbers) (now t : ℕ) (st : Station) (room : st.ended.capacity �
   over_by_now : (o : Option Sending) → st.sending ≡ o → now ≤ t → (y : Sending) → Contains (with_ended st.ended o).items y → y.end ≤ t
   over_by_now None same later y there = let by = is.over y there in omega arith
   over_by_now (Some x) same later y there =
-      elim (Contains-append_cases st.ended.items (x ∷ []) y (in_drop (length (st.ended.items ++ x ∷ []) - st.ended.capacity) (st.ended.items ++ x ∷ []) y there)) [
+      elim (Contains-append_cases st.ended.items (x ∷ []) y
+      (in_drop (length (st.ended.items ++ x ∷ []) - st.ended.capacity) (st.ended.items ++ x ∷ []) y there)) [
         | inl old ↦ let by = is.over y old in omega arith
         | inr new ↦ elim (in_either [] x y new) [
           | inl at ↦ omega (arith, ap (λ (z : Sending). z.end) at, ends x same)
@@ -156,7 +163,8 @@ module _ (m : MediumState) (is : IsMedium m) (a : Scene) (h : Holds m a) (v t : 
   held_old : (st : Station) → Contains m.stations st → held st
   held_old st there y kept = h.sent y (record { station = st; there = there; kept = kept })
 
-  stays : (st : Station) → Contains m.stations st → (y : Sending) → Contains (on_air st) y → Contains (on_air (changed_at v finished st)) y ⊎ (y.end + longest m.numbers ≤ t)
+  stays : (st : Station) → Contains m.stations st → (y : Sending) → Contains (on_air st) y
+      → Contains (on_air (changed_at v finished st)) y ⊎ (y.end + longest m.numbers ≤ t)
   stays st there y kept =
       cond_both (st.node == v) (finished st) st (λ (s : Station). Contains (on_air s) y ⊎ (y.end + longest m.numbers ≤ t))
       (λ same. kept_finished m.numbers m.now t st (room_of st there) (h.orderly st there) (ends_of st there (eqb-true st.node v same)) y kept)
@@ -167,10 +175,12 @@ module _ (m : MediumState) (is : IsMedium m) (a : Scene) (h : Holds m a) (v t : 
     numbers = h.numbers;
     orderly = each_after m is finished finished_keeps v t (IsOrderly m.numbers t)
         (λ st there node. orderly_finished m.numbers m.now t st (room_of st there) (h.orderly st there) (ends_of st there node) later)
-        (λ st there other. orderly_later m.numbers m.now t st st later (h.orderly st there) refl refl refl (order_later m.now t st.tuned st.last later (h.orderly st there).tunings));
+        (λ st there other. orderly_later m.numbers m.now t st st later (h.orderly st there) refl refl refl
+        (order_later m.now t st.tuned st.last later (h.orderly st there).tunings));
     known = λ y there. elim (h.known y there) [
       | inl kept ↦ elim (stays kept.station kept.there y kept.kept) [
-        | inl on ↦ inl (record { station = changed_at v finished kept.station; there = is_there m is finished finished_keeps v t kept.station kept.there; kept = on })
+        | inl on ↦
+            inl (record { station = changed_at v finished kept.station; there = is_there m is finished finished_keeps v t kept.station kept.there; kept = on })
         | inr over ↦ inr over
       ]
       | inr over ↦ inr (omega arith)

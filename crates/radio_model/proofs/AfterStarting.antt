@@ -1,5 +1,6 @@
 -- What the medium holds after a sending begins.
-use Rattle.std.proofs.Common.{◌≡◌, ℕ, ◌+◌, ◌≤◌, inl, inr, List, [], ◌∷◌, ◌++◌, length, if◌then◌else◌, ◌==◌, Option, Some, None, is_none, option_to_list, refl, sym, ◌∙◌, ap, subst, arith, Contains, append-nil}
+use Rattle.std.proofs.Common.{◌≡◌, ℕ, ◌+◌, ◌≤◌, inl, inr, List, [], ◌∷◌, ◌++◌, length, if◌then◌else◌, ◌==◌, Option, Some, None}
+use Rattle.std.proofs.Common.{is_none, option_to_list, refl, sym, ◌∙◌, ap, subst, arith, Contains, append-nil}
 use Rattle.std.proofs.lemmas.List.Elements.{Contains-append_cases, Contains-append_left, Contains-append_right}
 use Rattle.std.proofs.lemmas.Bool.{cond_both}
 use Rattle.lwb_base.specs.Profile.{Numbers, airtime}
@@ -17,11 +18,13 @@ use Rattle.radio_model.proofs.Retuned.{order_later, tells_same}
 use Rattle.radio_model.proofs.OneCall.{found_member, lit_moves, tells_by, right_by, each_after, ascend_after, is_there, at_v}
 use Rattle.radio_model.proofs.AfterTuning.{orderly_later}
 
-with_next : (ys : List Sending) (s n : Option Sending) → ys ++ option_to_list (first_sending s n) ≡ (ys ++ option_to_list s) ++ option_to_list (if is_none s then n else None)
+with_next : (ys : List Sending) (s n : Option Sending)
+    → ys ++ option_to_list (first_sending s n) ≡ (ys ++ option_to_list s) ++ option_to_list (if is_none s then n else None)
 with_next ys None n = sym (ap (λ (l : List Sending). l ++ option_to_list n) (append-nil ys))
 with_next ys (Some x) n = sym (append-nil (ys ++ x ∷ []))
 
-pub in_turn_push : (from : ℕ) (ys : List Sending) (x : Sending) → InTurn from ys → from ≤ x.start → ((y : Sending) → Contains ys y → y.end ≤ x.start) → InTurn from (ys ++ x ∷ [])
+pub in_turn_push : (from : ℕ) (ys : List Sending) (x : Sending) → InTurn from ys → from ≤ x.start → ((y : Sending) → Contains ys y → y.end ≤ x.start)
+    → InTurn from (ys ++ x ∷ [])
 in_turn_push from [] x turn first over = (first, tt)
 in_turn_push from (y ∷ ys) x turn first over = (turn.0, in_turn_push y.end ys x turn.1 (over y (in_head ys y)) (λ z there. over z (in_tail ys y z there)))
 
@@ -32,7 +35,8 @@ module _ (p : Numbers) (t : ℕ) (packet : List ℕ) (short : 3 ≤ length packe
   air_more : (st : Station) → on_air (started p t packet st) ≡ on_air st ++ option_to_list (next st)
   air_more st = with_next st.ended.items st.sending (next_sending p t packet st.node st.tuned)
 
-  next_is : (v : ℕ) (s : Option Sending) (tuned : Option Tuned) (y : Sending) → (if is_none s then next_sending p t packet v tuned else None) ≡ Some y → (s ≡ None) × IsOwn p v y × (y.start ≡ t)
+  next_is : (v : ℕ) (s : Option Sending) (tuned : Option Tuned) (y : Sending) → (if is_none s then next_sending p t packet v tuned else None) ≡ Some y
+      → (s ≡ None) × IsOwn p v y × (y.start ≡ t)
   next_is v None None y is = cc
   next_is v None (Some o) y is =
       let same : record { rank = o.rank; node = v; start = t; end = t + airtime p (length packet); packet = packet } ≡ y = some_same is in
@@ -60,9 +64,11 @@ module _ (p : Numbers) (t : ℕ) (packet : List ℕ) (short : 3 ≤ length packe
           let w = next_is st.node st.sending st.tuned x same in
           let silent : on_air st ≡ st.ended.items = ap (λ (s : Option Sending). st.ended.items ++ option_to_list s) w.0 ∙ append-nil st.ended.items in
           let start = w.2 in
-          in_turn_push 0 (on_air st) x is.in_turn (omega arith) (λ y there. let by = is.over y (subst (λ (l : List Sending). Contains l y) silent there) in omega arith)
+          in_turn_push 0 (on_air st) x is.in_turn (omega arith)
+          (λ y there. let by = is.over y (subst (λ (l : List Sending). Contains l y) silent there) in omega arith)
 
-module _ (m : MediumState) (is : IsMedium m) (a : Scene) (h : Holds m a) (v : ℕ) (member : Contains (nodes_of m) v) (t : ℕ) (later : m.now ≤ t) (packet : List ℕ) (short : 3 ≤ length packet) (long : length packet ≤ 125) where
+module _ (m : MediumState) (is : IsMedium m) (a : Scene) (h : Holds m a) (v : ℕ) (member : Contains (nodes_of m) v) (t : ℕ) (later : m.now ≤ t)
+    (packet : List ℕ) (short : 3 ≤ length packet) (long : length packet ≤ 125) where
   abbrev change : Station → Station
   change = started m.numbers t packet
 
@@ -81,13 +87,17 @@ module _ (m : MediumState) (is : IsMedium m) (a : Scene) (h : Holds m a) (v : �
   still : (st : Station) → Contains m.stations st → now_tells st
   still st there =
       tells_same (Lit a st.node) (Lit (record a { sendings = a.sendings ++ option_to_list new }) st.node) st.tuned st.last t
-      (λ c k. (lit_moves a (record a { sendings = a.sendings ++ option_to_list new }) st.node c k refl, lit_moves (record a { sendings = a.sendings ++ option_to_list new }) a st.node c k refl))
+      (λ c k. (
+        lit_moves a (record a { sendings = a.sendings ++ option_to_list new }) st.node c k refl,
+        lit_moves (record a { sendings = a.sendings ++ option_to_list new }) a st.node c k refl,
+      ))
       (tells_later (Lit a st.node) st.tuned st.last m.now t later (tells_by m a is.nodes.ascending st there m.now (h.tuned st there)))
 
   air_grows : (st : Station) (y : Sending) → Contains (on_air st) y → Contains (on_air (changed_at v change st)) y
   air_grows st y there =
       cond_both (st.node == v) (change st) st (λ (s : Station). Contains (on_air s) y)
-      (λ _. subst (λ (l : List Sending). Contains l y) (sym (air_more m.numbers t packet short long st)) (Contains-append_left (on_air st) (option_to_list (next m.numbers t packet short long st)) y there))
+      (λ _. subst (λ (l : List Sending). Contains l y) (sym (air_more m.numbers t packet short long st))
+      (Contains-append_left (on_air st) (option_to_list (next m.numbers t packet short long st)) y there))
       (λ _. there)
 
   known_new : (y : Sending) → new ≡ Some y → IsKept (after t v change m) y
@@ -98,7 +108,8 @@ module _ (m : MediumState) (is : IsMedium m) (a : Scene) (h : Holds m a) (v : �
         there = is_there m is change (started_keeps m.numbers t packet) v t w.0 w.1;
         kept = subst (λ (s : Station). Contains (on_air s) y) (sym (at_v m is change (started_keeps m.numbers t packet) v t w.0 w.2))
             (subst (λ (l : List Sending). Contains l y) (sym (air_more m.numbers t packet short long w.0))
-            (Contains-append_right (on_air w.0) (option_to_list (next m.numbers t packet short long w.0)) y (of_option (next m.numbers t packet short long w.0) y (sym (new_of w.0 w.1 w.2) ∙ same))));
+            (Contains-append_right (on_air w.0) (option_to_list (next m.numbers t packet short long w.0)) y
+            (of_option (next m.numbers t packet short long w.0) y (sym (new_of w.0 w.1 w.2) ∙ same))));
       }
 
   abbrev sends : Station → Type 0
@@ -109,9 +120,11 @@ module _ (m : MediumState) (is : IsMedium m) (a : Scene) (h : Holds m a) (v : �
 
   sent_new : (st : Station) → Contains m.stations st → st.node ≡ v → sends (change st)
   sent_new st there node y kept =
-      elim (Contains-append_cases (on_air st) (option_to_list (next m.numbers t packet short long st)) y (subst (λ (l : List Sending). Contains l y) (air_more m.numbers t packet short long st) kept)) [
+      elim (Contains-append_cases (on_air st) (option_to_list (next m.numbers t packet short long st)) y
+      (subst (λ (l : List Sending). Contains l y) (air_more m.numbers t packet short long st) kept)) [
         | inl old ↦ sent_old st there y old
-        | inr now ↦ Contains-append_right a.sendings (option_to_list new) y (subst (λ (o : Option Sending). Contains (option_to_list o) y) (sym (new_of st there node)) now)
+        | inr now ↦ Contains-append_right a.sendings (option_to_list new) y
+            (subst (λ (o : Option Sending). Contains (option_to_list o) y) (sym (new_of st there node)) now)
       ]
 
   pub holds_after_starting : Holds (after t v change m) (after_starting m v t packet a)
@@ -121,16 +134,22 @@ module _ (m : MediumState) (is : IsMedium m) (a : Scene) (h : Holds m a) (v : �
         numbers = h.numbers;
         orderly = each_after m is change keeps v t (IsOrderly m.numbers t)
             (λ st there node. orderly_started m.numbers t packet short long m.now st later (h.orderly st there))
-            (λ st there other. orderly_later m.numbers m.now t st st later (h.orderly st there) refl refl refl (order_later m.now t st.tuned st.last later (h.orderly st there).tunings));
+            (λ st there other. orderly_later m.numbers m.now t st st later (h.orderly st there) refl refl refl
+            (order_later m.now t st.tuned st.last later (h.orderly st there).tunings));
         known = λ y there. elim (Contains-append_cases a.sendings (option_to_list new) y there) [
           | inl old ↦ elim (h.known y old) [
-            | inl kept ↦ inl (record { station = changed_at v change kept.station; there = is_there m is change keeps v t kept.station kept.there; kept = air_grows kept.station y kept.kept })
+            | inl kept ↦ inl (record {
+              station = changed_at v change kept.station;
+              there = is_there m is change keeps v t kept.station kept.there;
+              kept = air_grows kept.station y kept.kept;
+            })
             | inr over ↦ inr (omega arith)
           ]
           | inr now ↦ inl (known_new y (in_option new y now))
         ];
         sent = λ y kept. each_after m is change keeps v t sends sent_new (λ st there other. sent_old st there) kept.station kept.there y kept.kept;
         past = λ k there. let by = h.past k there in omega arith;
-        tuned = λ st there. right_by (after t v change m) (record a { sendings = a.sendings ++ option_to_list new }) (ascend_after m is change keeps v t) st there t
+        tuned =
+            λ st there. right_by (after t v change m) (record a { sendings = a.sendings ++ option_to_list new }) (ascend_after m is change keeps v t) st there t
             (each_after m is change keeps v t now_tells (λ s old node. still s old) (λ s old other. still s old) st there);
       }

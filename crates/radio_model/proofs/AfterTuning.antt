@@ -21,12 +21,15 @@ same_air (Some r) t st = cond_both (is_tuned_to st.tuned r) st (tuned_in r t (tu
 
 same_ended : (rank : Option ℕ) (t : ℕ) (st : Station) → (retuned rank t st).ended.items ≡ st.ended.items
 same_ended None t st = refl
-same_ended (Some r) t st = cond_both (is_tuned_to st.tuned r) st (tuned_in r t (tuned_out t st)) (λ (s : Station). s.ended.items ≡ st.ended.items) (λ _. refl) (λ _. refl)
+same_ended (Some r) t st =
+    cond_both (is_tuned_to st.tuned r) st (tuned_in r t (tuned_out t st)) (λ (s : Station). s.ended.items ≡ st.ended.items) (λ _. refl) (λ _. refl)
 
 -- the same sendings at a later tick
-pub orderly_later : (p : Numbers) (now t : ℕ) (s st : Station) → now ≤ t → IsOrderly p now s → st.node ≡ s.node → on_air st ≡ on_air s → st.ended.items ≡ s.ended.items → IsOrder t st.tuned st.last → IsOrderly p t st
+pub orderly_later : (p : Numbers) (now t : ℕ) (s st : Station) → now ≤ t → IsOrderly p now s → st.node ≡ s.node → on_air st ≡ on_air s
+    → st.ended.items ≡ s.ended.items → IsOrder t st.tuned st.last → IsOrderly p t st
 orderly_later p now t s st later is node air ended order = record {
-  own = λ y there. let o = is.own y (subst (λ (l : List Sending). Contains l y) air there) in record { node = o.node ∙ sym node; lasts = o.lasts; short = o.short; long = o.long };
+  own = λ y there. let o = is.own y (subst (λ (l : List Sending). Contains l y) air there) in
+      record { node = o.node ∙ sym node; lasts = o.lasts; short = o.short; long = o.long };
   in_turn = subst (InTurn 0) (sym air) is.in_turn;
   over = λ y there. let by = is.over y (subst (λ (l : List Sending). Contains l y) ended there) in omega arith;
   tunings = order;
@@ -44,8 +47,10 @@ module _ (m : MediumState) (is : IsMedium m) (a : Scene) (h : Holds m a) (v : �
 
   here : (st : Station) → Contains m.stations st → st.node ≡ v → now_told (change st)
   here st there node =
-      let at : ending ≡ closed v rank t st.tuned = ap (λ (o : Option Station). closed v rank t (tuned_of o)) (ap (station_of m) (sym node) ∙ found_member m.stations st is.nodes.ascending there) in
-      let old : Tells (Lit a v) st.tuned st.last m.now = subst (λ (n : ℕ). Tells (Lit a n) st.tuned st.last m.now) node (tells_by m a is.nodes.ascending st there m.now (h.tuned st there)) in
+      let at : ending ≡ closed v rank t st.tuned =
+      ap (λ (o : Option Station). closed v rank t (tuned_of o)) (ap (station_of m) (sym node) ∙ found_member m.stations st is.nodes.ascending there) in
+      let old : Tells (Lit a v) st.tuned st.last m.now =
+      subst (λ (n : ℕ). Tells (Lit a n) st.tuned st.last m.now) node (tells_by m a is.nodes.ascending st there m.now (h.tuned st there)) in
       let told = told_after a v m.now t later (λ c k. past_lit m a h v c k) rank st (h.orderly st there).tunings old in
       let kept : (change st).node ≡ v = (retuned_keeps rank t).node st ∙ node in (
         subst (λ (n : ℕ). Tells (Lit (with_tuning a ending) n) (change st).tuned (change st).last t) (sym kept)
@@ -68,13 +73,20 @@ module _ (m : MediumState) (is : IsMedium m) (a : Scene) (h : Holds m a) (v : �
   holds_after_tuning = record {
     numbers = h.numbers;
     orderly = each_after m is change (retuned_keeps rank t) v t (IsOrderly m.numbers t)
-        (λ st there node. orderly_later m.numbers m.now t st (change st) later (h.orderly st there) ((retuned_keeps rank t).node st) (same_air rank t st) (same_ended rank t st) (here st there node).1)
+        (λ st there node. orderly_later m.numbers m.now t st (change st) later (h.orderly st there) ((retuned_keeps rank t).node st) (same_air rank t st)
+        (same_ended rank t st) (here st there node).1)
         (λ st there other. orderly_later m.numbers m.now t st st later (h.orderly st there) refl refl refl (elsewhere st there other).1);
-    known = λ y there. elim (h.known y there) [ inl kept ↦ inl (kept_on m is change (retuned_keeps rank t) v t (same_air rank t) y kept) | inr old ↦ inr (omega arith) ];
+    known =
+        λ y there. elim (h.known y there) [
+          | inl kept ↦ inl (kept_on m is change (retuned_keeps rank t) v t (same_air rank t) y kept)
+          | inr old ↦ inr (omega arith)
+        ];
     sent = λ y kept. h.sent y (kept_back m is change (retuned_keeps rank t) v t (same_air rank t) y kept);
     past = λ k there. elim (Contains-append_cases a.tunings (option_to_list ending) k there) [
       | inl ended ↦ let by = h.past k ended in omega arith
       | inr new ↦ omega (arith, (closed_is v rank t (tuned_of (station_of m v)) k (in_option ending k new)).end)
     ];
-    tuned = λ st there. right_by (after t v change m) (with_tuning a ending) (ascend_after m is change (retuned_keeps rank t) v t) st there t (told_each st there).0;
+    tuned =
+        λ st there. right_by (after t v change m) (with_tuning a ending) (ascend_after m is change (retuned_keeps rank t) v t) st there t
+        (told_each st there).0;
   }

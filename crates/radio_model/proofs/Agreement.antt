@@ -24,7 +24,11 @@ agree_on t a b c s u = record {
   numbers = s.numbers ∙ u.numbers;
   lines = s.lines ∙ u.lines;
   sendings = λ y early. (λ is. (u.sendings y early).0 ((s.sendings y early).0 is), λ is. (s.sendings y early).1 ((u.sendings y early).1 is));
-  tuned = λ v channel k early. (λ is. (u.tuned v channel k early).0 ((s.tuned v channel k early).0 is), λ is. (s.tuned v channel k early).1 ((u.tuned v channel k early).1 is));
+  tuned =
+      λ v channel k early. (
+        λ is. (u.tuned v channel k early).0 ((s.tuned v channel k early).0 is),
+        λ is. (s.tuned v channel k early).1 ((u.tuned v channel k early).1 is),
+      );
 }
 
 pub agree_earlier : (s t : ℕ) (a b : Scene) → s ≤ t → Agree t a b → Agree s a b

@@ -1,5 +1,6 @@
 -- Newest sendings that overlap and whose marks have one origin have one packet.
-use Rattle.std.proofs.Common.{◌≡◌, ℕ, ◌+◌, List, length, Bool, true, false, not, ◌&&◌, ◌||◌, ◌==◌, nat_lt, nat_le, Some, sym, ◌∙◌, ap, arith, inl, inr, Contains}
+use Rattle.std.proofs.Common.{◌≡◌, ℕ, ◌+◌, List, length, Bool, true, false, not, ◌&&◌, ◌||◌, ◌==◌}
+use Rattle.std.proofs.Common.{nat_lt, nat_le, Some, sym, ◌∙◌, ap, arith, inl, inr, Contains}
 use Rattle.std.proofs.lemmas.Bool.{cases_lt, and_parts, eqb-true, leb-true, both_ways, false_from_ne_true, not-true}
 use Rattle.std.specs.List.{list_any}
 use Rattle.lwb_base.specs.Profile.{Numbers}
@@ -19,14 +20,16 @@ use Rattle.radio_model.proofs.RivalFacts.{rival, of_test, meets_true, same_from}
 pub origin_from : (a b : Origin) → is_same a b ≡ true → a ≡ b
 origin_from a b so =
     let both = and_parts (a.place == b.place) (a.start == b.start) so in
-    let first : a ≡ record { place = b.place; start = a.start } = ap (λ (n : ℕ). let o : Origin = record { place = n; start = a.start } in o) (eqb-true a.place b.place both.0) in
+    let first : a ≡ record { place = b.place; start = a.start } =
+    ap (λ (n : ℕ). let o : Origin = record { place = n; start = a.start } in o) (eqb-true a.place b.place both.0) in
     first ∙ ap (λ (n : ℕ). let o : Origin = record { place = b.place; start = n } in o) (eqb-true a.start b.start both.1)
 
 abbrev timely : ℕ → Sending → ℕ → ℕ → Bool
 timely delta x node start = (nat_lt x.start start || ((x.start == start) && nat_le x.node node)) && nat_le start (x.start + delta)
 
 -- what comes along with x
-module _ (p : Numbers) (x : Sending) (st : Station) (mk : Mark) (origin : Origin) (delta : ℕ) (is : IsMark (on_air st) mk) (alike : IsAlike (on_air st) st.node mk origin x) (by : delta ≡ p.delta)
+module _ (p : Numbers) (x : Sending) (st : Station) (mk : Mark) (origin : Origin) (delta : ℕ) (is : IsMark (on_air st) mk)
+    (alike : IsAlike (on_air st) st.node mk origin x) (by : delta ≡ p.delta)
     (so : comes_along delta x origin st.node mk ≡ true) where
   one_packet : (y : Sending) (r : Rival) → Contains (on_air st) y → rival_to p x st y ≡ Some r → (r.same ≡ true) × (r.in_time ≡ true)
   one_packet y r (k, below, at) found =
@@ -45,7 +48,8 @@ module _ (p : Numbers) (x : Sending) (st : Station) (mk : Mark) (origin : Origin
             let own = alike y (record { place = k; last = here; there = at }) in
             let start : y.start ≡ mk.start = ap (λ (z : Sending). z.start) (sym at) ∙ is.start k y here in
             let in_time : timely p.delta x y.node y.start ≡ true =
-            ap (timely p.delta x y.node) start ∙ ap (λ (n : ℕ). timely p.delta x n mk.start) own.0 ∙ ap (λ (d : ℕ). timely d x st.node mk.start) (sym by) ∙ parts.1 in (
+            ap (timely p.delta x y.node) start ∙ ap (λ (n : ℕ). timely p.delta x n mk.start) own.0 ∙ ap (λ (d : ℕ). timely d x st.node mk.start) (sym by)
+            ∙ parts.1 in (
               ap (λ (w : Rival). w.same) (sym test.1) ∙ same_from y x (own.1 (origin_from mk.origin origin two.1) meets),
               ap (λ (w : Rival). w.in_time) (sym test.1) ∙ in_time,
             )

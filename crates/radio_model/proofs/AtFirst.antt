@@ -31,12 +31,16 @@ module _ (p : Numbers) (nodes : List ℕ) (profile : IsProfile p) (are : AreNode
   pub holds_at_first : Holds m (nothing_yet p lines)
   holds_at_first = record {
     numbers = refl;
-    orderly = each_fresh (IsOrderly p 0) (λ v i. record { own = λ y there. absurd (not_in_none y there); in_turn = tt; over = λ y there. absurd (not_in_none y there); tunings = tt });
+    orderly =
+        each_fresh (IsOrderly p 0)
+        (λ v i. record { own = λ y there. absurd (not_in_none y there); in_turn = tt; over = λ y there. absurd (not_in_none y there); tunings = tt });
     known = λ y there. absurd (not_in_none y there);
     sent = λ y kept. absurd (silent kept.station kept.there y kept.kept);
     past = λ k there. absurd (not_in_none k there);
     tuned = λ st there c s t later early.
-        let no_tuning : (k : ℕ) → k < t → IsTuned (as_it_stands m t (nothing_yet p lines)) st.node c k → ⊥ = λ k high is. none_lit st there c k ((stands m (nothing_yet p lines) st t c k (first_is_medium p nodes profile are).nodes.ascending there high).0 is) in
+        let no_tuning : (k : ℕ) → k < t → IsTuned (as_it_stands m t (nothing_yet p lines)) st.node c k → ⊥ =
+        λ k high is. none_lit st there c k
+        ((stands m (nothing_yet p lines) st t c k (first_is_medium p nodes profile are).nodes.ascending there high).0 is) in
         (λ all. absurd (no_tuning s early (all s (omega arith) early)), λ so. absurd (none_covers st there c s t so));
   }
     where

@@ -13,7 +13,9 @@ retuned_keeps None t = record { node = λ st. refl; place = λ st. refl; room = 
 retuned_keeps (Some r) t = record {
   node = λ st. cond_both (is_tuned_to st.tuned r) st (tuned_in r t (tuned_out t st)) (λ (s : Station). s.node ≡ st.node) (λ _. refl) (λ _. refl);
   place = λ st. cond_both (is_tuned_to st.tuned r) st (tuned_in r t (tuned_out t st)) (λ (s : Station). s.place ≡ st.place) (λ _. refl) (λ _. refl);
-  room = λ st. cond_both (is_tuned_to st.tuned r) st (tuned_in r t (tuned_out t st)) (λ (s : Station). s.ended.capacity ≡ st.ended.capacity) (λ _. refl) (λ _. refl);
+  room =
+      λ st. cond_both (is_tuned_to st.tuned r) st (tuned_in r t (tuned_out t st)) (λ (s : Station). s.ended.capacity ≡ st.ended.capacity) (λ _. refl)
+      (λ _. refl);
 }
 
 pub started_keeps : (p : Numbers) (t : ℕ) (packet : List ℕ) → Keeps (started p t packet)

@@ -1,5 +1,6 @@
 -- What rivals bring by masks: of none, of one, and of two lists of them.
-use Rattle.std.proofs.Common.{◌≡◌, ◌≢◌, ℕ, ◌<◌, ◌≤◌, List, [], ◌∷◌, ◌++◌, length, get_or, Bool, true, false, not, ◌&&◌, ◌||◌, ◌==◌, if◌then◌else◌, Option, Some, None, option_to_list, filter_map, bit_and, bit_or, min, nat_lt, eq-eqb, refl, sym, ◌∙◌, ap, subst, arith}
+use Rattle.std.proofs.Common.{◌≡◌, ◌≢◌, ℕ, ◌<◌, ◌≤◌, List, [], ◌∷◌, ◌++◌, length, get_or, Bool, true, false, not, ◌&&◌, ◌||◌, ◌==◌, if◌then◌else◌, Option}
+use Rattle.std.proofs.Common.{Some, None, option_to_list, filter_map, bit_and, bit_or, min, nat_lt, eq-eqb, refl, sym, ◌∙◌, ap, subst, arith}
 use Rattle.std.proofs.Math.Nat.{min-le_left}
 use Rattle.std.proofs.lemmas.Bool.{and_parts, eqb-true, false≢true, false_from_ne_true}
 use Rattle.std.proofs.lemmas.List.Folds.{list_any-append}
@@ -11,7 +12,8 @@ use Rattle.link_trace.specs.Masks.{IsMask}
 use Rattle.link_trace.specs.Passes.{Lines}
 use Rattle.link_trace.proofs.MaskBits.{empty_mask, joined, same_tests}
 use Rattle.radio_model.specs.Stations.{on_air, overlaps}
-use Rattle.radio_model.specs.Meetings.{rival_to, rivals_in, passes_at, reaches, comes_from, spoils, differs, repeats, IsPlaced, IsBrought, nothing, both_brought, brought_by, IsCrowd, no_crowd, both_crowds}
+use Rattle.radio_model.specs.Meetings.{rival_to, rivals_in, passes_at, reaches, comes_from, spoils, differs, repeats, IsPlaced}
+use Rattle.radio_model.specs.Meetings.{IsBrought, nothing, both_brought, brought_by, IsCrowd, no_crowd, both_crowds}
 use Rattle.radio_model.specs.declared.sending.Sending.{Sending}
 use Rattle.radio_model.specs.declared.station.Station.{Station}
 use Rattle.radio_model.specs.declared.brought.Brought.{Brought}
@@ -47,19 +49,22 @@ module _ (lines : Lines) (nodes : List ℕ) where
   nobody_comes = record { mixed = empty_mask nodes; spoiled = empty_mask nodes }
 
   -- rivals of which none has another packet or comes out of time
-  pub harmless_come : (rs : List Rival) → ((v : ℕ) → list_any (differs lines v) rs ≡ false) → ((v : ℕ) → list_any (spoils lines v) rs ≡ false) → IsCrowd lines nodes rs no_crowd
+  pub harmless_come : (rs : List Rival) → ((v : ℕ) → list_any (differs lines v) rs ≡ false) → ((v : ℕ) → list_any (spoils lines v) rs ≡ false)
+      → IsCrowd lines nodes rs no_crowd
   harmless_come rs same in_time = record {
     mixed = same_tests nodes (λ v. false) (λ v. list_any (differs lines v) rs) 0 (λ v. sym (same v)) (empty_mask nodes);
     spoiled = same_tests nodes (λ v. false) (λ v. list_any (spoils lines v) rs) 0 (λ v. sym (in_time v)) (empty_mask nodes);
   }
 
-  either_list : (test : ℕ → Rival → Bool) (rs ss : List Rival) (a b : ℕ) → IsMask (λ v. list_any (test v) rs) nodes a → IsMask (λ v. list_any (test v) ss) nodes b
+  either_list : (test : ℕ → Rival → Bool) (rs ss : List Rival) (a b : ℕ) → IsMask (λ v. list_any (test v) rs) nodes a
+      → IsMask (λ v. list_any (test v) ss) nodes b
       → IsMask (λ v. list_any (test v) (rs ++ ss)) nodes (bit_or a b)
   either_list test rs ss a b a_is b_is =
       same_tests nodes (λ v. list_any (test v) rs || list_any (test v) ss) (λ v. list_any (test v) (rs ++ ss)) (bit_or a b)
       (λ v. sym (list_any-append (test v) rs ss)) (joined nodes (λ v. list_any (test v) rs) (λ v. list_any (test v) ss) a b a_is b_is)
 
-  pub both_come : (rs ss : List Rival) (a b : Brought) → IsBrought lines nodes rs a → IsBrought lines nodes ss b → IsBrought lines nodes (rs ++ ss) (both_brought a b)
+  pub both_come : (rs ss : List Rival) (a b : Brought) → IsBrought lines nodes rs a → IsBrought lines nodes ss b
+      → IsBrought lines nodes (rs ++ ss) (both_brought a b)
   both_come rs ss a b a_is b_is = record {
     mixed = either_list (differs lines) rs ss a.mixed b.mixed a_is.mixed b_is.mixed;
     spoiled = either_list (spoils lines) rs ss a.spoiled b.spoiled a_is.spoiled b_is.spoiled;
@@ -87,7 +92,8 @@ module _ (lines : Lines) (nodes : List ℕ) where
 
   -- a rival of this station, by the reach of its node
   pub rival_comes : (p : Numbers) (x y : Sending) (st : Station) (r : Rival) (reach : ℕ) → IsPlaced nodes st.place st.node → Some r ≡ rival_to p x st y
-      → IsMask (λ v. passes_at lines r.key (get_or nodes st.place 0) v) nodes reach → IsBrought lines nodes (option_to_list (rival_to p x st y)) (brought_by r reach)
+      → IsMask (λ v. passes_at lines r.key (get_or nodes st.place 0) v) nodes reach
+      → IsBrought lines nodes (option_to_list (rival_to p x st y)) (brought_by r reach)
   rival_comes p x y st r reach placed is reach_is =
       let node : r.node ≡ st.node = of_sender ((y.rank == x.rank) && overlaps x y) _ r (sym is) in
       subst (λ (o : Option Rival). IsBrought lines nodes (option_to_list o) (brought_by r reach)) is
@@ -106,18 +112,21 @@ some_bit false c is = absurd (omega (arith, is))
 
 -- those that are known spoil all that x reaches, and all others are more
 pub all_spoiled : (lines : Lines) (nodes : List ℕ) (known all : List Rival) (reached : ℕ) (c : Crowd) → IsCrowd lines nodes known c
-    → ((test : Rival → Bool) → list_any test known ≡ true → list_any test all ≡ true) → bit_and c.spoiled reached ≡ reached → (i : ℕ) → i < length nodes → bit_at reached i ≡ 1
+    → ((test : Rival → Bool) → list_any test known ≡ true → list_any test all ≡ true) → bit_and c.spoiled reached ≡ reached → (i : ℕ) → i < length nodes
+    → bit_at reached i ≡ 1
     → list_any (spoils lines (get_or nodes i 0)) all ≡ true
 all_spoiled lines nodes known all reached c is more both i below bit =
     more (spoils lines (get_or nodes i 0))
     (some_bit (nat_lt i (length nodes)) (list_any (spoils lines (get_or nodes i 0)) known)
     (subst (λ (b : ℕ). 1 ≤ b) (is.spoiled i) (bit_of_both c.spoiled reached i both bit)))
 
-same_any : {X Y : Type 0} (f : X → Option Y) (t u : Y → Bool) (xs : List X) → ((x : X) (y : Y) → f x ≡ Some y → t y ≡ u y) → list_any t (filter_map f xs) ≡ list_any u (filter_map f xs)
+same_any : {X Y : Type 0} (f : X → Option Y) (t u : Y → Bool) (xs : List X) → ((x : X) (y : Y) → f x ≡ Some y → t y ≡ u y)
+    → list_any t (filter_map f xs) ≡ list_any u (filter_map f xs)
 same_any f t u [] same = refl
 same_any {X} {Y} f t u (x ∷ xs) same = step (f x) refl (same_any f t u xs same)
   where
-    step : (o : Option Y) → f x ≡ o → list_any t (filter_map f xs) ≡ list_any u (filter_map f xs) → list_any t (cons_option o (filter_map f xs)) ≡ list_any u (cons_option o (filter_map f xs))
+    step : (o : Option Y) → f x ≡ o → list_any t (filter_map f xs) ≡ list_any u (filter_map f xs)
+        → list_any t (cons_option o (filter_map f xs)) ≡ list_any u (cons_option o (filter_map f xs))
     step None is rest = rest
     step (Some y) is rest = ap (λ (b : Bool). b || list_any t (filter_map f xs)) (same x y is) ∙ ap (λ (b : Bool). u y || b) rest
 

@@ -1,5 +1,6 @@
 -- The ended sendings that a node keeps stand by their ends, so a look at the newest tells what came of all.
-use Rattle.std.proofs.Common.{◌≡◌, ℕ, zero, suc, ◌+◌, ◌-◌, ◌<◌, ◌≤◌, inl, inr, List, [], ◌∷◌, ◌++◌, length, take, drop, set, get_or, Bool, true, false, ◌&&◌, ◌==◌, nat_lt, Option, Some, None, filter_map, refl, sym, ◌∙◌, ap, subst, arith, All, length-append}
+use Rattle.std.proofs.Common.{◌≡◌, ℕ, zero, suc, ◌+◌, ◌-◌, ◌<◌, ◌≤◌, inl, inr, List, [], ◌∷◌, ◌++◌, length, take, drop, set, get_or, Bool, true, false}
+use Rattle.std.proofs.Common.{◌&&◌, ◌==◌, nat_lt, Option, Some, None, filter_map, refl, sym, ◌∙◌, ap, subst, arith, All, length-append}
 use Rattle.std.proofs.lemmas.Bool.{cases_lt, cond_both, cond-false, lt-ltb, le-ltb, and_from}
 use Rattle.std.proofs.lemmas.List.{get_or-take, get_or-drop, length-take, length-drop, get_or_append_left}
 use Rattle.std.proofs.Math.Seq.{get_or-append_seam}
@@ -19,7 +20,8 @@ use Rattle.radio_model.proofs.Members.{any_of}
 pub none_kept : {X Y : Type 0} (f : X → Option Y) (xs : List X) → All (λ (x : X). f x ≡ None) xs → filter_map f xs ≡ []
 none_kept f [] all = refl
 none_kept {X} {Y} f (x ∷ xs) all =
-    ap (λ (o : Option Y). cons_option o (filter_map f xs)) (All-head (λ (z : X). f z ≡ None) x xs all) ∙ none_kept f xs (All-tail (λ (z : X). f z ≡ None) x xs all)
+    ap (λ (o : Option Y). cons_option o (filter_map f xs)) (All-head (λ (z : X). f z ≡ None) x xs all)
+    ∙ none_kept f xs (All-tail (λ (z : X). f z ≡ None) x xs all)
 
 pub second_false : (a b c : Bool) → b ≡ false → (a && (b && c)) ≡ false
 second_false true false c is = refl
@@ -33,10 +35,13 @@ first_false true c is = cc
 -- what was over when x began is no rival of x
 module _ (p : Numbers) (x : Sending) (st : Station) where
   over_is_none : (y : Sending) → y.end ≤ x.start → rival_to p x st y ≡ None
-  over_is_none y over = cond-false ((y.rank == x.rank) && overlaps x y) _ None (second_false (y.rank == x.rank) (nat_lt x.start y.end) (nat_lt y.start x.end) (le-ltb x.start y.end over))
+  over_is_none y over =
+      cond-false ((y.rank == x.rank) && overlaps x y) _ None
+      (second_false (y.rank == x.rank) (nat_lt x.start y.end) (nat_lt y.start x.end) (le-ltb x.start y.end over))
 
   pub no_rivals : (ys : List Sending) → All (λ (y : Sending). y.end ≤ x.start) ys → filter_map (rival_to p x st) ys ≡ []
-  no_rivals ys all = none_kept (rival_to p x st) ys (All-weaker (λ (y : Sending). y.end ≤ x.start) (λ (y : Sending). rival_to p x st y ≡ None) over_is_none ys all)
+  no_rivals ys all =
+      none_kept (rival_to p x st) ys (All-weaker (λ (y : Sending). y.end ≤ x.start) (λ (y : Sending). rival_to p x st y ≡ None) over_is_none ys all)
 
 same_ends : (ys : List Sending) (k : ℕ) (d e : Sending) → k < length ys → (get_or ys k d).end ≡ (get_or ys k e).end
 same_ends [] k d e below = absurd (omega arith)
@@ -44,7 +49,8 @@ same_ends (y ∷ ys) zero d e below = refl
 same_ends (y ∷ ys) (suc k) d e below = same_ends ys k d e (omega arith)
 
 -- where one was over by this tick, all up to it were
-pub over_up_to : (ys : List Sending) (n start : ℕ) (y : Sending) → ByEnd ys → n < length ys → y ≡ get_or ys n y → y.end ≤ start → All (λ (z : Sending). z.end ≤ start) (take (n + 1) ys)
+pub over_up_to : (ys : List Sending) (n start : ℕ) (y : Sending) → ByEnd ys → n < length ys → y ≡ get_or ys n y → y.end ≤ start
+    → All (λ (z : Sending). z.end ≤ start) (take (n + 1) ys)
 over_up_to ys n start y by_end below at over k d inside =
     let short : k < n + 1 = omega (arith, length-take (n + 1) ys) in
     subst (λ (z : Sending). z.end ≤ start) (sym (get_or-take (n + 1) ys k d short))
@@ -65,7 +71,8 @@ module _ (x : Sending) (ys : List Sending) (aged : IsAged x.end ys) where
         | inl goes_over ↦
             let began : y.start < x.end = subst (λ (z : Sending). z.start < x.end) at (aged.over (length ys - 1) y some).0 in
             lt-ltb x.start y.end goes_over
-            ∙ sym (any_of (overlaps x) ys y (length ys - 1, some, at) (and_from (nat_lt x.start y.end) (nat_lt y.start x.end) (lt-ltb x.start y.end goes_over) (lt-ltb y.start x.end began)))
+            ∙ sym (any_of (overlaps x) ys y (length ys - 1, some, at)
+            (and_from (nat_lt x.start y.end) (nat_lt y.start x.end) (lt-ltb x.start y.end goes_over) (lt-ltb y.start x.end began)))
         | inr over ↦
             le-ltb x.start y.end over
             ∙ sym (list_any_none (overlaps x) ys (λ k d below.
@@ -95,22 +102,27 @@ aged_later now t ys later is = record {
 abbrev Aged : ℕ → Station → Type 0
 Aged now st = IsAged now st.ended.items
 
-pub all_aged_later : (now t : ℕ) (sts : List Station) → now ≤ t → All (λ (st : Station). IsAged now st.ended.items) sts → All (λ (st : Station). IsAged t st.ended.items) sts
+pub all_aged_later : (now t : ℕ) (sts : List Station) → now ≤ t → All (λ (st : Station). IsAged now st.ended.items) sts
+    → All (λ (st : Station). IsAged t st.ended.items) sts
 all_aged_later now t sts later all = All-weaker (Aged now) (Aged t) (λ st is. aged_later now t st.ended.items later is) sts all
 
 -- a station changed in its place
-pub aged_changed : (now t i : ℕ) (sts : List Station) (new : Station) → now ≤ t → All (λ (st : Station). IsAged now st.ended.items) sts → IsAged t new.ended.items → All (λ (st : Station). IsAged t st.ended.items) (set sts i new)
+pub aged_changed : (now t i : ℕ) (sts : List Station) (new : Station) → now ≤ t → All (λ (st : Station). IsAged now st.ended.items) sts
+    → IsAged t new.ended.items → All (λ (st : Station). IsAged t st.ended.items) (set sts i new)
 aged_changed now t i sts new later all is = All-set (Aged t) sts i new is (all_aged_later now t sts later all)
 
-pub aged_same : (now t i : ℕ) (sts : List Station) (old new : Station) → now ≤ t → All (λ (st : Station). IsAged now st.ended.items) sts → i < length sts → old ≡ get_or sts i old → new.ended ≡ old.ended
+pub aged_same : (now t i : ℕ) (sts : List Station) (old new : Station) → now ≤ t → All (λ (st : Station). IsAged now st.ended.items) sts → i < length sts
+    → old ≡ get_or sts i old → new.ended ≡ old.ended
     → All (λ (st : Station). IsAged t st.ended.items) (set sts i new)
 aged_same now t i sts old new later all below at same =
     aged_changed now t i sts new later all
-    (subst (λ (b : Buffer Sending). IsAged t b.items) (ap (λ (st : Station). st.ended) (sym at) ∙ sym same) (aged_later now t (get_or sts i old).ended.items later (all i old below)))
+    (subst (λ (b : Buffer Sending). IsAged t b.items) (ap (λ (st : Station). st.ended) (sym at) ∙ sym same)
+    (aged_later now t (get_or sts i old).ended.items later (all i old below)))
 
 pub retuned_ended : (rank : Option ℕ) (t : ℕ) (st : Station) → (retuned rank t st).ended ≡ st.ended
 retuned_ended None t st = refl
-retuned_ended (Some r) t st = cond_both (is_tuned_to st.tuned r) st (tuned_in r t (tuned_out t st)) (λ (s : Station). s.ended ≡ st.ended) (λ _. refl) (λ _. refl)
+retuned_ended (Some r) t st =
+    cond_both (is_tuned_to st.tuned r) st (tuned_in r t (tuned_out t st)) (λ (s : Station). s.ended ≡ st.ended) (λ _. refl) (λ _. refl)
 
 aged_none : IsAged 0 []
 aged_none = record { over = λ j e none. absurd (omega arith); by_end = λ a b e less none. absurd (omega arith) }
@@ -143,11 +155,13 @@ dropped t n ys is = record {
   over = All-drop (λ (y : Sending). (y.start < t) × (y.end ≤ t)) n ys is.over;
   by_end = λ i j d less below.
       subst (λ (z : Sending). z.end ≤ (get_or (drop n ys) j d).end) (sym (get_or-drop n ys i d))
-      (subst (λ (z : Sending). (get_or ys (n + i) d).end ≤ z.end) (sym (get_or-drop n ys j d)) (is.by_end (n + i) (n + j) d (omega arith) (omega (arith, length-drop n ys))));
+      (subst (λ (z : Sending). (get_or ys (n + i) d).end ≤ z.end) (sym (get_or-drop n ys j d))
+      (is.by_end (n + i) (n + j) d (omega arith) (omega (arith, length-drop n ys))));
 }
 
 -- the sending of a station ends at t
-pub aged_finished : (t : ℕ) (st : Station) (x : Sending) → IsAged t st.ended.items → st.sending ≡ Some x → x.start < t → x.end ≡ t → IsAged t (finished st).ended.items
+pub aged_finished : (t : ℕ) (st : Station) (x : Sending) → IsAged t st.ended.items → st.sending ≡ Some x → x.start < t → x.end ≡ t
+    → IsAged t (finished st).ended.items
 aged_finished t st x is runs began ends =
     subst (λ (o : Option Sending). IsAged t (finished (record st { sending = o })).ended.items) (sym runs)
     (dropped t (length (st.ended.items ++ x ∷ []) - st.ended.capacity) (st.ended.items ++ x ∷ []) (pushed t st.ended.items x is began ends))

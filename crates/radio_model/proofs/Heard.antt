@@ -1,6 +1,8 @@
 -- Whom the medium names hears, and who hears it names.
-use Rattle.std.proofs.Common.{◌≡◌, ℕ, ◌+◌, ◌*◌, ◌/◌, ◌<◌, ◌≤◌, ◌↔◌, ◌⊎◌, inl, inr, List, length, Bool, true, false, not, ◌&&◌, ◌||◌, ◌==◌, if◌then◌else◌, Option, Some, None, refl, sym, ◌∙◌, ap, subst, arith, eq-eqb, Contains}
-use Rattle.std.proofs.lemmas.Bool.{and_parts, and_from, or_cases, or_left, or_right, eqb-true, cases_Bool, both_ways, not-true, not_from_false, false_from_ne_true, false≢true}
+use Rattle.std.proofs.Common.{◌≡◌, ℕ, ◌+◌, ◌*◌, ◌/◌, ◌<◌, ◌≤◌, ◌↔◌, ◌⊎◌, inl, inr, List, length, Bool, true, false, not, ◌&&◌, ◌||◌}
+use Rattle.std.proofs.Common.{◌==◌, if◌then◌else◌, Option, Some, None, refl, sym, ◌∙◌, ap, subst, arith, eq-eqb, Contains}
+use Rattle.std.proofs.lemmas.Bool.{and_parts, and_from, or_cases, or_left, or_right, eqb-true, cases_Bool}
+use Rattle.std.proofs.lemmas.Bool.{both_ways, not-true, not_from_false, false_from_ne_true, false≢true}
 use Rattle.std.proofs.Math.Nat.{mul-le-mul_right}
 use Rattle.std.specs.List.{list_any}
 use Rattle.lwb_base.specs.Profile.{Numbers, IsProfile}
@@ -38,14 +40,17 @@ lasts_some p v y profile own =
 none_any : {X : Type 0} (test : X → Bool) (xs : List X) (x : X) → list_any test xs ≡ false → Contains xs x → test x ≡ false
 none_any test xs x none there = false_from_ne_true (test x) (λ is. both_ways (list_any test xs) none (any_of test xs x there is))
 
-chosen_parts : (lines : Lines) (v : ℕ) (rs : List Rival) (o : Option ℕ) → is_chosen lines v rs o ≡ true → (w : ℕ) × (o ≡ Some w) × (list_any (comes_from lines v w) rs ≡ true)
+chosen_parts : (lines : Lines) (v : ℕ) (rs : List Rival) (o : Option ℕ) → is_chosen lines v rs o ≡ true
+    → (w : ℕ) × (o ≡ Some w) × (list_any (comes_from lines v w) rs ≡ true)
 chosen_parts lines v rs None is = absurd (false≢true is)
 chosen_parts lines v rs (Some w) is = (w, refl, is)
 
-pub chosen_from : (lines : Lines) (v : ℕ) (rs : List Rival) (o : Option ℕ) (w : ℕ) → o ≡ Some w → list_any (comes_from lines v w) rs ≡ true → is_chosen lines v rs o ≡ true
+pub chosen_from : (lines : Lines) (v : ℕ) (rs : List Rival) (o : Option ℕ) (w : ℕ) → o ≡ Some w → list_any (comes_from lines v w) rs ≡ true
+    → is_chosen lines v rs o ≡ true
 chosen_from lines v rs o w same any = ap (is_chosen lines v rs) same ∙ any
 
-module _ (m : MediumState) (is : IsMedium m) (a : Scene) (h : Holds m a) (u : ℕ) (su : Station) (su_there : Contains m.stations su) (su_node : su.node ≡ u) (x : Sending) (runs : su.sending ≡ Some x) (x_kept : Contains (on_air su) x) (later : m.now ≤ x.end) where
+module _ (m : MediumState) (is : IsMedium m) (a : Scene) (h : Holds m a) (u : ℕ) (su : Station) (su_there : Contains m.stations su) (su_node : su.node ≡ u)
+    (x : Sending) (runs : su.sending ≡ Some x) (x_kept : Contains (on_air su) x) (later : m.now ≤ x.end) where
   abbrev p : Numbers
   p = m.numbers
 
@@ -70,7 +75,8 @@ module _ (m : MediumState) (is : IsMedium m) (a : Scene) (h : Holds m a) (u : �
       ap (λ (n : ℕ). passes a.lines (y.start / p.frame) (slot_of y) (counter_of y) n v) (sym ((h.orderly s there).own y kept).node)
       ∙ ap (λ (q : Numbers). passes a.lines (y.start / q.frame) (slot_of y) (counter_of y) y.node v) (sym h.numbers) ∙ arrives
 
-  reach_back : (s : Station) (y : Sending) (v : ℕ) → Contains m.stations s → Contains (on_air s) y → reaches a.lines v (rival p x s y) ≡ true → Arrives scene v y
+  reach_back : (s : Station) (y : Sending) (v : ℕ) → Contains m.stations s → Contains (on_air s) y → reaches a.lines v (rival p x s y) ≡ true
+      → Arrives scene v y
   reach_back s y v there kept reaches_it =
       ap (λ (q : Numbers). passes a.lines (y.start / q.frame) (slot_of y) (counter_of y) y.node v) h.numbers
       ∙ ap (λ (n : ℕ). passes a.lines (y.start / p.frame) (slot_of y) (counter_of y) n v) ((h.orderly s there).own y kept).node ∙ reaches_it
@@ -179,7 +185,8 @@ module _ (m : MediumState) (is : IsMedium m) (a : Scene) (h : Holds m a) (u : �
           | inl so ↦ before_true p x y so
           | inr late ↦
               absurd (both_ways (spoils a.lines v w) (none_any (spoils a.lines v) rs w q.clean f.in_it)
-              (and_from (reaches a.lines v w && w.same) (not w.in_time) (and_from (reaches a.lines v w) w.same f.reaches_it (same_from y x same)) (not_from_false w.in_time late)))
+              (and_from (reaches a.lines v w && w.same) (not w.in_time) (and_from (reaches a.lines v w) w.same f.reaches_it (same_from y x same))
+              (not_from_false w.in_time late)))
         ]
 
     heard_hears : heard ≡ true → Hears scene v x
@@ -190,8 +197,10 @@ module _ (m : MediumState) (is : IsMedium m) (a : Scene) (h : Holds m a) (u : �
           tuned = (h.tuned st there x.rank x.start x.end later early).1 q.tuned;
           silent = λ y sent own meets.
               let k = kept_meeting y sent meets in
-              let same : k.station ≡ st = one_station m.stations is.nodes.ascending k.station st k.there there (sym ((h.orderly k.station k.there).own y k.kept).node ∙ own) in
-              both_ways (list_any (overlaps x) (on_air st)) q.quiet (any_of (overlaps x) (on_air st) y (subst (λ (s : Station). Contains (on_air s) y) same k.kept) (meets_from x y meets));
+              let same : k.station ≡ st =
+              one_station m.stations is.nodes.ascending k.station st k.there there (sym ((h.orderly k.station k.there).own y k.kept).node ∙ own) in
+              both_ways (list_any (overlaps x) (on_air st)) q.quiet
+              (any_of (overlaps x) (on_air st) y (subst (λ (s : Station). Contains (on_air s) y) same k.kept) (meets_from x y meets));
           arrives = key_arrives q.arrives;
           first = λ y r same. (in_time q y r same).0;
           close = λ y r same. subst (λ (n : Numbers). y.start ≤ x.start + n.delta) (sym h.numbers) (in_time q y r same).1;
@@ -201,7 +210,8 @@ module _ (m : MediumState) (is : IsMedium m) (a : Scene) (h : Holds m a) (u : �
                 let w = rival p x f.station y in
                 elim (cases_Bool w.same) [
                   | inl same ↦ same_true y x same
-                  | inr other ↦ absurd (both_ways (differs a.lines v w) (none_any (differs a.lines v) rs w none f.in_it) (and_from (reaches a.lines v w) (not w.same) f.reaches_it (not_from_false w.same other)))
+                  | inr other ↦ absurd (both_ways (differs a.lines v w) (none_any (differs a.lines v) rs w none f.in_it)
+                      (and_from (reaches a.lines v w) (not w.same) f.reaches_it (not_from_false w.same other)))
                 ])
             | inr named ↦
                 let o = chosen_parts a.lines v rs (captured a.lines key.frame key.slot key.counter v) named in
@@ -209,12 +219,15 @@ module _ (m : MediumState) (is : IsMedium m) (a : Scene) (h : Holds m a) (u : �
                 let c = from_rivals p x m.stations s.0 s.1 in
                 let three = and_parts (reaches a.lines v s.0 && s.0.same) (s.0.node == o.0) s.2 in
                 let two = and_parts (reaches a.lines v s.0) s.0.same three.0 in
-                let sender : c.sending.node ≡ o.0 = ((h.orderly c.station c.there).own c.sending c.kept).node ∙ ap (λ (r : Rival). r.node) c.is ∙ eqb-true s.0.node o.0 three.1 in
+                let sender : c.sending.node ≡ o.0 =
+                ((h.orderly c.station c.there).own c.sending c.kept).node ∙ ap (λ (r : Rival). r.node) c.is ∙ eqb-true s.0.node o.0 three.1 in
                 inr (record {
                   winner = c.sending;
                   rival = rival_back v s.0 c two.0;
                   same = same_true c.sending x (ap (λ (r : Rival). r.same) c.is ∙ two.1);
-                  named = ap (λ (n : Numbers). captured a.lines (x.start / n.frame) (slot_of x) (counter_of x) v) h.numbers ∙ o.1 ∙ ap (λ (n : ℕ). Some n) (sym sender);
+                  named =
+                      ap (λ (n : Numbers). captured a.lines (x.start / n.frame) (slot_of x) (counter_of x) v) h.numbers ∙ o.1
+                      ∙ ap (λ (n : ℕ). Some n) (sym sender);
                 })
           ];
         }
@@ -233,7 +246,8 @@ module _ (m : MediumState) (is : IsMedium m) (a : Scene) (h : Holds m a) (u : �
           let two = and_parts (reaches a.lines v s.0) s.0.same three.0 in
           let r = rival_back v s.0 c two.0 in
           let same = same_true c.sending x (ap (λ (w : Rival). w.same) c.is ∙ two.1) in
-          let timely = before_from p x c.sending (hears.first c.sending r same) (subst (λ (n : Numbers). c.sending.start ≤ x.start + n.delta) h.numbers (hears.close c.sending r same)) in
+          let timely = before_from p x c.sending (hears.first c.sending r same)
+          (subst (λ (n : Numbers). c.sending.start ≤ x.start + n.delta) h.numbers (hears.close c.sending r same)) in
           both_ways s.0.in_time (not-true s.0.in_time three.1) (ap (λ (w : Rival). w.in_time) (sym c.is) ∙ timely));
       chosen = elim hears.chosen [
         | inl alone ↦ inl (false_from_ne_true (list_any (differs a.lines v) rs) (λ some.
@@ -249,7 +263,8 @@ module _ (m : MediumState) (is : IsMedium m) (a : Scene) (h : Holds m a) (u : �
             inr (chosen_from a.lines v rs (captured a.lines key.frame key.slot key.counter v) won.winner.node
             (ap (λ (n : Numbers). captured a.lines (x.start / n.frame) (slot_of x) (counter_of x) v) (sym h.numbers) ∙ won.named)
             (any_of (comes_from a.lines v won.winner.node) rs w f.in_it
-            (and_from (reaches a.lines v w && w.same) (w.node == won.winner.node) (and_from (reaches a.lines v w) w.same f.reaches_it (same_from won.winner x won.same)) (eq-eqb w.node won.winner.node sender))))
+            (and_from (reaches a.lines v w && w.same) (w.node == won.winner.node)
+            (and_from (reaches a.lines v w) w.same f.reaches_it (same_from won.winner x won.same)) (eq-eqb w.node won.winner.node sender))))
       ];
     })
 
@@ -268,5 +283,6 @@ module _ (m : MediumState) (is : IsMedium m) (a : Scene) (h : Holds m a) (u : �
         let s = from_map node_of m.stations w is_one.0 in
         let so : is_heard a.lines u x key rs s.0 ≡ true = hears_heard s.0 s.1 (subst (λ (n : ℕ). Hears scene n x) (sym s.2) is_one.1) in
         in_filter (heard_by a.lines u x key rs) m.stations s.0 (w, u) s.1
-        (ap (λ (b : Bool). let some : Option (ℕ × ℕ) = if b then Some (s.0.node, u) else None in some) so ∙ ap (λ (n : ℕ). let some : Option (ℕ × ℕ) = Some (n, u) in some) s.2),
+        (ap (λ (b : Bool). let some : Option (ℕ × ℕ) = if b then Some (s.0.node, u) else None in some) so
+        ∙ ap (λ (n : ℕ). let some : Option (ℕ × ℕ) = Some (n, u) in some) s.2),
   )

@@ -1,5 +1,6 @@
 -- Who hears, of the stations at places that are looked at one after the other.
-use Rattle.std.proofs.Common.{◌≡◌, ◌≢◌, ℕ, zero, suc, ◌-◌, ◌<◌, ◌≤◌, inl, inr, min, List, [], ◌∷◌, ◌++◌, length, get_or, Bool, true, false, ◌==◌, if◌then◌else◌, Option, Some, None, option_to_list, filter_map, refl, sym, ◌∙◌, ap, arith, length-append, append-nil, nat_lt, ◌&&◌}
+use Rattle.std.proofs.Common.{◌≡◌, ◌≢◌, ℕ, zero, suc, ◌-◌, ◌<◌, ◌≤◌, inl, inr, min, List, [], ◌∷◌, ◌++◌, length, get_or, Bool, true, false, ◌==◌, if◌then◌else◌}
+use Rattle.std.proofs.Common.{Option, Some, None, option_to_list, filter_map, refl, sym, ◌∙◌, ap, arith, length-append, append-nil, nat_lt, ◌&&◌}
 use Rattle.std.proofs.lemmas.Bool.{cond-false, cases_lt, le-ltb, eqb-true, false≢true, true≢false}
 use Rattle.std.proofs.lemmas.List.{append_assoc}
 use Rattle.std.proofs.lemmas.Nat.Bits.{bit_at-zero, bit_at-lt}

@@ -1,5 +1,6 @@
 -- The list of hearers is by hearer, and names one sender.
-use Rattle.std.proofs.Common.{◌≡◌, ℕ, ◌<◌, List, [], ◌∷◌, map, get_or, Bool, true, false, if◌then◌else◌, Option, Some, None, filter_map, sym, ap, subst, arith, All, AllPairs}
+use Rattle.std.proofs.Common.{◌≡◌, ℕ, ◌<◌, List, [], ◌∷◌, map, get_or, Bool, true, false, if◌then◌else◌, Option}
+use Rattle.std.proofs.Common.{Some, None, filter_map, sym, ap, subst, arith, All, AllPairs}
 use Rattle.std.proofs.lemmas.List.Elements.{Contains-get_or}
 use Rattle.std.specs.List.{cons_option}
 use Rattle.radio_model.specs.Stations.{node_of}
@@ -25,9 +26,11 @@ module _ (test : Station → Bool) (u : ℕ) where
   by_hearer (st ∷ sts) ascend =
       next (test st) (by_hearer sts (pairs_tail (λ a b. a < b) st.node (map node_of sts) ascend))
     where
-      next : (b : Bool) → AllPairs (λ (q r : ℕ × ℕ). q.0 < r.0) (filter_map pair sts) → AllPairs (λ (q r : ℕ × ℕ). q.0 < r.0) (cons_option {X = ℕ × ℕ} (if b then Some (st.node, u) else None) (filter_map pair sts))
+      next : (b : Bool) → AllPairs (λ (q r : ℕ × ℕ). q.0 < r.0) (filter_map pair sts)
+          → AllPairs (λ (q r : ℕ × ℕ). q.0 < r.0) (cons_option {X = ℕ × ℕ} (if b then Some (st.node, u) else None) (filter_map pair sts))
       next false rest = rest
       next true rest = pairs_cons (λ (q r : ℕ × ℕ). q.0 < r.0) (st.node, u) (filter_map pair sts) (λ q there.
           let s = from_filter pair sts q there in
           let is = of_pair (test s.0) s.0.node q s.2 in
-          subst (λ (n : ℕ). st.node < n) (sym (ap (λ (z : ℕ × ℕ). z.0) is)) (pairs_head (λ a b. a < b) st.node (map node_of sts) ascend s.0.node (in_map node_of sts s.0 s.1))) rest
+          subst (λ (n : ℕ). st.node < n) (sym (ap (λ (z : ℕ × ℕ). z.0) is))
+          (pairs_head (λ a b. a < b) st.node (map node_of sts) ascend s.0.node (in_map node_of sts s.0 s.1))) rest

@@ -14,6 +14,7 @@ pub mod AfterStarting
 pub mod AfterEnding
 pub mod AtFirst
 pub mod ChangedStations
+pub mod TunedStations
 -- for this crate alone
 pub mod RivalLists
 pub mod PlacedStations
@@ -22,6 +23,7 @@ pub mod Marked
 pub mod Alike
 pub mod Early
 pub mod Origins
+pub mod BegunOrigins
 pub mod RestOfPlaces
 pub mod HeardInTurn
 pub mod RecentPlaces

@@ -1,5 +1,6 @@
 -- What the mark of a node tells of its sendings, and how it changes with them.
-use Rattle.std.proofs.Common.{◌≡◌, ℕ, zero, suc, ◌+◌, ◌-◌, ◌<◌, ◌≤◌, List, [], ◌∷◌, ◌++◌, length, drop, set, get_or, Bool, true, false, ◌&&◌, ◌==◌, nat_lt, nat_le, Option, Some, None, option_to_list, refl, sym, ◌∙◌, ap, subst, arith, All, inl, inr, length-append, append-nil}
+use Rattle.std.proofs.Common.{◌≡◌, ℕ, zero, suc, ◌+◌, ◌-◌, ◌<◌, ◌≤◌, List, [], ◌∷◌, ◌++◌, length, drop, set, get_or, Bool, true, false, ◌&&◌, ◌==◌, nat_lt}
+use Rattle.std.proofs.Common.{nat_le, Option, Some, None, option_to_list, refl, sym, ◌∙◌, ap, subst, arith, All, inl, inr, length-append, append-nil}
 use Rattle.std.proofs.lemmas.Bool.{cases_lt, cases_eq, cond-false, cond_both, le-ltb, leb-true, and_parts, or_cases}
 use Rattle.std.proofs.lemmas.List.{get_or-drop, length-drop, length-map, length-set, get_or-set_same, get_or-set_other, get_or_append_left}
 use Rattle.std.proofs.lemmas.List.Elements.{All-weaker, All-drop}
@@ -24,7 +25,8 @@ module _ (x : Sending) (ys : List Sending) (mk : Mark) (is : IsMark ys mk) (asid
   apart k d below =
       let y = get_or ys k d in
       elim (or_cases (nat_le mk.end x.start) (nat_le mk.before x.start && nat_le x.end mk.start) aside) [
-        | inl over ↦ first_false (nat_lt x.start y.end) (nat_lt y.start x.end) (le-ltb x.start y.end (omega (arith, is.over k d below, leb-true mk.end x.start over)))
+        | inl over ↦
+            first_false (nat_lt x.start y.end) (nat_lt y.start x.end) (le-ltb x.start y.end (omega (arith, is.over k d below, leb-true mk.end x.start over)))
         | inr behind ↦
             let both = and_parts (nat_le mk.before x.start) (nat_le x.end mk.start) behind in
             let before = leb-true mk.before x.start both.0 in
@@ -45,7 +47,8 @@ module _ (x : Sending) (ys : List Sending) (mk : Mark) (is : IsMark ys mk) (asid
 pub no_rivals_aside : (p : Numbers) (x : Sending) (st : Station) (mk : Mark) → IsMark (on_air st) mk → is_aside x.start x.end mk ≡ true → rivals_in p x st ≡ []
 no_rivals_aside p x st mk is aside =
     none_kept (rival_to p x st) (on_air st)
-    (All-weaker (λ (y : Sending). overlaps x y ≡ false) (λ (y : Sending). rival_to p x st y ≡ None) (λ y no_more. cond-false ((y.rank == x.rank) && overlaps x y) _ None (both_false (y.rank == x.rank) (overlaps x y) no_more))
+    (All-weaker (λ (y : Sending). overlaps x y ≡ false) (λ (y : Sending). rival_to p x st y ≡ None)
+    (λ y no_more. cond-false ((y.rank == x.rank) && overlaps x y) _ None (both_false (y.rank == x.rank) (overlaps x y) no_more))
     (on_air st) (apart x (on_air st) mk is aside))
   where
     both_false : (b c : Bool) → c ≡ false → (b && c) ≡ false
@@ -102,7 +105,8 @@ mark_finished st mk room is = by_sending st.sending refl
         (subst (λ (o : Option Sending). IsMark (st.ended.items ++ option_to_list o) mk) some is)))
 
 -- one station changes
-pub marks_changed : (sts : List Station) (mks : List Mark) (i : ℕ) (new : Station) (mk : Mark) → AreMarks sts mks → IsMark (on_air new) mk → AreMarks (set sts i new) (set mks i mk)
+pub marks_changed : (sts : List Station) (mks : List Mark) (i : ℕ) (new : Station) (mk : Mark) → AreMarks sts mks → IsMark (on_air new) mk
+    → AreMarks (set sts i new) (set mks i mk)
 marks_changed sts mks i new mk are is = record {
   one_each = length-set mks i mk ∙ are.one_each ∙ sym (length-set sts i new);
   each = λ k d e below. elim (cases_eq k i) [
@@ -112,25 +116,29 @@ marks_changed sts mks i new mk are is = record {
         (subst (λ (m : Mark). IsMark (on_air new) m) (sym (get_or-set_same mks i mk e (omega (arith, length-set sts i new, are.one_each)))) is))
     | inr there ↦
         subst (λ (st : Station). IsMark (on_air st) (get_or (set mks i mk) k e)) (sym (get_or-set_other sts i k new d there))
-        (subst (λ (m : Mark). IsMark (on_air (get_or sts k d)) m) (sym (get_or-set_other mks i k mk e there)) (are.each k d e (omega (arith, length-set sts i new))))
+        (subst (λ (m : Mark). IsMark (on_air (get_or sts k d)) m) (sym (get_or-set_other mks i k mk e there))
+        (are.each k d e (omega (arith, length-set sts i new))))
   ];
 }
 
 -- its mark stays
-pub marks_stay : (sts : List Station) (mks : List Mark) (i : ℕ) (new : Station) → AreMarks sts mks → ((e : Mark) → IsMark (on_air new) (get_or mks i e)) → AreMarks (set sts i new) mks
+pub marks_stay : (sts : List Station) (mks : List Mark) (i : ℕ) (new : Station) → AreMarks sts mks → ((e : Mark) → IsMark (on_air new) (get_or mks i e))
+    → AreMarks (set sts i new) mks
 marks_stay sts mks i new are is = record {
   one_each = are.one_each ∙ sym (length-set sts i new);
   each = λ k d e below. elim (cases_eq k i) [
     | inl here ↦
         subst (λ (n : ℕ). IsMark (on_air (get_or (set sts i new) n d)) (get_or mks n e)) (sym here)
         (subst (λ (st : Station). IsMark (on_air st) (get_or mks i e)) (sym (get_or-set_same sts i new d (omega (arith, length-set sts i new)))) (is e))
-    | inr there ↦ subst (λ (st : Station). IsMark (on_air st) (get_or mks k e)) (sym (get_or-set_other sts i k new d there)) (are.each k d e (omega (arith, length-set sts i new)))
+    | inr there ↦ subst (λ (st : Station). IsMark (on_air st) (get_or mks k e)) (sym (get_or-set_other sts i k new d there))
+        (are.each k d e (omega (arith, length-set sts i new)))
   ];
 }
 
 pub retuned_on_air : (rank : Option ℕ) (t : ℕ) (st : Station) → on_air (retuned rank t st) ≡ on_air st
 retuned_on_air None t st = refl
-retuned_on_air (Some r) t st = cond_both (is_tuned_to st.tuned r) st (tuned_in r t (tuned_out t st)) (λ (s : Station). on_air s ≡ on_air st) (λ _. refl) (λ _. refl)
+retuned_on_air (Some r) t st =
+    cond_both (is_tuned_to st.tuned r) st (tuned_in r t (tuned_out t st)) (λ (s : Station). on_air s ≡ on_air st) (λ _. refl) (λ _. refl)
 
 -- at first nothing was sent, which any mark that ends at 0 fits
 none_marked : (mk : Mark) → mk.end ≤ 0 → IsMark [] mk
@@ -148,10 +156,13 @@ silent_from k [] i d below = absurd (omega arith)
 silent_from k (v ∷ vs) zero d below = refl
 silent_from k (v ∷ vs) (suc i) d below = silent_from (k + 1) vs i d (omega arith)
 
-pub marks_first : (vs : List ℕ) (mks : List Mark) → length mks ≡ length vs → ((k : ℕ) (e : Mark) → k < length vs → (get_or mks k e).end ≤ 0) → AreMarks (stations_from 0 vs) mks
+pub marks_first : (vs : List ℕ) (mks : List Mark) → length mks ≡ length vs → ((k : ℕ) (e : Mark) → k < length vs → (get_or mks k e).end ≤ 0)
+    → AreMarks (stations_from 0 vs) mks
 marks_first vs mks same none = record {
   one_each = same ∙ sym long;
-  each = λ k d e below. subst (λ (l : List Sending). IsMark l (get_or mks k e)) (sym (silent_from 0 vs k d below)) (none_marked (get_or mks k e) (none k e (omega (arith, below, long))));
+  each =
+      λ k d e below. subst (λ (l : List Sending). IsMark l (get_or mks k e)) (sym (silent_from 0 vs k d below))
+      (none_marked (get_or mks k e) (none k e (omega (arith, below, long))));
 }
   where
     long : length (stations_from 0 vs) ≡ length vs

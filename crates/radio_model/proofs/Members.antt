@@ -1,5 +1,6 @@
 -- What a list has, after a map and after a choice of some.
-use Rattle.std.proofs.Common.{◌≡◌, ℕ, ◌<◌, length, zero, suc, ◌⊎◌, inl, inr, List, [], ◌∷◌, map, get_or, Option, Some, None, filter_map, option_to_list, refl, sym, ◌∙◌, ap, subst, arith, Contains, Bool, true, AllPairs}
+use Rattle.std.proofs.Common.{◌≡◌, ℕ, ◌<◌, length, zero, suc, ◌⊎◌, inl, inr, List, [], ◌∷◌, map, get_or, Option, Some, None}
+use Rattle.std.proofs.Common.{filter_map, option_to_list, refl, sym, ◌∙◌, ap, subst, arith, Contains, Bool, true, AllPairs}
 use Rattle.std.proofs.lemmas.List.Elements.{Contains-append_left, Contains-append_right, Contains-append_cases, Contains-get_or}
 use Rattle.std.proofs.lemmas.Bool.{or_cases, or_left, or_right, false≢true}
 use Rattle.std.specs.List.{cons_option, flat_map, list_any}

@@ -23,7 +23,8 @@ module _ (m : MediumState) (is : IsMedium m) (u t : ℕ) (ends : Ends m u t) (li
   pub names_one_sender : All (λ (q : ℕ × ℕ). q.1 ≡ u) heard
   names_one_sender =
       let x = ends.sending in
-      subst (All (λ (q : ℕ × ℕ). q.1 ≡ u)) (sym (list_is x ends.runs)) (one_sender (is_heard lines u x (key_of m.numbers x) (rivals_to m.numbers x m.stations)) u m.stations)
+      subst (All (λ (q : ℕ × ℕ). q.1 ≡ u)) (sym (list_is x ends.runs))
+      (one_sender (is_heard lines u x (key_of m.numbers x) (rivals_to m.numbers x m.stations)) u m.stations)
 
   pub names_in_order : AllPairs (λ (q r : ℕ × ℕ). q.0 < r.0) heard
   names_in_order =
@@ -38,7 +39,8 @@ module _ (m : MediumState) (is : IsMedium m) (u t : ℕ) (ends : Ends m u t) (li
       let found : station_of m u ≡ Some s.0 = ap (station_of m) (sym s.2) ∙ found_member m.stations s.0 is.nodes.ascending s.1 in
       let sends : s.0.sending ≡ Some x = sym (ap sending_of found) ∙ runs in
       let until : x.end ≡ t = ap (λ (y : Sending). y.end) (some_same x ends.sending (sending_of (station_of m u)) runs ends.runs) ∙ ends.until in
-      let are = hearers_are m is a h u s.0 s.1 s.2 x sends (Contains-append_right s.0.ended.items (option_to_list s.0.sending) x (of_option s.0.sending x sends)) (omega arith) v in
+      let are = hearers_are m is a h u s.0 s.1 s.2 x sends
+      (Contains-append_right s.0.ended.items (option_to_list s.0.sending) x (of_option s.0.sending x sends)) (omega arith) v in
       let list : hearers_to m.numbers a.lines u x m.stations ≡ heard = ap (λ (l : Lines). hearers_to m.numbers l u x m.stations) same ∙ sym (list_is x runs) in
       subst (λ (n : ℕ). Contains heard (v, u) ↔ (Contains (nodes_of m) v × Hears (as_it_stands m n a) v x)) until
       (subst (λ (l : List (ℕ × ℕ)). Contains l (v, u) ↔ (Contains (nodes_of m) v × Hears (as_it_stands m x.end a) v x)) list are)

@@ -17,7 +17,14 @@ found_member xs st ascend (k, below, at) = found xs st.node k st ascend below (s
 
 -- the scene has the same tunings
 pub lit_moves : (a b : Scene) (v c k : ℕ) → a.tunings ≡ b.tunings → Lit a v c k → Lit b v c k
-lit_moves a b v c k same is = record { tuning = is.tuning; there = subst (λ (l : List Tuning). Contains l is.tuning) same is.there; node = is.node; rank = is.rank; since = is.since; until = is.until }
+lit_moves a b v c k same is = record {
+  tuning = is.tuning;
+  there = subst (λ (l : List Tuning). Contains l is.tuning) same is.there;
+  node = is.node;
+  rank = is.rank;
+  since = is.since;
+  until = is.until;
+}
 
 -- what the scene says of a station's tunings, with and without those that last
 module _ (m : MediumState) (a : Scene) (ascend : AllPairs (λ a b. a < b) (map node_of m.stations)) (st : Station) (there : Contains m.stations st) where
@@ -55,10 +62,12 @@ module _ (m : MediumState) (is : IsMedium m) (f : Station → Station) (keeps : 
   is_there st there = in_map (changed_at v f) m.stations st there
 
   -- what is true of the changed one and of all others is true of each
-  pub each_after : (P : Station → Type 0) → ((st : Station) → Contains m.stations st → st.node ≡ v → P (f st)) → ((st : Station) → Contains m.stations st → st.node ≢ v → P st) → (st : Station) → Contains changed.stations st → P st
+  pub each_after : (P : Station → Type 0) → ((st : Station) → Contains m.stations st → st.node ≡ v → P (f st))
+      → ((st : Station) → Contains m.stations st → st.node ≢ v → P st) → (st : Station) → Contains changed.stations st → P st
   each_after P here there st in_it =
       let w = was st in_it in
-      subst P w.2 (cond_both (w.0.node == v) (f w.0) w.0 P (λ same. here w.0 w.1 (eqb-true w.0.node v same)) (λ other. there w.0 w.1 (eqb-false w.0.node v other)))
+      subst P w.2
+      (cond_both (w.0.node == v) (f w.0) w.0 P (λ same. here w.0 w.1 (eqb-true w.0.node v same)) (λ other. there w.0 w.1 (eqb-false w.0.node v other)))
 
   pub at_v : (st : Station) → st.node ≡ v → changed_at v f st ≡ f st
   at_v st same = cond-true (st.node == v) (f st) st (eq-eqb st.node v same)
@@ -69,7 +78,11 @@ module _ (m : MediumState) (is : IsMedium m) (f : Station → Station) (keeps : 
     air_same st = cond_both (st.node == v) (f st) st (λ (s : Station). on_air s ≡ on_air st) (λ _. same_air st) (λ _. refl)
 
     pub kept_on : (y : Sending) → IsKept m y → IsKept changed y
-    kept_on y kept = record { station = changed_at v f kept.station; there = is_there kept.station kept.there; kept = subst (λ (l : List Sending). Contains l y) (sym (air_same kept.station)) kept.kept }
+    kept_on y kept = record {
+      station = changed_at v f kept.station;
+      there = is_there kept.station kept.there;
+      kept = subst (λ (l : List Sending). Contains l y) (sym (air_same kept.station)) kept.kept;
+    }
 
     pub kept_back : (y : Sending) → IsKept changed y → IsKept m y
     kept_back y kept =

@@ -30,7 +30,8 @@ module _ (f : Station → Station) (v : ℕ) where
     found_changed [] w = refl
     found_changed (st ∷ xs) w =
         elim (cases_eq st.node w) [
-          | inl node ↦ found_at (map (changed_at v f) xs) w (changed_at v f st) (node_stays st ∙ node) ∙ ap (option_map (changed_at v f)) (sym (found_at xs w st node))
+          | inl node ↦
+              found_at (map (changed_at v f) xs) w (changed_at v f st) (node_stays st ∙ node) ∙ ap (option_map (changed_at v f)) (sym (found_at xs w st node))
           | inr other ↦
               found_behind (map (changed_at v f) xs) w (changed_at v f st) (λ same. other (sym (node_stays st) ∙ same))
               ∙ found_changed xs w ∙ ap (option_map (changed_at v f)) (sym (found_behind xs w st other))
@@ -41,7 +42,8 @@ module _ (f : Station → Station) (v : ℕ) where
   as_change [] = refl
   as_change (st ∷ xs) =
       elim (cases_eq st.node v) [
-        | inl node ↦ ap (option_map (changed_at v f)) (found_at xs v st node) ∙ ap (λ (s : Station). Some s) (changed_is st node) ∙ ap (option_map f) (sym (found_at xs v st node))
+        | inl node ↦ ap (option_map (changed_at v f)) (found_at xs v st node) ∙ ap (λ (s : Station). Some s) (changed_is st node)
+            ∙ ap (option_map f) (sym (found_at xs v st node))
         | inr other ↦ ap (option_map (changed_at v f)) (found_behind xs v st other) ∙ as_change xs ∙ ap (option_map f) (sym (found_behind xs v st other))
       ]
 
@@ -49,7 +51,8 @@ module _ (f : Station → Station) (v : ℕ) where
   as_none [] w apart = refl
   as_none (st ∷ xs) w apart =
       elim (cases_eq st.node w) [
-        | inl node ↦ ap (option_map (changed_at v f)) (found_at xs w st node) ∙ ap (λ (s : Station). Some s) (unchanged_is st (λ same. apart (sym node ∙ same))) ∙ sym (found_at xs w st node)
+        | inl node ↦ ap (option_map (changed_at v f)) (found_at xs w st node) ∙ ap (λ (s : Station). Some s) (unchanged_is st (λ same. apart (sym node ∙ same)))
+            ∙ sym (found_at xs w st node)
         | inr other ↦ ap (option_map (changed_at v f)) (found_behind xs w st other) ∙ as_none xs w apart ∙ sym (found_behind xs w st other)
       ]
 

@@ -1,5 +1,6 @@
 -- The stations at their places, and a change of one of them.
-use Rattle.std.proofs.Common.{◌≡◌, ◌+◌, ◌<◌, ℕ, zero, suc, List, [], ◌∷◌, ◌++◌, length, take, set, map, get_or, Some, find, refl, sym, ◌∙◌, ap, subst, arith, Contains, ◌==◌, eq-eqb, inl, inr, AllPairs}
+use Rattle.std.proofs.Common.{◌≡◌, ◌+◌, ◌<◌, ℕ, zero, suc, List, [], ◌∷◌, ◌++◌, length, take, set, map, get_or, Some, find}
+use Rattle.std.proofs.Common.{refl, sym, ◌∙◌, ap, subst, arith, Contains, ◌==◌, eq-eqb, inl, inr, AllPairs}
 use Rattle.std.proofs.lemmas.List.{take_more, length-take-le, get_or-map, length-map, same_lists, length-set, get_or-set_same, get_or-set_other}
 use Rattle.std.proofs.lemmas.List.Elements.{All-map}
 use Rattle.std.proofs.lemmas.Bool.{cond-true, cond-false, cond_both, cases_eq, cases_order, ne_eqb}
@@ -10,7 +11,8 @@ use Rattle.radio_model.specs.declared.station.Station.{Station}
 use Rattle.radio_model.proofs.OneStation.{nodes_stay}
 
 -- no node stands at two places
-pub apart : (xs : List Station) → AllPairs (λ a b. a < b) (map node_of xs) → (i j : ℕ) (d : Station) → i < length xs → j < length xs → (get_or xs i d).node ≡ (get_or xs j d).node → i ≡ j
+pub apart : (xs : List Station) → AllPairs (λ a b. a < b) (map node_of xs) → (i j : ℕ) (d : Station) → i < length xs → j < length xs
+    → (get_or xs i d).node ≡ (get_or xs j d).node → i ≡ j
 apart xs ascend i j d left right same =
     let at_i = get_or-map node_of xs i d 0 left in
     let at_j = get_or-map node_of xs j d 0 right in
@@ -36,10 +38,12 @@ one_station xs ascend s u (i, left, at_s) (j, right, at_u) same =
     sym at_s ∙ ap (λ (k : ℕ). get_or xs k s) is ∙ there_u
 
 -- a change of the station at a place is one of the node that stands there
-pub changed_there : (f : Station → Station) (xs : List Station) → AllPairs (λ a b. a < b) (map node_of xs) → (v i : ℕ) (old new : Station) → i < length xs → old ≡ get_or xs i old → old.node ≡ v → new ≡ f old
+pub changed_there : (f : Station → Station) (xs : List Station) → AllPairs (λ a b. a < b) (map node_of xs) → (v i : ℕ) (old new : Station) → i < length xs
+    → old ≡ get_or xs i old → old.node ≡ v → new ≡ f old
     → set xs i new ≡ map (changed_at v f) xs
 changed_there f xs ascend v i old new below at is change =
-    same_lists (set xs i new) (map (changed_at v f) xs) (length-set xs i new ∙ sym (length-map xs (changed_at v f))) (λ k d within. each k d (omega (arith, length-set xs i new)))
+    same_lists (set xs i new) (map (changed_at v f) xs) (length-set xs i new ∙ sym (length-map xs (changed_at v f)))
+    (λ k d within. each k d (omega (arith, length-set xs i new)))
   where
     node_there : (d : Station) → (get_or xs i d).node ≡ v
     node_there d = sym (get_or-map node_of xs i d v below) ∙ get_or-map node_of xs i old v below ∙ ap node_of (sym at) ∙ is
@@ -54,17 +58,22 @@ changed_there f xs ascend v i old new below at is change =
               ∙ sym (get_or-map (changed_at v f) xs i old d below) ∙ ap (λ (n : ℕ). get_or (map (changed_at v f) xs) n d) (sym here)
           | inr there ↦
               get_or-set_other xs i k new d there
-              ∙ sym (cond-false ((get_or xs k d).node == v) (f (get_or xs k d)) (get_or xs k d) (ne_eqb (get_or xs k d).node v (λ e. there (apart xs ascend k i d within below (e ∙ sym (node_there d))))))
+              ∙ sym (cond-false ((get_or xs k d).node == v) (f (get_or xs k d)) (get_or xs k d)
+              (ne_eqb (get_or xs k d).node v (λ e. there (apart xs ascend k i d within below (e ∙ sym (node_there d))))))
               ∙ sym (get_or-map (changed_at v f) xs k d d within)
         ]
 
 -- the node's station is found
-pub found : (xs : List Station) (v i : ℕ) (st : Station) → AllPairs (λ a b. a < b) (map node_of xs) → i < length xs → st ≡ get_or xs i st → st.node ≡ v → find (is_of v) xs ≡ Some st
-found xs v i st ascend below at is = by_place xs i below at (λ k less same. omega (arith, apart xs ascend k i st (omega arith) below (same ∙ sym is ∙ ap node_of at)))
+pub found : (xs : List Station) (v i : ℕ) (st : Station) → AllPairs (λ a b. a < b) (map node_of xs) → i < length xs → st ≡ get_or xs i st → st.node ≡ v
+    → find (is_of v) xs ≡ Some st
+found xs v i st ascend below at is =
+    by_place xs i below at (λ k less same. omega (arith, apart xs ascend k i st (omega arith) below (same ∙ sym is ∙ ap node_of at)))
   where
-    by_place : (ys : List Station) (j : ℕ) → j < length ys → st ≡ get_or ys j st → ((k : ℕ) → k < j → (get_or ys k st).node ≡ v → ⊥) → find (is_of v) ys ≡ Some st
+    by_place : (ys : List Station) (j : ℕ) → j < length ys → st ≡ get_or ys j st → ((k : ℕ) → k < j → (get_or ys k st).node ≡ v → ⊥)
+        → find (is_of v) ys ≡ Some st
     by_place [] j below at before = absurd (omega arith)
-    by_place (y ∷ ys) zero below at before = cond-true (y.node == v) (Some y) (find (is_of v) ys) (eq-eqb y.node v (sym (ap node_of at) ∙ is)) ∙ ap (λ (s : Station). Some s) (sym at)
+    by_place (y ∷ ys) zero below at before =
+        cond-true (y.node == v) (Some y) (find (is_of v) ys) (eq-eqb y.node v (sym (ap node_of at) ∙ is)) ∙ ap (λ (s : Station). Some s) (sym at)
     by_place (y ∷ ys) (suc j) below at before =
         cond-false (y.node == v) (Some y) (find (is_of v) ys) (ne_eqb y.node v (λ e. before 0 (omega arith) e))
         ∙ by_place ys j (omega arith) at (λ k less same. before (suc k) (omega arith) same)
@@ -86,16 +95,20 @@ module _ (f : Station → Station) (keeps : Keeps f) (v : ℕ) where
   still_medium t m is = record {
     profile = is.profile;
     nodes = subst AreNodes (sym (nodes_stay f v keeps.node m.stations)) is.nodes;
-    places = λ k d below. ap (λ (s : Station). s.place) (get_or-map (changed_at v f) m.stations k d d (omega (arith, length-map m.stations (changed_at v f)))) ∙ place_kept (get_or m.stations k d) ∙ is.places k d (omega (arith, length-map m.stations (changed_at v f)));
+    places =
+        λ k d below. ap (λ (s : Station). s.place) (get_or-map (changed_at v f) m.stations k d d (omega (arith, length-map m.stations (changed_at v f))))
+        ∙ place_kept (get_or m.stations k d) ∙ is.places k d (omega (arith, length-map m.stations (changed_at v f)));
     rooms = All-map (λ (s : Station). s.ended.capacity ≡ 13) (changed_at v f) m.stations (λ k d below. room_kept (get_or m.stations k d) ∙ is.rooms k d below);
   }
 
 -- the nodes at first
 pub one_more_station : (k : ℕ) (vs : List ℕ) (v : ℕ) → stations_from k (vs ++ v ∷ []) ≡ stations_from k vs ++ fresh v (k + length vs) ∷ []
 one_more_station k [] v = ap (λ (n : ℕ). fresh v n ∷ []) (omega arith)
-one_more_station k (u ∷ vs) v = ap (λ (l : List Station). fresh u k ∷ l) (one_more_station (k + 1) vs v ∙ ap (λ (n : ℕ). stations_from (k + 1) vs ++ fresh v n ∷ []) (omega arith))
+one_more_station k (u ∷ vs) v =
+    ap (λ (l : List Station). fresh u k ∷ l) (one_more_station (k + 1) vs v ∙ ap (λ (n : ℕ). stations_from (k + 1) vs ++ fresh v n ∷ []) (omega arith))
 
-pub stations_more : (vs : List ℕ) (i v : ℕ) → i < length vs → v ≡ get_or vs i v → stations_from 0 (take (i + 1) vs) ≡ stations_from 0 (take i vs) ++ fresh v i ∷ []
+pub stations_more : (vs : List ℕ) (i v : ℕ) → i < length vs → v ≡ get_or vs i v
+    → stations_from 0 (take (i + 1) vs) ≡ stations_from 0 (take i vs) ++ fresh v i ∷ []
 stations_more vs i v below at =
     ap (stations_from 0) (take_more vs i v below ∙ ap (λ (n : ℕ). take i vs ++ n ∷ []) (sym at))
     ∙ one_more_station 0 (take i vs) v
@@ -124,7 +137,8 @@ first_is_medium p nodes profile are = record {
 }
 
 -- a call that changes the station at a place
-module _ (m : MediumState) (is : IsMedium m) (f : Station → Station) (keeps : Keeps f) (v t i : ℕ) (old new : Station) (below : i < length m.stations) (at : old ≡ get_or m.stations i old) (of : old.node ≡ v) (change : new ≡ f old) where
+module _ (m : MediumState) (is : IsMedium m) (f : Station → Station) (keeps : Keeps f) (v t i : ℕ) (old new : Station) (below : i < length m.stations)
+    (at : old ≡ get_or m.stations i old) (of : old.node ≡ v) (change : new ≡ f old) where
   abbrev changed : List Station → MediumState
   changed xs = record { numbers = m.numbers; now = t; stations = xs }
 

@@ -1,5 +1,6 @@
 -- Whose sendings can matter, through the changes of a medium.
-use Rattle.std.proofs.Common.{◌≡◌, ◌≢◌, ℕ, ◌+◌, ◌<◌, ◌≤◌, inl, inr, List, length, set, get_or, true, false, ◌&&◌, nat_lt, nat_le, Option, Some, None, is_some, refl, sym, ◌∙◌, ap, subst, arith}
+use Rattle.std.proofs.Common.{◌≡◌, ◌≢◌, ℕ, ◌+◌, ◌<◌, ◌≤◌, inl, inr, List, length, set, get_or, true, false, ◌&&◌, nat_lt}
+use Rattle.std.proofs.Common.{nat_le, Option, Some, None, is_some, refl, sym, ◌∙◌, ap, subst, arith}
 use Rattle.std.proofs.lemmas.Bool.{cases_lt, cases_eq, le-leb, lt-ltb, le-ltb, or_left, cond-true, cond-false, cond_both}
 use Rattle.std.proofs.lemmas.List.{length-map, length-set, get_or-set_same, get_or-set_other}
 use Rattle.std.proofs.lemmas.List.Elements.{Contains-append_right, All-contains}
@@ -7,7 +8,8 @@ use Rattle.std.proofs.lemmas.Nat.Bits.{bit_at-zero}
 use Rattle.std.proofs.Math.Nat.{le-max_left, le-max_right}
 use Rattle.std.specs.Int.{bit_at}
 use Rattle.lwb_base.specs.Profile.{Numbers, airtime}
-use Rattle.radio_model.specs.Stations.{on_air, begins_on, node_of, started, first_sending, next_sending, stations_from, retuned, tuned_in, tuned_out, is_tuned_to}
+use Rattle.radio_model.specs.Stations.{on_air, begins_on, node_of, started, first_sending, next_sending}
+use Rattle.radio_model.specs.Stations.{stations_from, retuned, tuned_in, tuned_out, is_tuned_to}
 use Rattle.radio_model.specs.Marks.{AreMarks, no_mark, next_mark, next_marks}
 use Rattle.radio_model.specs.Recent.{AreRecent, AreAmong, IsNext, no_recent}
 use Rattle.radio_model.specs.declared.mark.Mark.{Mark}
@@ -18,7 +20,7 @@ use Rattle.radio_model.specs.declared.sending.Sending.{Sending}
 use Rattle.radio_model.specs.declared.station.Station.{Station}
 use Rattle.radio_model.proofs.Marked.{no_rivals_aside}
 use Rattle.radio_model.proofs.Members.{of_option}
-use Rattle.radio_model.proofs.Origins.{can_start, can't_start}
+use Rattle.radio_model.proofs.BegunOrigins.{can_start, can't_start}
 use Rattle.radio_model.proofs.Places.{nodes_from}
 
 -- the rivals of what a station sends are at the places of these

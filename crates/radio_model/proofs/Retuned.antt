@@ -1,5 +1,6 @@
 -- A call to tune a node keeps what the medium tells of its tunings.
-use Rattle.std.proofs.Common.{◌≡◌, ℕ, ◌<◌, ◌≤◌, ◌↔◌, ◌⊎◌, inl, inr, Bool, true, false, ◌&&◌, ◌==◌, nat_lt, if◌then◌else◌, Option, Some, None, refl, sym, ◌∙◌, subst, arith, eq-eqb}
+use Rattle.std.proofs.Common.{◌≡◌, ℕ, ◌<◌, ◌≤◌, ◌↔◌, ◌⊎◌, inl, inr, Bool, true, false, ◌&&◌, ◌==◌, nat_lt}
+use Rattle.std.proofs.Common.{if◌then◌else◌, Option, Some, None, refl, sym, ◌∙◌, subst, arith, eq-eqb}
 use Rattle.std.proofs.lemmas.Bool.{cases_lt, cond_both, ltb-true, ltb-false, and_parts, and_from, eqb-true, both_ways}
 use Rattle.radio_model.specs.OnAir.{Tuning}
 use Rattle.radio_model.specs.Hearing.{Scene}
@@ -34,20 +35,24 @@ order_off : (now t : ℕ) (tuned : Option Tuned) (last : Option Past) → now �
 order_off now t None None later order = tt
 order_off now t None (Some q) later order = (order.0, let b = order.1 in omega arith)
 order_off now t (Some o) None later order =
-    cond_both (nat_lt o.since t) (Some (record { rank = o.rank; since = o.since; until = t })) None (IsOrder t None) (λ is. (ltb-true o.since t is, omega arith)) (λ not. tt)
+    cond_both (nat_lt o.since t) (Some (record { rank = o.rank; since = o.since; until = t })) None (IsOrder t None)
+    (λ is. (ltb-true o.since t is, omega arith)) (λ not. tt)
 order_off now t (Some o) (Some q) later order =
     let a = order.0 in
     let b = order.2 in
-    cond_both (nat_lt o.since t) (Some (record { rank = o.rank; since = o.since; until = t })) (Some q) (IsOrder t None) (λ is. (ltb-true o.since t is, omega arith)) (λ not. (order.1, omega arith))
+    cond_both (nat_lt o.since t) (Some (record { rank = o.rank; since = o.since; until = t })) (Some q) (IsOrder t None)
+    (λ is. (ltb-true o.since t is, omega arith)) (λ not. (order.1, omega arith))
 
 below_or_at : (x y : ℕ) → x ≤ y → (x < y) ⊎ (x ≡ y)
 below_or_at x y le = elim (cases_lt x y) [ inl less ↦ inl less | inr not ↦ inr (omega arith) ]
 
-order_on : (r t : ℕ) (last : Option Past) → IsOrder t None last → IsOrder t (Some (record { rank = r; since = since_with last r t })) (if meets_at last r t then None else last)
+order_on : (r t : ℕ) (last : Option Past) → IsOrder t None last
+    → IsOrder t (Some (record { rank = r; since = since_with last r t })) (if meets_at last r t then None else last)
 order_on r t None order = omega arith
 order_on r t (Some q) order = by_test ((q.rank == r) && (q.until == t)) refl
   where
-    by_test : (b : Bool) → ((q.rank == r) && (q.until == t)) ≡ b → IsOrder t (Some (record { rank = r; since = if b then q.since else t })) (if b then None else Some q)
+    by_test : (b : Bool) → ((q.rank == r) && (q.until == t)) ≡ b
+        → IsOrder t (Some (record { rank = r; since = if b then q.since else t })) (if b then None else Some q)
     by_test true is = let a = order.0 in let b = order.1 in omega arith
     by_test false is = (
       omega arith,
@@ -57,11 +62,13 @@ order_on r t (Some q) order = by_test ((q.rank == r) && (q.until == t)) refl
           let by = order.1 in
           elim (below_or_at q.until t by) [
             | inl less ↦ less
-            | inr at ↦ absurd (both_ways ((q.rank == r) && (q.until == t)) is (and_from (q.rank == r) (q.until == t) (eq-eqb q.rank r same) (eq-eqb q.until t at)))
+            | inr at ↦
+                absurd (both_ways ((q.rank == r) && (q.until == t)) is (and_from (q.rank == r) (q.until == t) (eq-eqb q.rank r same) (eq-eqb q.until t at)))
           ],
     )
 
-pub tells_same : (P P' : ℕ → ℕ → Type 0) (tuned : Option Tuned) (last : Option Past) (now : ℕ) → ((c k : ℕ) → P c k ↔ P' c k) → Tells P tuned last now → Tells P' tuned last now
+pub tells_same : (P P' : ℕ → ℕ → Type 0) (tuned : Option Tuned) (last : Option Past) (now : ℕ) → ((c k : ℕ) → P c k ↔ P' c k) → Tells P tuned last now
+    → Tells P' tuned last now
 tells_same P P' tuned last now same tells c s t later early = (
   λ all. (tells c s t later early).0 (λ k low high. elim (all k low high) [ inl p ↦ inl ((same c k).1 p) | inr goes ↦ inr goes ]),
   λ is k low high. elim ((tells c s t later early).1 is k low high) [ inl p ↦ inl ((same c k).0 p) | inr goes ↦ inr goes ],
@@ -72,7 +79,8 @@ tells_on : (P : ℕ → ℕ → Type 0) (r t : ℕ) (last : Option Past) → ((c
 tells_on P r t None past order tells = on_fresh P r t past None tells (λ c s u went. absurd went) (λ s went. went)
 tells_on P r t (Some q) past order tells = by_test ((q.rank == r) && (q.until == t)) refl
   where
-    by_test : (b : Bool) → ((q.rank == r) && (q.until == t)) ≡ b → Tells P (Some (record { rank = r; since = if b then q.since else t })) (if b then None else Some q) t
+    by_test : (b : Bool) → ((q.rank == r) && (q.until == t)) ≡ b
+        → Tells P (Some (record { rank = r; since = if b then q.since else t })) (if b then None else Some q) t
     by_test true is =
         let both = and_parts (q.rank == r) (q.until == t) is in
         on_joined P r t past q tells order.0 (eqb-true q.rank r both.0) (eqb-true q.until t both.1)
@@ -89,7 +97,8 @@ pub record Told (a : Scene) (v t : ℕ) (tuned : Option Tuned) (last : Option Pa
   pub order : IsOrder t tuned last
 
 module _ (a : Scene) (v now t : ℕ) (later : now ≤ t) (past : (c k : ℕ) → Lit a v c k → k < now) where
-  told_out : (tuned : Option Tuned) (last : Option Past) → IsOrder now tuned last → Tells (Lit a v) tuned last now → Told (with_tuning a (closed v None t tuned)) v t None (last_at tuned last t)
+  told_out : (tuned : Option Tuned) (last : Option Past) → IsOrder now tuned last → Tells (Lit a v) tuned last now
+      → Told (with_tuning a (closed v None t tuned)) v t None (last_at tuned last t)
   told_out None last order tells = record {
     tells = tells_same (Lit a v) (Lit (with_tuning a None) v) None last t (lit_same a v) (tells_later (Lit a v) None last now t later tells);
     order = order_off now t None last later order;
@@ -99,8 +108,10 @@ module _ (a : Scene) (v now t : ℕ) (later : now ≤ t) (past : (c k : ℕ) →
       let closes = closes_out a v t o in
       record {
         tells = cond_both (nat_lt o.since t) (Some (record { rank = o.rank; since = o.since; until = t })) last (λ (l : Option Past). Tells P' None l t)
-            (λ is. off_late (Lit a v) P' o last now t later (began_by now o last order) (λ c s. before_by now o last order c s t) (over_by now (Some o) last order) tells past closes (ltb-true o.since t is))
-            (λ not. off_empty (Lit a v) P' o last now t later (began_by now o last order) (λ c s. before_by now o last order c s t) (over_by now (Some o) last order) tells past closes (ltb-false o.since t not));
+            (λ is. off_late (Lit a v) P' o last now t later (began_by now o last order) (λ c s. before_by now o last order c s t)
+            (over_by now (Some o) last order) tells past closes (ltb-true o.since t is))
+            (λ not. off_empty (Lit a v) P' o last now t later (began_by now o last order) (λ c s. before_by now o last order c s t)
+            (over_by now (Some o) last order) tells past closes (ltb-false o.since t not));
         order = order_off now t (Some o) last later order;
       }
 
@@ -115,15 +126,19 @@ module _ (a : Scene) (v now t : ℕ) (later : now ≤ t) (past : (c k : ℕ) →
       → Told (with_tuning a (closed v rank t st.tuned)) v t (retuned rank t st).tuned (retuned rank t st).last
   told_after None st order tells = told_out st.tuned st.last order tells
   told_after (Some r) st order tells =
-      cond_both (is_tuned_to st.tuned r) st (tuned_in r t (tuned_out t st)) (λ (s : Station). Told (with_tuning a (closed v (Some r) t st.tuned)) v t s.tuned s.last)
+      cond_both (is_tuned_to st.tuned r) st (tuned_in r t (tuned_out t st))
+      (λ (s : Station). Told (with_tuning a (closed v (Some r) t st.tuned)) v t s.tuned s.last)
       (λ is. subst (λ (e : Option Tuning). Told (with_tuning a e) v t st.tuned st.last) (sym (closed_same v r t st.tuned is)) (record {
         tells = tells_same (Lit a v) (Lit (with_tuning a None) v) st.tuned st.last t (lit_same a v) (tells_later (Lit a v) st.tuned st.last now t later tells);
         order = order_later now t st.tuned st.last later order;
       }))
       (λ not.
       let out = told_out st.tuned st.last order tells in
-      subst (λ (e : Option Tuning). Told (with_tuning a e) v t (tuned_in r t (tuned_out t st)).tuned (tuned_in r t (tuned_out t st)).last) (sym (closed_other v r t st.tuned not)) (record {
-        tells = tells_on (Lit (with_tuning a (closed v None t st.tuned)) v) r t (last_at st.tuned st.last t) (past_out (closed v None t st.tuned) (λ y is. omega (arith, (closed_is v None t st.tuned y is).end))) out.order out.tells;
+      subst (λ (e : Option Tuning). Told (with_tuning a e) v t (tuned_in r t (tuned_out t st)).tuned (tuned_in r t (tuned_out t st)).last)
+      (sym (closed_other v r t st.tuned not)) (record {
+        tells =
+            tells_on (Lit (with_tuning a (closed v None t st.tuned)) v) r t (last_at st.tuned st.last t)
+            (past_out (closed v None t st.tuned) (λ y is. omega (arith, (closed_is v None t st.tuned y is).end))) out.order out.tells;
         order = order_on r t (last_at st.tuned st.last t) out.order;
       }))
 
@@ -149,7 +164,8 @@ same_out a v t (Some o) c k early =
     )
 
 -- what a tuning that begins at t is of before t, by one that it meets, was there
-none_new : (P : ℕ → ℕ → Type 0) (r t : ℕ) (last : Option Past) → IsOrder t None last → Tells P None last t → (c k : ℕ) → k < t → Goes (Some (record { rank = r; since = since_with last r t })) c k → P c k
+none_new : (P : ℕ → ℕ → Type 0) (r t : ℕ) (last : Option Past) → IsOrder t None last → Tells P None last t → (c k : ℕ) → k < t
+    → Goes (Some (record { rank = r; since = since_with last r t })) c k → P c k
 none_new P r t None order tells c k early goes = let since = goes.1 in absurd (omega arith)
 none_new P r t (Some q) order tells c k early goes = by_test ((q.rank == r) && (q.until == t)) refl goes
   where
@@ -158,16 +174,23 @@ none_new P r t (Some q) order tells c k early goes = by_test ((q.rank == r) && (
         let both = and_parts (q.rank == r) (q.until == t) is in
         let until = eqb-true q.until t both.1 in
         let some = order.0 in
-        elim ((tells c q.since t (omega arith) (omega arith)).1 (told_went None (Some q) c q.since t (eqb-true q.rank r both.0 ∙ by.0, omega arith, omega arith)) k by.1 early) [ inl p ↦ p | inr none ↦ absurd none ]
+        elim ((tells c q.since t (omega arith) (omega arith)).1
+        (told_went None (Some q) c q.since t (eqb-true q.rank r both.0 ∙ by.0, omega arith, omega arith)) k by.1 early) [
+          | inl p ↦ p
+          | inr none ↦ absurd none
+        ]
     by_test false is by = let since = by.1 in absurd (omega arith)
 
-pub same_after : (a : Scene) (v now t : ℕ) → now ≤ t → ((c k : ℕ) → Lit a v c k → k < now) → (rank : Option ℕ) (st : Station) → IsOrder now st.tuned st.last → Tells (Lit a v) st.tuned st.last now
+pub same_after : (a : Scene) (v now t : ℕ) → now ≤ t → ((c k : ℕ) → Lit a v c k → k < now) → (rank : Option ℕ) (st : Station) → IsOrder now st.tuned st.last
+    → Tells (Lit a v) st.tuned st.last now
     → SameBefore a (with_tuning a (closed v rank t st.tuned)) v t st.tuned (retuned rank t st).tuned
 same_after a v now t later past None st order tells = same_out a v t st.tuned
 same_after a v now t later past (Some r) st order tells =
-    cond_both (is_tuned_to st.tuned r) st (tuned_in r t (tuned_out t st)) (λ (s : Station). SameBefore a (with_tuning a (closed v (Some r) t st.tuned)) v t st.tuned s.tuned)
+    cond_both (is_tuned_to st.tuned r) st (tuned_in r t (tuned_out t st))
+    (λ (s : Station). SameBefore a (with_tuning a (closed v (Some r) t st.tuned)) v t st.tuned s.tuned)
     (λ is. subst (λ (e : Option Tuning). SameBefore a (with_tuning a e) v t st.tuned st.tuned) (sym (closed_same v r t st.tuned is)) (same_in a v t st.tuned))
-    (λ not. subst (λ (e : Option Tuning). SameBefore a (with_tuning a e) v t st.tuned (tuned_in r t (tuned_out t st)).tuned) (sym (closed_other v r t st.tuned not)) begins)
+    (λ not. subst (λ (e : Option Tuning). SameBefore a (with_tuning a e) v t st.tuned (tuned_in r t (tuned_out t st)).tuned)
+    (sym (closed_other v r t st.tuned not)) begins)
   where
     begins : SameBefore a (with_tuning a (closed v None t st.tuned)) v t st.tuned (tuned_in r t (tuned_out t st)).tuned
     begins c k early =
@@ -176,6 +199,7 @@ same_after a v now t later past (Some r) st order tells =
           λ is. elim (out.0 is) [ inl p ↦ inl p | inr none ↦ absurd none ],
           λ is. elim is [
             | inl p ↦ out.1 (inl p)
-            | inr goes ↦ out.1 (inl (none_new (Lit (with_tuning a (closed v None t st.tuned)) v) r t (last_at st.tuned st.last t) told.order told.tells c k early goes))
+            | inr goes ↦
+                out.1 (inl (none_new (Lit (with_tuning a (closed v None t st.tuned)) v) r t (last_at st.tuned st.last t) told.order told.tells c k early goes))
           ],
         )

@@ -1,5 +1,6 @@
 -- What the medium works out of a sending that overlaps another one is what the rule of hearing asks.
-use Rattle.std.proofs.Common.{◌≡◌, ◌+◌, ◌≤◌, inl, inr, List, Bool, true, false, not, ◌&&◌, ◌||◌, ◌==◌, nat_lt, nat_le, if◌then◌else◌, Some, None, refl, arith, eq-eqb, Contains}
+use Rattle.std.proofs.Common.{◌≡◌, ◌+◌, ◌≤◌, inl, inr, List, Bool, true, false, not, ◌&&◌, ◌||◌, ◌==◌, nat_lt}
+use Rattle.std.proofs.Common.{nat_le, if◌then◌else◌, Some, None, refl, arith, eq-eqb, Contains}
 use Rattle.std.proofs.lemmas.Bool.{and_parts, and_from, or_cases, or_left, or_right, eqb-true, ltb-true, lt-ltb, leb-true, le-leb, cases_lt, cond-true}
 use Rattle.std.proofs.lemmas.Slice.Eq.{bytes_eq-Decides}
 use Rattle.std.specs.Str.{bytes_eq}
@@ -13,7 +14,8 @@ use Rattle.radio_model.specs.declared.rivals.Rival.{Rival}
 use Rattle.radio_model.proofs.Members.{in_filter, from_filter, in_flat, from_flat}
 
 pub meets_true : (x y : Sending) → overlaps x y ≡ true → Meets x y
-meets_true x y is = let both = and_parts (nat_lt x.start y.end) (nat_lt y.start x.end) is in record { before = ltb-true x.start y.end both.0; after = ltb-true y.start x.end both.1 }
+meets_true x y is = let both = and_parts (nat_lt x.start y.end) (nat_lt y.start x.end) is in
+    record { before = ltb-true x.start y.end both.0; after = ltb-true y.start x.end both.1 }
 
 pub meets_from : (x y : Sending) → Meets x y → overlaps x y ≡ true
 meets_from x y m = and_from (nat_lt x.start y.end) (nat_lt y.start x.end) (lt-ltb x.start y.end m.before) (lt-ltb y.start x.end m.after)
@@ -29,7 +31,8 @@ before_true p x y is =
     let both = and_parts (nat_lt x.start y.start || ((x.start == y.start) && nat_le x.node y.node)) (nat_le y.start (x.start + p.delta)) is in (
       elim (or_cases (nat_lt x.start y.start) ((x.start == y.start) && nat_le x.node y.node) both.0) [
         | inl less ↦ let l = ltb-true x.start y.start less in record { start = omega arith; node = λ same. absurd (omega arith) }
-        | inr at ↦ let two = and_parts (x.start == y.start) (nat_le x.node y.node) at in let e = eqb-true x.start y.start two.0 in record { start = omega arith; node = λ same. leb-true x.node y.node two.1 }
+        | inr at ↦ let two = and_parts (x.start == y.start) (nat_le x.node y.node) at in let e = eqb-true x.start y.start two.0 in
+            record { start = omega arith; node = λ same. leb-true x.node y.node two.1 }
       ],
       leb-true y.start (x.start + p.delta) both.1,
     )
@@ -42,7 +45,8 @@ before_from p x y b close =
       | inr not ↦
           let by = b.start in
           let at : x.start ≡ y.start = omega arith in
-          or_right (nat_lt x.start y.start) ((x.start == y.start) && nat_le x.node y.node) (and_from (x.start == y.start) (nat_le x.node y.node) (eq-eqb x.start y.start at) (le-leb x.node y.node (b.node at)))
+          or_right (nat_lt x.start y.start) ((x.start == y.start) && nat_le x.node y.node)
+          (and_from (x.start == y.start) (nat_le x.node y.node) (eq-eqb x.start y.start at) (le-leb x.node y.node (b.node at)))
     ])
     (le-leb y.start (x.start + p.delta) close)
 
@@ -50,11 +54,13 @@ module _ (p : Numbers) (x : Sending) where
   abbrev pub rival : Station → Sending → Rival
   rival st y = record { node = st.node; key = key_of p y; same = bytes_eq y.packet x.packet; in_time = comes_in_time p x y }
 
-  pub in_rivals : (sts : List Station) (st : Station) (y : Sending) → Contains sts st → Contains (on_air st) y → y.rank ≡ x.rank → Meets x y → Contains (rivals_to p x sts) (rival st y)
+  pub in_rivals : (sts : List Station) (st : Station) (y : Sending) → Contains sts st → Contains (on_air st) y → y.rank ≡ x.rank → Meets x y
+      → Contains (rivals_to p x sts) (rival st y)
   in_rivals sts st y there kept rank meets =
       in_flat (rivals_in p x) sts st (rival st y) there
       (in_filter (rival_to p x st) (on_air st) y (rival st y) kept
-      (cond-true ((y.rank == x.rank) && overlaps x y) (Some (rival st y)) None (and_from (y.rank == x.rank) (overlaps x y) (eq-eqb y.rank x.rank rank) (meets_from x y meets))))
+      (cond-true ((y.rank == x.rank) && overlaps x y) (Some (rival st y)) None
+      (and_from (y.rank == x.rank) (overlaps x y) (eq-eqb y.rank x.rank rank) (meets_from x y meets))))
 
   -- a rival comes of a sending that is kept
   pub record Comes (sts : List Station) (r : Rival) : Type 0 where

@@ -1,5 +1,6 @@
 -- Lists of rivals, one more at a time.
-use Rattle.std.proofs.Common.{◌≡◌, ◌+◌, ◌<◌, ◌≤◌, ℕ, List, [], ◌∷◌, ◌++◌, length, take, get_or, Option, Some, None, option_to_list, filter_map, refl, sym, ◌∙◌, ap, arith, append-nil, length-append, Bool, true, false, if◌then◌else◌}
+use Rattle.std.proofs.Common.{◌≡◌, ◌+◌, ◌<◌, ◌≤◌, ℕ, List, [], ◌∷◌, ◌++◌, length, take, get_or, Option, Some, None, option_to_list}
+use Rattle.std.proofs.Common.{filter_map, refl, sym, ◌∙◌, ap, arith, append-nil, length-append, Bool, true, false, if◌then◌else◌}
 use Rattle.std.proofs.lemmas.List.{take_more, take_all, flat_map_more}
 use Rattle.std.proofs.lemmas.List.Elements.{filter_map-append}
 use Rattle.lwb_base.specs.Profile.{Numbers}
@@ -15,7 +16,8 @@ one_kept {X} {Y} f x = of_one (f x)
     of_one None = refl
     of_one (Some y) = refl
 
-pub filter_map_more : {X Y : Type 0} (f : X → Option Y) (xs : List X) (i : ℕ) (x : X) → i < length xs → x ≡ get_or xs i x → filter_map f (take (i + 1) xs) ≡ filter_map f (take i xs) ++ option_to_list (f x)
+pub filter_map_more : {X Y : Type 0} (f : X → Option Y) (xs : List X) (i : ℕ) (x : X) → i < length xs → x ≡ get_or xs i x
+    → filter_map f (take (i + 1) xs) ≡ filter_map f (take i xs) ++ option_to_list (f x)
 filter_map_more f xs i x below at =
     ap (filter_map f) (take_more xs i x below ∙ ap (λ (y : _). take i xs ++ y ∷ []) (sym at))
     ∙ filter_map-append f (take i xs) (x ∷ [])
@@ -30,7 +32,8 @@ rivals_more p x sts i st below at =
 
 -- a station whose ended sendings have all been looked at, and which sends, or does not
 module _ (p : Numbers) (x : Sending) (st : Station) (i : ℕ) (all : length st.ended.items ≤ i) where
-  pub rivals_sending : (y : Sending) → st.sending ≡ Some y → rivals_in p x st ≡ filter_map (rival_to p x st) (take i st.ended.items) ++ option_to_list (rival_to p x st y)
+  pub rivals_sending : (y : Sending) → st.sending ≡ Some y
+      → rivals_in p x st ≡ filter_map (rival_to p x st) (take i st.ended.items) ++ option_to_list (rival_to p x st y)
   rivals_sending y is =
       let f = rival_to p x st in
       let ended = st.ended.items in
@@ -44,7 +47,8 @@ module _ (p : Numbers) (x : Sending) (st : Station) (i : ℕ) (all : length st.e
       ∙ ap (filter_map (rival_to p x st)) (append-nil st.ended.items ∙ sym (take_all i st.ended.items all))
 
 -- a list by a test, one element more
-pub adds_passing : {X Y : Type 0} (test : X → Bool) (value : X → Y) (xs : List X) (i : ℕ) (x : X) (b : Bool) (new now : List Y) → i < length xs → x ≡ get_or xs i x → b ≡ test x
+pub adds_passing : {X Y : Type 0} (test : X → Bool) (value : X → Y) (xs : List X) (i : ℕ) (x : X) (b : Bool) (new now : List Y) → i < length xs
+    → x ≡ get_or xs i x → b ≡ test x
     → now ≡ filter_map (λ z. if test z then Some (value z) else None) (take i xs) → new ≡ (if b then now ++ value x ∷ [] else now)
     → new ≡ filter_map (λ z. if test z then Some (value z) else None) (take (i + 1) xs)
 adds_passing {X} {Y} test value xs i x b new now below at is so adds =

@@ -5,14 +5,29 @@ use Rattle.radio_model.specs.Hearing.{Scene, IsTuned}
 use Rattle.radio_model.specs.Stations.{MediumState}
 use Rattle.radio_model.specs.Holding.{Holds, SameHistory, as_it_stands, lasting_at}
 
-stands_on : (m : MediumState) (t : ℕ) (a b : Scene) (v c k : ℕ) → (IsTuned a v c k → IsTuned b v c k) → IsTuned (as_it_stands m t a) v c k → IsTuned (as_it_stands m t b) v c k
+stands_on : (m : MediumState) (t : ℕ) (a b : Scene) (v c k : ℕ) → (IsTuned a v c k → IsTuned b v c k) → IsTuned (as_it_stands m t a) v c k
+    → IsTuned (as_it_stands m t b) v c k
 stands_on m t a b v c k on is =
     let late = filter_map (lasting_at t) m.stations in
     elim (Contains-append_cases a.tunings late is.tuning is.there) [
       | inl ended ↦
           let w = on (record { tuning = is.tuning; there = ended; node = is.node; rank = is.rank; since = is.since; until = is.until }) in
-          record { tuning = w.tuning; there = Contains-append_left b.tunings late w.tuning w.there; node = w.node; rank = w.rank; since = w.since; until = w.until }
-      | inr lasts ↦ record { tuning = is.tuning; there = Contains-append_right b.tunings late is.tuning lasts; node = is.node; rank = is.rank; since = is.since; until = is.until }
+          record {
+            tuning = w.tuning;
+            there = Contains-append_left b.tunings late w.tuning w.there;
+            node = w.node;
+            rank = w.rank;
+            since = w.since;
+            until = w.until;
+          }
+      | inr lasts ↦ record {
+        tuning = is.tuning;
+        there = Contains-append_right b.tunings late is.tuning lasts;
+        node = is.node;
+        rank = is.rank;
+        since = is.since;
+        until = is.until;
+      }
     ]
 
 pub holds_same : (m : MediumState) (a b : Scene) → SameHistory m.now a b → Holds m a → Holds m b

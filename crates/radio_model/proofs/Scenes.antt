@@ -1,5 +1,6 @@
 -- Tunings in a scene, with those that last and one that ends.
-use Rattle.std.proofs.Common.{◌≡◌, ◌≢◌, ℕ, ◌<◌, ◌≤◌, ◌↔◌, ◌⊎◌, inl, inr, ◌++◌, map, true, false, nat_lt, if◌then◌else◌, Option, Some, None, filter_map, option_to_list, refl, sym, ◌∙◌, ap, subst, arith, Contains, AllPairs}
+use Rattle.std.proofs.Common.{◌≡◌, ◌≢◌, ℕ, ◌<◌, ◌≤◌, ◌↔◌, ◌⊎◌, inl, inr, ◌++◌, map, true, false, nat_lt, if◌then◌else◌, Option, Some}
+use Rattle.std.proofs.Common.{None, filter_map, option_to_list, refl, sym, ◌∙◌, ap, subst, arith, Contains, AllPairs}
 use Rattle.std.proofs.lemmas.List.Elements.{Contains-append_left, Contains-append_right, Contains-append_cases}
 use Rattle.std.proofs.lemmas.Bool.{cond_both, cond-true, cond-false, ltb-false}
 use Rattle.radio_model.specs.OnAir.{Tuning}
@@ -20,14 +21,16 @@ abbrev pub with_tuning : Scene → Option Tuning → Scene
 with_tuning a o = record a { tunings = a.tunings ++ option_to_list o }
 
 -- what lasts is of this station
-lasts_as : (v : ℕ) (tuned : Option Tuned) (t : ℕ) (k : Tuning) → lasting v tuned t ≡ Some k → (o : Tuned) × (tuned ≡ Some o) × (k ≡ record { rank = o.rank; node = v; start = o.since; end = t })
+lasts_as : (v : ℕ) (tuned : Option Tuned) (t : ℕ) (k : Tuning) → lasting v tuned t ≡ Some k
+    → (o : Tuned) × (tuned ≡ Some o) × (k ≡ record { rank = o.rank; node = v; start = o.since; end = t })
 lasts_as v None t k is = cc
 lasts_as v (Some o) t k is = (o, refl, cc)
 
 goes_as : (o : Tuned) (tuned : Option Tuned) (c k : ℕ) → tuned ≡ Some o → o.rank ≡ c → o.since ≤ k → Goes tuned c k
 goes_as o tuned c k is rank since = subst (λ (p : Option Tuned). Goes p c k) (sym is) (rank, since)
 
-lasts_from : (v : ℕ) (tuned : Option Tuned) (t c k : ℕ) → Goes tuned c k → (y : Tuning) × (lasting v tuned t ≡ Some y) × (y.node ≡ v) × (y.rank ≡ c) × (y.start ≤ k) × (y.end ≡ t)
+lasts_from : (v : ℕ) (tuned : Option Tuned) (t c k : ℕ) → Goes tuned c k
+    → (y : Tuning) × (lasting v tuned t ≡ Some y) × (y.node ≡ v) × (y.rank ≡ c) × (y.start ≤ k) × (y.end ≡ t)
 lasts_from v None t c k goes = absurd goes
 lasts_from v (Some o) t c k goes = (record { rank = o.rank; node = v; start = o.since; end = t }, refl, refl, goes.0, goes.1, refl)
 
@@ -55,7 +58,14 @@ lit_or_lasts m a t v c k is =
     ]
 
 pub lit_stands : (m : MediumState) (a : Scene) (t v c k : ℕ) → Lit a v c k → IsTuned (as_it_stands m t a) v c k
-lit_stands m a t v c k is = record { tuning = is.tuning; there = Contains-append_left a.tunings (filter_map (lasting_at t) m.stations) is.tuning is.there; node = is.node; rank = is.rank; since = is.since; until = is.until }
+lit_stands m a t v c k is = record {
+  tuning = is.tuning;
+  there = Contains-append_left a.tunings (filter_map (lasting_at t) m.stations) is.tuning is.there;
+  node = is.node;
+  rank = is.rank;
+  since = is.since;
+  until = is.until;
+}
 
 pub lasts_stands : (m : MediumState) (a : Scene) (t v c k : ℕ) → k < t → Lasts m v c k → IsTuned (as_it_stands m t a) v c k
 lasts_stands m a t v c k early is =
@@ -70,7 +80,8 @@ lasts_stands m a t v c k early is =
       until = omega (arith, l.5);
     }
 
-pub stands : (m : MediumState) (a : Scene) (st : Station) (t c k : ℕ) → AllPairs (λ a b. a < b) (map node_of m.stations) → Contains m.stations st → k < t → IsTuned (as_it_stands m t a) st.node c k ↔ (Lit a st.node c k ⊎ Goes st.tuned c k)
+pub stands : (m : MediumState) (a : Scene) (st : Station) (t c k : ℕ) → AllPairs (λ a b. a < b) (map node_of m.stations) → Contains m.stations st → k < t
+    → IsTuned (as_it_stands m t a) st.node c k ↔ (Lit a st.node c k ⊎ Goes st.tuned c k)
 stands m a st t c k ascend there early = (apart, together)
   where
     apart : IsTuned (as_it_stands m t a) st.node c k → Lit a st.node c k ⊎ Goes st.tuned c k
@@ -86,9 +97,17 @@ stands m a st t c k ascend there early = (apart, together)
 
 -- one more tuning or none
 pub lit_more : (a : Scene) (o : Option Tuning) (v c k : ℕ) → Lit a v c k → Lit (with_tuning a o) v c k
-lit_more a o v c k is = record { tuning = is.tuning; there = Contains-append_left a.tunings (option_to_list o) is.tuning is.there; node = is.node; rank = is.rank; since = is.since; until = is.until }
+lit_more a o v c k is = record {
+  tuning = is.tuning;
+  there = Contains-append_left a.tunings (option_to_list o) is.tuning is.there;
+  node = is.node;
+  rank = is.rank;
+  since = is.since;
+  until = is.until;
+}
 
-pub lit_apart : (a : Scene) (o : Option Tuning) (v c k : ℕ) → Lit (with_tuning a o) v c k → Lit a v c k ⊎ ((y : Tuning) × (o ≡ Some y) × (y.node ≡ v) × (y.rank ≡ c) × (y.start ≤ k) × (k < y.end))
+pub lit_apart : (a : Scene) (o : Option Tuning) (v c k : ℕ) → Lit (with_tuning a o) v c k
+    → Lit a v c k ⊎ ((y : Tuning) × (o ≡ Some y) × (y.node ≡ v) × (y.rank ≡ c) × (y.start ≤ k) × (k < y.end))
 lit_apart a o v c k is =
     elim (Contains-append_cases a.tunings (option_to_list o) is.tuning is.there) [
       | inl ended ↦ inl (record { tuning = is.tuning; there = ended; node = is.node; rank = is.rank; since = is.since; until = is.until })
@@ -103,7 +122,8 @@ lit_same a v c k = (lit_more a None v c k, λ is. elim (lit_apart a None v c k i
 
 -- of another node
 pub lit_other : (a : Scene) (o : Option Tuning) (v u c k : ℕ) → ((y : Tuning) → o ≡ Some y → y.node ≡ v) → u ≢ v → Lit a u c k ↔ Lit (with_tuning a o) u c k
-lit_other a o v u c k of other = (lit_more a o u c k, λ is. elim (lit_apart a o u c k is) [ inl ended ↦ ended | inr new ↦ absurd (other (sym new.2 ∙ of new.0 new.1)) ])
+lit_other a o v u c k of other =
+    (lit_more a o u c k, λ is. elim (lit_apart a o u c k is) [ inl ended ↦ ended | inr new ↦ absurd (other (sym new.2 ∙ of new.0 new.1)) ])
 
 -- the present tuning ends at t
 pub closes_late : (a : Scene) (v t : ℕ) (o : Tuned) → Closes (Lit a v) (Lit (with_tuning a (lasting v (Some o) t)) v) o t
@@ -115,12 +135,18 @@ closes_late a v t o = record {
         let same : o ≡ l.0 = some_same o l.0 l.1 in
         let start = new.4 in
         let end = new.5 in
-        inr (ap (λ (p : Tuned). p.rank) same ∙ sym (ap (λ (y : Tuning). y.rank) l.2) ∙ new.3, omega (arith, ap (λ (p : Tuned). p.since) same, ap (λ (y : Tuning). y.start) l.2), omega (arith, ap (λ (y : Tuning). y.end) l.2))
+        inr (
+          ap (λ (p : Tuned). p.rank) same ∙ sym (ap (λ (y : Tuning). y.rank) l.2) ∙ new.3,
+          omega (arith, ap (λ (p : Tuned). p.since) same, ap (λ (y : Tuning). y.start) l.2),
+          omega (arith, ap (λ (y : Tuning). y.end) l.2),
+        )
   ];
   kept = lit_more a (lasting v (Some o) t) v;
   added = λ c k rank since early. record {
     tuning = record { rank = o.rank; node = v; start = o.since; end = t };
-    there = Contains-append_right a.tunings (option_to_list (lasting v (Some o) t)) (record { rank = o.rank; node = v; start = o.since; end = t }) (of_option (lasting v (Some o) t) (record { rank = o.rank; node = v; start = o.since; end = t }) refl);
+    there =
+        Contains-append_right a.tunings (option_to_list (lasting v (Some o) t)) (record { rank = o.rank; node = v; start = o.since; end = t })
+        (of_option (lasting v (Some o) t) (record { rank = o.rank; node = v; start = o.since; end = t }) refl);
     node = refl;
     rank = rank;
     since = since;
@@ -159,7 +185,8 @@ pub record IsClosed (v t : ℕ) (y : Tuning) : Type 0 where
   pub end : y.end ≡ t
 
 out_is : (v t : ℕ) (o : Tuned) (y : Tuning) → closed v None t (Some o) ≡ Some y → IsClosed v t y
-out_is v t o y = cond_both (nat_lt o.since t) (lasting v (Some o) t) None (λ (e : Option Tuning). e ≡ Some y → IsClosed v t y) (λ is same. late same) (λ not same. none same)
+out_is v t o y =
+    cond_both (nat_lt o.since t) (lasting v (Some o) t) None (λ (e : Option Tuning). e ≡ Some y → IsClosed v t y) (λ is same. late same) (λ not same. none same)
   where
     late : lasting v (Some o) t ≡ Some y → IsClosed v t y
     late same = let l = lasts_as v (Some o) t y same in record { node = ap (λ (z : Tuning). z.node) l.2; end = ap (λ (z : Tuning). z.end) l.2 }
@@ -168,7 +195,9 @@ out_is v t o y = cond_both (nat_lt o.since t) (lasting v (Some o) t) None (λ (e
     none same = cc
 
 in_is : (v r t : ℕ) (o : Tuned) (y : Tuning) → closed v (Some r) t (Some o) ≡ Some y → IsClosed v t y
-in_is v r t o y = cond_both (is_tuned_to (Some o) r) None (closed v None t (Some o)) (λ (e : Option Tuning). e ≡ Some y → IsClosed v t y) (λ is same. none same) (λ not same. out_is v t o y same)
+in_is v r t o y =
+    cond_both (is_tuned_to (Some o) r) None (closed v None t (Some o)) (λ (e : Option Tuning). e ≡ Some y → IsClosed v t y) (λ is same. none same)
+    (λ not same. out_is v t o y same)
   where
     none : (let e : Option Tuning = None in e ≡ Some y) → IsClosed v t y
     none same = cc

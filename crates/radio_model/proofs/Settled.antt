@@ -38,7 +38,12 @@ hears_on a b v x lasts s h =
       close = λ y rival same. subst (λ (p : Numbers). y.start ≤ x.start + p.delta) s.numbers (h.close y (rival_on b a v x y back rival) same);
       chosen = elim h.chosen [
         | inl alone ↦ inl (λ y rival. alone y (rival_on b a v x y back rival))
-        | inr c ↦ inr (record { winner = c.winner; rival = rival_on a b v x c.winner s c.rival; same = c.same; named = captures_on x.end a b v x c.winner.node s c.named })
+        | inr c ↦ inr (record {
+          winner = c.winner;
+          rival = rival_on a b v x c.winner s c.rival;
+          same = c.same;
+          named = captures_on x.end a b v x c.winner.node s c.named;
+        })
       ];
     }
 

@@ -1,5 +1,6 @@
 -- How long a node has been tuned to a channel, as the present tuning and the last one tell it.
-use Rattle.std.proofs.Common.{◌≡◌, ℕ, ◌<◌, ◌≤◌, ◌-◌, ◌↔◌, ◌⊎◌, inl, inr, Bool, true, ◌&&◌, ◌||◌, ◌==◌, nat_le, Option, Some, None, sym, ◌∙◌, subst, arith, eq-eqb}
+use Rattle.std.proofs.Common.{◌≡◌, ℕ, ◌<◌, ◌≤◌, ◌-◌, ◌↔◌, ◌⊎◌, inl, inr, Bool, true, ◌&&◌, ◌||◌, ◌==◌}
+use Rattle.std.proofs.Common.{nat_le, Option, Some, None, sym, ◌∙◌, subst, arith, eq-eqb}
 use Rattle.std.proofs.lemmas.Bool.{and_parts, and_from, or_cases, or_left, or_right, eqb-true, leb-true, le-leb, cases_lt, false≢true}
 use Rattle.radio_model.specs.Stations.{goes_on, went_until}
 use Rattle.radio_model.specs.declared.station.Tuned.{Tuned}
@@ -31,13 +32,16 @@ went_true (Some q) c s t is =
 
 went_from : (last : Option Past) (c s t : ℕ) → Went last c s t → went_until last c s t ≡ true
 went_from None c s t is = absurd is
-went_from (Some q) c s t is = and_from ((q.rank == c) && nat_le q.since s) (nat_le t q.until) (and_from (q.rank == c) (nat_le q.since s) (eq-eqb q.rank c is.0) (le-leb q.since s is.1)) (le-leb t q.until is.2)
+went_from (Some q) c s t is =
+    and_from ((q.rank == c) && nat_le q.since s) (nat_le t q.until) (and_from (q.rank == c) (nat_le q.since s) (eq-eqb q.rank c is.0) (le-leb q.since s is.1))
+    (le-leb t q.until is.2)
 
 abbrev pub told : Option Tuned → Option Past → ℕ → ℕ → ℕ → Bool
 told tuned last c s t = goes_on tuned c s || went_until last c s t
 
 told_true : (tuned : Option Tuned) (last : Option Past) (c s t : ℕ) → told tuned last c s t ≡ true → Goes tuned c s ⊎ Went last c s t
-told_true tuned last c s t is = elim (or_cases (goes_on tuned c s) (went_until last c s t) is) [ inl a ↦ inl (goes_true tuned c s a) | inr b ↦ inr (went_true last c s t b) ]
+told_true tuned last c s t is =
+    elim (or_cases (goes_on tuned c s) (went_until last c s t) is) [ inl a ↦ inl (goes_true tuned c s a) | inr b ↦ inr (went_true last c s t b) ]
 
 told_goes : (tuned : Option Tuned) (last : Option Past) (c s t : ℕ) → Goes tuned c s → told tuned last c s t ≡ true
 told_goes tuned last c s t is = or_left (goes_on tuned c s) (went_until last c s t) (goes_from tuned c s is)
@@ -61,7 +65,8 @@ pub record Closes (P P' : ℕ → ℕ → Type 0) (o : Tuned) (t : ℕ) : Type 0
   pub kept : (c k : ℕ) → P c k → P' c k
   pub added : (c k : ℕ) → o.rank ≡ c → o.since ≤ k → k < t → P' c k
 
-module _ (P P' : ℕ → ℕ → Type 0) (o : Tuned) (last : Option Past) (now t : ℕ) (later : now ≤ t) (began : o.since ≤ now) (ended : (c s : ℕ) → Went last c s t → t ≤ o.since)
+module _ (P P' : ℕ → ℕ → Type 0) (o : Tuned) (last : Option Past) (now t : ℕ) (later : now ≤ t) (began : o.since ≤ now)
+    (ended : (c s : ℕ) → Went last c s t → t ≤ o.since)
     (over : (c s u : ℕ) → Went last c s u → u ≤ now) (tells : Tells P (Some o) last now) (past : (c k : ℕ) → P c k → k < now) (closes : Closes P P' o t) where
   past_then : (c k : ℕ) → P' c k → k < t
   past_then c k is = elim (closes.out c k is) [ inl p ↦ let early = past c k p in omega arith | inr q ↦ q.2 ]
@@ -70,7 +75,8 @@ module _ (P P' : ℕ → ℕ → Type 0) (o : Tuned) (last : Option Past) (now t
   no_later : (c s u : ℕ) → t ≤ u → s < u → All_lit P' None c s u → u ≡ t
   no_later c s u from some all =
       elim (cases_lt t u) [
-        | inl after ↦ elim (all (u - 1) (omega arith) (omega arith)) [ inl p ↦ let early = past_then c (u - 1) p in absurd (omega arith) | inr none ↦ absurd none ]
+        | inl after ↦
+            elim (all (u - 1) (omega arith) (omega arith)) [ inl p ↦ let early = past_then c (u - 1) p in absurd (omega arith) | inr none ↦ absurd none ]
         | inr not ↦ omega arith
       ]
 
@@ -119,12 +125,17 @@ module _ (P P' : ℕ → ℕ → Type 0) (o : Tuned) (last : Option Past) (now t
 module _ (P : ℕ → ℕ → Type 0) (r t : ℕ) (past : (c k : ℕ) → P c k → k < t) where
   -- where it has begun before the end, the channel is its own
   own_channel : (since c s u : ℕ) → t < u → s < u → All_lit P (Some (record { rank = r; since = since })) c s u → r ≡ c
-  own_channel since c s u after some all = elim (all (u - 1) (omega arith) (omega arith)) [ inl p ↦ let early = past c (u - 1) p in absurd (omega arith) | inr goes ↦ goes.0 ]
+  own_channel since c s u after some all =
+      elim (all (u - 1) (omega arith) (omega arith)) [ inl p ↦ let early = past c (u - 1) p in absurd (omega arith) | inr goes ↦ goes.0 ]
 
   module _ (last : Option Past) (tells : Tells P None last t) (over : (c s u : ℕ) → Went last c s u → u ≤ t) (fresh : (s : ℕ) → Went last r s t → ⊥) where
     before : (c s : ℕ) → s < t → All_lit P (Some (record { rank = r; since = t })) c s t → Went last c s t
     before c s some all =
-        elim (told_true None last c s t ((tells c s t (omega arith) some).0 (λ k low high. elim (all k low high) [ inl p ↦ inl p | inr goes ↦ let w = goes.1 in absurd (omega arith) ]))) [ inl none ↦ absurd none | inr went ↦ went ]
+        elim (told_true None last c s t ((tells c s t (omega arith) some).0
+        (λ k low high. elim (all k low high) [ inl p ↦ inl p | inr goes ↦ let w = goes.1 in absurd (omega arith) ]))) [
+          | inl none ↦ absurd none
+          | inr went ↦ went
+        ]
 
     pub on_fresh : Tells P (Some (record { rank = r; since = t })) last t
     on_fresh c s u from early = (
@@ -137,7 +148,8 @@ module _ (P : ℕ → ℕ → Type 0) (r t : ℕ) (past : (c k : ℕ) → P c k 
             ]
         | inr not ↦
             let at : t ≡ u = omega arith in
-            told_went (Some (record { rank = r; since = t })) last c s u (subst (Went last c s) at (before c s (omega arith) (λ k low high. all k low (omega arith))))
+            told_went (Some (record { rank = r; since = t })) last c s u
+            (subst (Went last c s) at (before c s (omega arith) (λ k low high. all k low (omega arith))))
       ],
       λ is. elim (told_true (Some (record { rank = r; since = t })) last c s u is) [
         | inl goes ↦ λ k low high. inr (goes.0, let w = goes.1 in omega arith)
@@ -150,7 +162,11 @@ module _ (P : ℕ → ℕ → Type 0) (r t : ℕ) (past : (c k : ℕ) → P c k 
     joined = Some (record { rank = r; since = q.since })
 
     went_of : (c s : ℕ) → s < t → ((k : ℕ) → s ≤ k → k < t → P c k) → Went (Some q) c s t
-    went_of c s early all = elim (told_true None (Some q) c s t ((tells c s t (omega arith) early).0 (λ k low high. inl (all k low high)))) [ inl none ↦ absurd none | inr went ↦ went ]
+    went_of c s early all =
+        elim (told_true None (Some q) c s t ((tells c s t (omega arith) early).0 (λ k low high. inl (all k low high)))) [
+          | inl none ↦ absurd none
+          | inr went ↦ went
+        ]
 
     last_tick : (c s : ℕ) → s < t → All_lit P joined c s t → r ≡ c
     last_tick c s early all =
@@ -168,7 +184,8 @@ module _ (P : ℕ → ℕ → Type 0) (r t : ℕ) (past : (c k : ℕ) → P c k 
                 | inl p ↦ p
                 | inr goes ↦
                     let w = goes.1 in
-                    elim ((tells c q.since t (omega arith) (omega arith)).1 (told_went None (Some q) c q.since t (same ∙ own, omega arith, omega arith)) k (omega arith) high) [ inl p ↦ p | inr none ↦ absurd none ]
+                    elim ((tells c q.since t (omega arith) (omega arith)).1 (told_went None (Some q) c q.since t (same ∙ own, omega arith, omega arith)) k
+                    (omega arith) high) [ inl p ↦ p | inr none ↦ absurd none ]
               ])).1
           | inr not ↦ not
         ]
@@ -177,9 +194,13 @@ module _ (P : ℕ → ℕ → Type 0) (r t : ℕ) (past : (c k : ℕ) → P c k 
     on_joined c s u from early = (
       λ all. elim (cases_lt t u) [
         | inl after ↦
-            told_goes joined None c s u (own_channel q.since c s u after early all, elim (cases_lt s t) [ inl less ↦ goes_back c s less (λ k low high. all k low (omega arith)) | inr not ↦ omega arith ])
+            told_goes joined None c s u (
+              own_channel q.since c s u after early all,
+              elim (cases_lt s t) [ inl less ↦ goes_back c s less (λ k low high. all k low (omega arith)) | inr not ↦ omega arith ],
+            )
         | inr not ↦
-            told_goes joined None c s u (last_tick c s (omega arith) (λ k low high. all k low (omega arith)), goes_back c s (omega arith) (λ k low high. all k low (omega arith)))
+            told_goes joined None c s u
+            (last_tick c s (omega arith) (λ k low high. all k low (omega arith)), goes_back c s (omega arith) (λ k low high. all k low (omega arith)))
       ],
       λ is. elim (told_true joined None c s u is) [
         | inl goes ↦ λ k low high. inr (goes.0, let w = goes.1 in omega arith)

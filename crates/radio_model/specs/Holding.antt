@@ -1,5 +1,6 @@
 -- What the medium keeps is all that matters of what happened.
-use Rattle.std.specs.Prelude.{◌≡◌, ℕ, ◌+◌, ◌<◌, ◌≤◌, ◌↔◌, ◌⊎◌, List, [], ◌∷◌, ◌++◌, true, if◌then◌else◌, nat_lt, Option, Some, None, is_none, filter_map, option_to_list, length, Contains}
+use Rattle.std.specs.Prelude.{◌≡◌, ℕ, ◌+◌, ◌<◌, ◌≤◌, ◌↔◌, ◌⊎◌, List, [], ◌∷◌, ◌++◌, true, if◌then◌else◌, nat_lt}
+use Rattle.std.specs.Prelude.{Option, Some, None, is_none, filter_map, option_to_list, length, Contains}
 use Rattle.lwb_base.specs.Profile.{Numbers, airtime}
 use Rattle.link_trace.specs.Passes.{Lines}
 use Rattle.radio_model.specs.OnAir.{Sending, Tuning}
@@ -96,7 +97,8 @@ pub record Holds (m : MediumState) (a : Scene) : Type 0 where
   pub sent : (y : Sending) → IsKept m y → Contains a.sendings y
   pub past : (k : Tuning) → Contains a.tunings k → k.end ≤ m.now
   -- how long a node has been tuned to a channel, at each tick from now on
-  pub tuned : (st : Station) → Contains m.stations st → (channel start t : ℕ) → m.now ≤ t → start < t → TunedFrom (as_it_stands m t a) st.node channel start t ↔ (covers st channel start t ≡ true)
+  pub tuned : (st : Station) → Contains m.stations st → (channel start t : ℕ) → m.now ≤ t → start < t
+      → TunedFrom (as_it_stands m t a) st.node channel start t ↔ (covers st channel start t ≡ true)
 
 -- the same happened before t
 pub record Agree (t : ℕ) (a b : Scene) : Type 0 where

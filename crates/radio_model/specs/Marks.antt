@@ -1,5 +1,6 @@
 -- What the medium keeps of the sendings of a node in short, and where it finds a node.
-use Rattle.std.specs.Prelude.{◌≡◌, ℕ, ◌+◌, ◌<◌, ◌≤◌, ◌⊎◌, All, List, Bool, false, ◌&&◌, ◌||◌, ◌==◌, nat_lt, nat_le, Option, Some, None, length, slice_index, slice_index_or, slice_set}
+use Rattle.std.specs.Prelude.{◌≡◌, ℕ, ◌+◌, ◌<◌, ◌≤◌, ◌⊎◌, All, List, Bool, false, ◌&&◌, ◌||◌, ◌==◌, nat_lt, nat_le}
+use Rattle.std.specs.Prelude.{Option, Some, None, length, slice_index, slice_index_or, slice_set}
 use Rattle.std.specs.Str.{bytes_eq}
 use Rattle.radio_model.specs.Stations.{on_air}
 use Rattle.radio_model.specs.declared.sending.Sending.{Sending}
@@ -84,7 +85,8 @@ pub record HasSent (sts : List Station) (o : Origin) : Type 0 where
 pub record AreAlike (now : ℕ) (sts : List Station) (mks : List Mark) : Type 0 where
   pub own : (i : ℕ) (st : Station) (mk : Mark) (y : Sending) → Stands sts mks i st mk → IsNewest (on_air st) y → (y.node ≡ st.node) × (y.start ≤ now)
   pub known : (i : ℕ) (st : Station) (mk : Mark) (y : Sending) → Stands sts mks i st mk → IsNewest (on_air st) y → HasSent sts mk.origin
-  pub alike : (i j : ℕ) (st su : Station) (mk ml : Mark) (y z : Sending) → Stands sts mks i st mk → Stands sts mks j su ml → IsNewest (on_air st) y → IsNewest (on_air su) z
+  pub alike : (i j : ℕ) (st su : Station) (mk ml : Mark) (y z : Sending) → Stands sts mks i st mk → Stands sts mks j su ml → IsNewest (on_air st) y
+      → IsNewest (on_air su) z
       → mk.origin ≡ ml.origin → Meets y z → y.packet ≡ z.packet
 
 -- of the newest sending of a node, beside x, whose mark has this origin

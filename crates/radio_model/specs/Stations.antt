@@ -1,5 +1,6 @@
 -- What the medium keeps of each node, and how calls change it.
-use Rattle.std.specs.Prelude.{◌≡◌, ℕ, ◌+◌, ◌<◌, ◌≤◌, ◌^◌, is_some, is_none, slice_index_or, Contains, All, find, List, [], ◌∷◌, ◌++◌, Bool, false, ◌&&◌, ◌||◌, ◌==◌, nat_lt, nat_le, if◌then◌else◌, Option, Some, None, map, length, option_to_list}
+use Rattle.std.specs.Prelude.{◌≡◌, ℕ, ◌+◌, ◌<◌, ◌≤◌, ◌^◌, is_some, is_none, slice_index_or, Contains, All, find, List, [], ◌∷◌, ◌++◌, Bool, false}
+use Rattle.std.specs.Prelude.{◌&&◌, ◌||◌, ◌==◌, nat_lt, nat_le, if◌then◌else◌, Option, Some, None, map, length, option_to_list}
 use Rattle.circular_buffer.specs.Buffer.{Buffer, buffer, keep_last}
 use Rattle.lwb_base.specs.Profile.{Numbers, airtime, IsProfile}
 use Rattle.link_trace.specs.Masks.{AreNodes}

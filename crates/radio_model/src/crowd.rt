@@ -7,7 +7,8 @@ ghost use Rattle.radio_model.specs.Ages.{IsAged, ByEnd};
 ghost use Rattle.radio_model.specs.Marks.{IsMark, AreMarks, IsAlike, AreAlikeTo};
 ghost use Rattle.radio_model.specs.Recent.{AreAmong};
 ghost use Rattle.radio_model.specs.declared.station.Station.{Station};
-ghost use Rattle.radio_model.specs.Meetings.{key_of, IsFrameStart, rivals_in, rivals_to, spoils, comes_from, is_chosen as chosen_by, IsPlaced, IsCrowd, no_crowd, both_crowds};
+ghost use Rattle.radio_model.specs.Meetings.{key_of, IsFrameStart, rivals_in, rivals_to, spoils, comes_from};
+ghost use Rattle.radio_model.specs.Meetings.{is_chosen as chosen_by, IsPlaced, IsCrowd, no_crowd, both_crowds};
 
 use crate::bits::{has_bit, lowest, without_bit};
 use crate::brought::brought_from;
@@ -149,7 +150,8 @@ pub fn is_chosen<M: Links>(
     requires aged { All (λ st. IsAged x.now.end st.ended.items) stations.now }
     requires places { All (λ st. IsPlaced (M.nodes links.now) st.place st.node) stations.now }
     requires at { IsPlaced (M.nodes links.now) at.now.place at.now.node }
-    ensures { result ≡ chosen_by (M.lines links.now) at.now.node (rivals_to profile.now x.now stations.now) (captured (M.lines links.now) key.frame key.slot key.counter at.now.node) }
+    ensures { result ≡ chosen_by (M.lines links.now) at.now.node (rivals_to profile.now x.now stations.now)
+        (captured (M.lines links.now) key.frame key.slot key.counter at.now.node) }
 {
     let Some(named) = links.captured(key.frame, key.slot, key.counter, at.node) else {
         return false;

@@ -41,8 +41,10 @@ pub fn agreement_is_an_equivalence()
 /// A call changes the station of its node alone, and leaves each station its node's.
 pub fn stations_after()
     ensures nodes { (m : MediumState) (t v : ℕ) (change : Station → Station) → KeepsNode change → nodes_of (after t v change m) ≡ nodes_of m }
-    ensures node { (m : MediumState) (t v : ℕ) (change : Station → Station) → KeepsNode change → station_of (after t v change m) v ≡ option_map change (station_of m v) }
-    ensures others { (m : MediumState) (t v : ℕ) (change : Station → Station) → KeepsNode change → (w : ℕ) → w ≢ v → station_of (after t v change m) w ≡ station_of m w }
+    ensures node { (m : MediumState) (t v : ℕ) (change : Station → Station) → KeepsNode change
+        → station_of (after t v change m) v ≡ option_map change (station_of m v) }
+    ensures others { (m : MediumState) (t v : ℕ) (change : Station → Station) → KeepsNode change → (w : ℕ) → w ≢ v
+        → station_of (after t v change m) w ≡ station_of m w }
     ensures tuning { (rank : Option ℕ) (t : ℕ) → KeepsNode (retuned rank t) }
     ensures starting { (p : Numbers) (t : ℕ) (packet : List ℕ) → KeepsNode (started p t packet) }
     ensures ending { KeepsNode finished }

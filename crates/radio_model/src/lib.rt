@@ -12,7 +12,7 @@ mod medium;
 mod recent;
 mod rivals;
 pub mod sending;
-pub mod station;
+mod station;
 
 pub use hearers::Hearers;
 pub use medium::Medium;

@@ -1,11 +1,13 @@
-ghost use Rattle.std.specs.Prelude.{◌≡◌, ◌≤◌, ◌<◌, ◌^◌, ◌∷◌, [], ℕ, IfOk, IfSome, IsSomeAnd, All, AllPairs, Contains, ◌↔◌, length, map, List, slice_index, slice_index_or, slice_set, Some, if◌then◌else◌};
+ghost use Rattle.std.specs.Prelude.{◌≡◌, ◌≤◌, ◌<◌, ◌^◌, ◌∷◌, [], ℕ, IfOk, IfSome, IsSomeAnd, All, AllPairs, Contains, ◌↔◌};
+ghost use Rattle.std.specs.Prelude.{length, map, List, slice_index, slice_index_or, slice_set, Some, if◌then◌else◌};
 ghost use Rattle.std.specs.List.{HoldsAt};
 ghost use Rattle.lwb_base.specs.Profile.{Numbers};
 ghost use Rattle.link_trace.specs.Masks.{AreNodes};
 ghost use Rattle.link_trace.specs.Passes.{Lines};
 ghost use Rattle.radio_model.specs.Hearing.{Scene, Hears};
 ghost use Rattle.radio_model.specs.Holding.{Holds, nothing_yet, after_tuning, after_starting, as_it_stands};
-ghost use Rattle.radio_model.specs.Stations.{MediumState, node_of, nodes_of, station_of, can_send, sending_of, retuned, started, finished, after, first_state, stations_from, IsTime, IsMedium, Ends};
+ghost use Rattle.radio_model.specs.Stations.{MediumState, node_of, nodes_of, station_of, can_send, sending_of, retuned};
+ghost use Rattle.radio_model.specs.Stations.{started, finished, after, first_state, stations_from, IsTime, IsMedium, Ends};
 ghost use Rattle.radio_model.specs.Ages.{IsAged};
 ghost use Rattle.radio_model.specs.Meetings.{hearers_to, IsPlaced};
 ghost use Rattle.radio_model.specs.Marks.{AreAlike, AreMarks, ArePlaces};
@@ -195,7 +197,8 @@ fn listeners_at<M: Links>(
     requires marks { AreMarks stations.now marks.now }
     requires alike { (now : ℕ) × AreAlike now stations.now marks.now }
     requires among { (d : Station) → IsSomeAnd (slice_index_or stations.now place d).sending (λ x. AreAmong profile.now x stations.now places) }
-    ensures { (d : Station) → IfSome (slice_index_or stations.now place d).sending (λ x. result ≡ hearers_to profile.now (M.lines links.now) (slice_index_or stations.now place d).node x stations.now) }
+    ensures { (d : Station) → IfSome (slice_index_or stations.now place d).sending
+        (λ x. result ≡ hearers_to profile.now (M.lines links.now) (slice_index_or stations.now place d).node x stations.now) }
 {
     let from = &stations[place];
     match &from.sending {

@@ -13,7 +13,8 @@ insert-requires c = let place = c.in-Err.ensures.place c.args.line.from in let w
 
 pub returns-in-Ok-clause-twice : goal.returns-in-Ok-clause-twice
 returns-in-Ok-clause-twice c = λ found.
-    rw (← c.deref.ensures.value) (any_first (is_capture c.args.line.frame c.args.line.slot c.args.line.step c.args.line.at) c.deref.result.now c.in-Ok.field-0 c.args.line c.in-Ok.ensures.found)
+    rw (← c.deref.ensures.value) (any_first (is_capture c.args.line.frame c.args.line.slot c.args.line.step c.args.line.at)
+    c.deref.result.now c.in-Ok.field-0 c.args.line c.in-Ok.ensures.found)
 
 -- the line has the place that the search found
 place : (c : goal.In_ok-insert-in-Err) → HasPlace by_capture c.args.lines.now.items c.args.line c.in-Err.place
@@ -23,7 +24,9 @@ inserted : (c : goal.In_ok-insert-in-Err) → c.insert.new.self.items ≡ insert
 inserted c = search rules
 
 pub returns-in_ok-insert-in-Err-clause-added : goal.returns-in_ok-insert-in-Err-clause-added
-returns-in_ok-insert-in-Err-clause-added c = λ done. inserted c ∙ insert_is_with_line by_capture by_capture_total c.args.lines.now.items c.args.line c.in-Err.place (place c)
+returns-in_ok-insert-in-Err-clause-added c = λ done. inserted c
+    ∙ insert_is_with_line by_capture by_capture_total c.args.lines.now.items c.args.line c.in-Err.place (place c)
 
 pub returns-in_ok-insert-in-Err-clause-ascends : goal.returns-in_ok-insert-in-Err-clause-ascends
-returns-in_ok-insert-in-Err-clause-ascends c = rw (inserted c) (insert_ascends by_capture by_capture_total c.args.lines.now.items c.args.line c.in-Err.place (place c) c.requires)
+returns-in_ok-insert-in-Err-clause-ascends c =
+    rw (inserted c) (insert_ascends by_capture by_capture_total c.args.lines.now.items c.args.line c.in-Err.place (place c) c.requires)

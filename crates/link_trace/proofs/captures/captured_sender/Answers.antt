@@ -8,7 +8,8 @@ use Rattle.link_trace.proofs.captures.captured_sender.Goals as goal
 pub returns-in-Ok : goal.returns-in-Ok
 returns-in-Ok c =
     let test = is_capture c.args.frame c.args.slot c.args.step c.args.at in
-    ap (λ (o : Option CaptureLine). option_map (λ (l : CaptureLine). l.from) o) (sym (find_first test c.args.lines.now c.in-Ok.place c.index-lines-place.result c.in-Ok.ensures.found))
+    ap (λ (o : Option CaptureLine). option_map (λ (l : CaptureLine). l.from) o)
+    (sym (find_first test c.args.lines.now c.in-Ok.place c.index-lines-place.result c.in-Ok.ensures.found))
 
 pub returns-in-Err : goal.returns-in-Err
 returns-in-Err c =

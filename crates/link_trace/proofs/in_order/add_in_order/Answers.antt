@@ -8,6 +8,7 @@ pub returns-in_ok-insert-in-Err-clause-added : goal.returns-in_ok-insert-in-Err-
 returns-in_ok-insert-in-Err-clause-added g c =
     let line = c.args.line in
     let place = c.in-Err.place in
-    let here : HasPlace g.L.Ord.cmp c.args.lines.now.items line place = subst (λ ls. HasPlace g.L.Ord.cmp ls line place) c.deref.ensures.value c.in-Err.ensures.place in
+    let here : HasPlace g.L.Ord.cmp c.args.lines.now.items line place =
+    subst (λ ls. HasPlace g.L.Ord.cmp ls line place) c.deref.ensures.value c.in-Err.ensures.place in
     let inserted : c.insert.new.self.items ≡ insert c.args.lines.now.items place line = search rules in
     λ done. inserted ∙ insert_is_with_line g.L.Ord.cmp g.met.L.Ord.total c.args.lines.now.items line place here

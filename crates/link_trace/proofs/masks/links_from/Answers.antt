@@ -17,7 +17,9 @@ loop-i-preserved c =
     let answer : test (get_or nodes i 0) ≡ c.has_link.result = ap test (sym read) ∙ sym c.has_link.ensures in
     elim c.if-has_link.branch [
       | then-has_link w ↦
-          subst (λ (m : ℕ). IsMaskUpto test nodes (i + 1) m) (sym w.mask-is) (one_set nodes c.requires.few test i c.loop-i.mask inside c.loop-i.invariant (answer ∙ w.if-has_link.true))
+          subst (λ (m : ℕ). IsMaskUpto test nodes (i + 1) m) (sym w.mask-is)
+          (one_set nodes c.requires.few test i c.loop-i.mask inside c.loop-i.invariant (answer ∙ w.if-has_link.true))
       | else-has_link w ↦
-          subst (λ (m : ℕ). IsMaskUpto test nodes (i + 1) m) (sym w.mask-is) (one_unset nodes c.requires.few test i c.loop-i.mask inside c.loop-i.invariant (answer ∙ w.if-has_link.false))
+          subst (λ (m : ℕ). IsMaskUpto test nodes (i + 1) m) (sym w.mask-is)
+          (one_unset nodes c.requires.few test i c.loop-i.mask inside c.loop-i.invariant (answer ∙ w.if-has_link.false))
     ]

@@ -7,5 +7,6 @@ use Rattle.link_trace.proofs.masks.lost_from_mask.Goals as goal
 pub loop-line-preserved : goal.loop-line-preserved
 loop-line-preserved c =
     let from = c.args.from in
-    one_more_line c.args.nodes.now (λ (to : ℕ) (l : LoseLine). (l.from == from) && (l.to == to)) c.args.losses.now c.loop-line.line-index c.line-item.result c.loop-line.mask c.lost_from-mask.result c.loop-line-test.true c.loop-line.invariant
+    one_more_line c.args.nodes.now (λ (to : ℕ) (l : LoseLine). (l.from == from) && (l.to == to)) c.args.losses.now c.loop-line.line-index
+    c.line-item.result c.loop-line.mask c.lost_from-mask.result c.loop-line-test.true c.loop-line.invariant
     (subst (λ (l : LoseLine). IsMask (λ to. (l.from == from) && (l.to == to)) c.args.nodes.now c.lost_from-mask.result) c.line-item.is c.lost_from-mask.ensures)

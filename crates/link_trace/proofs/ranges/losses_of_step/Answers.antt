@@ -14,7 +14,11 @@ returns c =
     let losses = c.args.losses.now in
     let m = c.partition_point-begin.result in
     let n = c.partition_point-count.result in
-    let first = IsPartitionPoint-from_clause (λ (l : LoseLine). nat_lt l.frame f || ((l.frame == f) && (nat_lt l.slot j || ((l.slot == j) && nat_lt l.step k)))) losses m c.partition_point-begin.ensures.partitioned (first_losses f j k losses c.requires) (λ a r g called. search rules) in
+    let first = IsPartitionPoint-from_clause
+    (λ (l : LoseLine). nat_lt l.frame f || ((l.frame == f) && (nat_lt l.slot j || ((l.slot == j) && nat_lt l.step k)))) losses m
+    c.partition_point-begin.ensures.partitioned (first_losses f j k losses c.requires) (λ a r g called. search rules) in
     let rest : take (length losses - m) (drop m losses) ≡ drop m losses = take_all (length losses - m) (drop m losses) (omega (arith, length-drop m losses)) in
-    let next = IsPartitionPoint-from_clause (is_of_step f j k) (take (length losses - m) (drop m losses)) n c.partition_point-count.ensures.partitioned (rw rest (next_losses f j k losses c.requires m first.1)) (λ a r g called. search rules) in
+    let next = IsPartitionPoint-from_clause (is_of_step f j k) (take (length losses - m) (drop m losses)) n
+    c.partition_point-count.ensures.partitioned (rw rest (next_losses f j k losses c.requires m first.1))
+    (λ a r g called. search rules) in
     losses_are f j k losses c.requires m n c.partition_point-begin.ensures.bound (rw rest at c.partition_point-count.ensures.bound) first (rw rest at next)

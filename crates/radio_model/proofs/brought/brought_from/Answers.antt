@@ -29,7 +29,9 @@ loop-i-preserved g c =
     let y = c.ended_at-y.result.now in
     let now = filter_map f (take i st.ended.items) in
     record {
-      brought = subst (λ (rs : List Rival). IsBrought lines nodes rs c.with-brought.result) (sym (filter_map_more f st.ended.items i y (omega (arith, c.loop-i.invariant.within, c.loop-i-test.true)) c.ended_at-y.ensures))
+      brought =
+          subst (λ (rs : List Rival). IsBrought lines nodes rs c.with-brought.result)
+          (sym (filter_map_more f st.ended.items i y (omega (arith, c.loop-i.invariant.within, c.loop-i-test.true)) c.ended_at-y.ensures))
           (subst (λ (w : Brought). IsBrought lines nodes (now ++ option_to_list (f y)) w) (sym c.with-brought.ensures)
           (both_come lines nodes now (option_to_list (f y)) c.loop-i.brought c.brought_with.result c.loop-i.invariant.brought c.brought_with.ensures));
       within = c.loop-i.invariant.within;
@@ -44,7 +46,8 @@ returns-in-Some g c =
     let st = c.args.station.now in
     let now = filter_map (rival_to p x st) (take c.loop-i.i st.ended.items) in
     let last = option_to_list (rival_to p x st c.in-Some.y) in
-    subst (λ (rs : List Rival). IsBrought lines nodes rs c.with.result) (sym (rivals_sending p x st c.loop-i.i (omega (arith, c.loop-i.invariant.within, c.loop-i-test.false)) c.in-Some.y c.in-Some.is))
+    subst (λ (rs : List Rival). IsBrought lines nodes rs c.with.result)
+    (sym (rivals_sending p x st c.loop-i.i (omega (arith, c.loop-i.invariant.within, c.loop-i-test.false)) c.in-Some.y c.in-Some.is))
     (subst (λ (w : Brought). IsBrought lines nodes (now ++ last) w) (sym c.with.ensures)
     (both_come lines nodes now last c.loop-i.brought c.brought_with-in-Some.result c.loop-i.invariant.brought c.brought_with-in-Some.ensures))
 

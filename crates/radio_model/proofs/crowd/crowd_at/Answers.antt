@@ -21,9 +21,11 @@ returns-then-is_aside g c =
     subst (λ (w : Crowd). IsCrowd lines nodes (rivals_in p x st) w) (sym c.none.ensures)
     (elim c.then-is_aside.branch [
       | then-is_aside-via-then-is_aside w ↦
-          subst (λ (rs : List Rival). IsCrowd lines nodes rs no_crowd) (sym (no_rivals_aside p x st c.args.mark c.requires.mark (sym c.is_aside.ensures ∙ w.if-is_aside.true))) (nobody_comes lines nodes)
+          subst (λ (rs : List Rival). IsCrowd lines nodes rs no_crowd)
+          (sym (no_rivals_aside p x st c.args.mark c.requires.mark (sym c.is_aside.ensures ∙ w.if-is_aside.true))) (nobody_comes lines nodes)
       | then-is_aside-via-else-is_aside+then-comes_along w ↦
-          along_comes p x st c.args.mark c.args.origin c.args.delta c.requires.mark c.requires.alike c.requires.delta.0 (sym w.comes_along.ensures ∙ w.if-comes_along.true) lines nodes
+          along_comes p x st c.args.mark c.args.origin c.args.delta c.requires.mark c.requires.alike c.requires.delta.0
+          (sym w.comes_along.ensures ∙ w.if-comes_along.true) lines nodes
     ])
 
 pub returns-then-comes_early : goal.returns-then-comes_early
@@ -33,6 +35,7 @@ returns-then-comes_early g c =
     let p = c.args.profile.now in
     let x = c.args.x.now in
     let st = c.args.station.now in
-    early_comes p x st c.args.mark c.args.origin c.args.opens c.requires.mark c.requires.alike c.requires.opens (sym c.is_aside.ensures ∙ c.if-is_aside.false) (sym c.comes_early.ensures ∙ c.if-comes_early.true) lines nodes c.reach_of.result
+    early_comes p x st c.args.mark c.args.origin c.args.opens c.requires.mark c.requires.alike c.requires.opens (sym c.is_aside.ensures ∙ c.if-is_aside.false)
+    (sym c.comes_early.ensures ∙ c.if-comes_early.true) lines nodes c.reach_of.result
     (subst (λ (n : ℕ). IsMask (λ v. passes_at lines (key_of p x) n v) nodes c.reach_of.result) c.requires.at.there
     (subst (λ (q : Key). IsMask (λ v. passes_at lines q (get_or nodes st.place 0) v) nodes c.reach_of.result) c.requires.key c.reach_of.ensures))

@@ -62,7 +62,8 @@ returns-then-crowd-reached-clause-none g c =
     all_spoiled lines nodes (rivals_but p x left sts) (rivals_to p x sts) c.args.reached c.with-crowd.result
     (subst (λ (w : Crowd). IsCrowd lines nodes (rivals_but p x left sts) w) (sym c.with-crowd.ensures)
     (crowd_more p x sts c.requires.in_order c.loop-rest.rest left k st
-    (c.loop-rest.invariant.within k c.lowest-place.ensures.set) at c.lowest-place.ensures.set c.without_bit-rest.ensures.cleared c.without_bit-rest.ensures.others
+    (c.loop-rest.invariant.within k c.lowest-place.ensures.set) at c.lowest-place.ensures.set c.without_bit-rest.ensures.cleared
+    c.without_bit-rest.ensures.others
     lines nodes c.loop-rest.crowd c.crowd_at-other.result c.loop-rest.invariant.crowd c.crowd_at-other.ensures))
     (λ test. but_fewer p x test left sts) c.if-crowd-reached.true
 
@@ -91,7 +92,8 @@ loop-rest-preserved g c =
     record {
       crowd = subst (λ (w : Crowd). IsCrowd lines nodes (rivals_but p x left sts) w) (sym c.with-crowd.ensures)
           (crowd_more p x sts c.requires.in_order c.loop-rest.rest left k st
-          (c.loop-rest.invariant.within k c.lowest-place.ensures.set) at c.lowest-place.ensures.set c.without_bit-rest.ensures.cleared c.without_bit-rest.ensures.others
+          (c.loop-rest.invariant.within k c.lowest-place.ensures.set) at c.lowest-place.ensures.set c.without_bit-rest.ensures.cleared
+          c.without_bit-rest.ensures.others
           lines nodes c.loop-rest.crowd c.crowd_at-other.result c.loop-rest.invariant.crowd c.crowd_at-other.ensures);
       within = λ j one. elim (cases_eq j k) [
         | inl here ↦ absurd (omega (arith, one, c.without_bit-rest.ensures.cleared, ap (bit_at left) here))

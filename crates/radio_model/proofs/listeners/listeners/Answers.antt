@@ -32,7 +32,8 @@ returns-in_default g c =
     let sts = c.args.stations.now in
     let key = key_of c.args.profile.now x in
     let rs = rivals_to c.args.profile.now x sts in
-    let reached = reach_is lines nodes u c.args.from.now.place key c.of-key.result c.reach_of-reached.result c.requires.from.there c.of-key.ensures c.reach_of-reached.ensures in
+    let reached = reach_is lines nodes u c.args.from.now.place key c.of-key.result c.reach_of-reached.result c.requires.from.there c.of-key.ensures
+    c.reach_of-reached.ensures in
     c.none.ensures ∙ nobody_hears lines nodes u x key rs c.reach_of-reached.result sts c.requires.places reached
     (λ i below bit. c.in_default.ensures.none i below bit)
 
@@ -156,7 +157,8 @@ push-requires g c =
     let sts = c.args.stations.now in
     let key = key_of c.args.profile.now x in
     let rs = rivals_to c.args.profile.now x sts in
-    let reached = reach_is lines nodes u c.args.from.now.place key c.of-key.result c.reach_of-reached.result c.requires.from.there c.of-key.ensures c.reach_of-reached.ensures in
+    let reached = reach_is lines nodes u c.args.from.now.place key c.of-key.result c.reach_of-reached.result c.requires.from.there c.of-key.ensures
+    c.reach_of-reached.ensures in
     let k = c.lowest-place.result in
     let st = c.index-stations-i.result in
     let bits = c.loop-rest.invariant.reached k c.lowest-place.ensures.set in
@@ -172,8 +174,10 @@ push-requires g c =
     let placed : IsPlaced nodes st.place st.node = subst (λ (s : Station). IsPlaced nodes s.place s.node) (sym at) (c.requires.places k st below) in
     let test : c.hears.result ≡ is_heard lines u x key rs st =
     c.hears.ensures ∙ ap (λ (q : Key). hears_by true false (bit_at c.in-Some.crowd.mixed st.place == 1) lines x q rs st) c.of-key.ensures
-    ∙ hears_there lines nodes u x key rs st k c.reach_of-reached.result c.in-Some.crowd.spoiled c.in-Some.crowd.mixed placed place bits.0 bits.1 reached c.in-Some.ensures.some.spoiled c.in-Some.ensures.some.mixed in
-    room_for_it lines u x key rs sts c.requires.in_order c.loop-rest.rest c.without_bit-rest.result k st below at c.lowest-place.ensures.set c.lowest-place.ensures.first c.without_bit-rest.ensures.cleared
+    ∙ hears_there lines nodes u x key rs st k c.reach_of-reached.result c.in-Some.crowd.spoiled c.in-Some.crowd.mixed placed place bits.0 bits.1 reached
+    c.in-Some.ensures.some.spoiled c.in-Some.ensures.some.mixed in
+    room_for_it lines u x key rs sts c.requires.in_order c.loop-rest.rest c.without_bit-rest.result k st below at c.lowest-place.ensures.set
+    c.lowest-place.ensures.first c.without_bit-rest.ensures.cleared
     c.without_bit-rest.ensures.others c.hears.result test c.loop-rest.hearers c.loop-rest.invariant.pairs c.if-hears.true c.requires.few
 
 pub loop-rest-init : goal.loop-rest-init
@@ -185,7 +189,8 @@ loop-rest-init g c =
     let sts = c.args.stations.now in
     let key = key_of c.args.profile.now x in
     let rs = rivals_to c.args.profile.now x sts in
-    let reached = reach_is lines nodes u c.args.from.now.place key c.of-key.result c.reach_of-reached.result c.requires.from.there c.of-key.ensures c.reach_of-reached.ensures in
+    let reached = reach_is lines nodes u c.args.from.now.place key c.of-key.result c.reach_of-reached.result c.requires.from.there c.of-key.ensures
+    c.reach_of-reached.ensures in
     let r = c.reach_of-reached.result in
     let s = c.in-Some.crowd.spoiled in
     let left = c.without_bits-rest.result in
@@ -208,7 +213,8 @@ loop-rest-preserved g c =
     let sts = c.args.stations.now in
     let key = key_of c.args.profile.now x in
     let rs = rivals_to c.args.profile.now x sts in
-    let reached = reach_is lines nodes u c.args.from.now.place key c.of-key.result c.reach_of-reached.result c.requires.from.there c.of-key.ensures c.reach_of-reached.ensures in
+    let reached = reach_is lines nodes u c.args.from.now.place key c.of-key.result c.reach_of-reached.result c.requires.from.there c.of-key.ensures
+    c.reach_of-reached.ensures in
     let k = c.lowest-place.result in
     let st = c.index-stations-i.result in
     let bits = c.loop-rest.invariant.reached k c.lowest-place.ensures.set in
@@ -224,9 +230,12 @@ loop-rest-preserved g c =
     let placed : IsPlaced nodes st.place st.node = subst (λ (s : Station). IsPlaced nodes s.place s.node) (sym at) (c.requires.places k st below) in
     let test : c.hears.result ≡ is_heard lines u x key rs st =
     c.hears.ensures ∙ ap (λ (q : Key). hears_by true false (bit_at c.in-Some.crowd.mixed st.place == 1) lines x q rs st) c.of-key.ensures
-    ∙ hears_there lines nodes u x key rs st k c.reach_of-reached.result c.in-Some.crowd.spoiled c.in-Some.crowd.mixed placed place bits.0 bits.1 reached c.in-Some.ensures.some.spoiled c.in-Some.ensures.some.mixed in
+    ∙ hears_there lines nodes u x key rs st k c.reach_of-reached.result c.in-Some.crowd.spoiled c.in-Some.crowd.mixed placed place bits.0 bits.1 reached
+    c.in-Some.ensures.some.spoiled c.in-Some.ensures.some.mixed in
     record {
-      pairs = looked_at lines u x key rs sts c.requires.in_order c.loop-rest.rest c.without_bit-rest.result k st below at c.lowest-place.ensures.set c.lowest-place.ensures.first c.without_bit-rest.ensures.cleared
+      pairs =
+          looked_at lines u x key rs sts c.requires.in_order c.loop-rest.rest c.without_bit-rest.result k st below at c.lowest-place.ensures.set
+          c.lowest-place.ensures.first c.without_bit-rest.ensures.cleared
           c.without_bit-rest.ensures.others c.hears.result test c.loop-rest.hearers c.loop-rest.invariant.pairs c.loop-rest.hearers (sym
           (cond-false c.hears.result _ _ c.if-hears.false));
       reached = λ j one. elim (cases_eq j k) [
@@ -244,7 +253,8 @@ loop-rest-preserved-then-hears g c =
     let sts = c.args.stations.now in
     let key = key_of c.args.profile.now x in
     let rs = rivals_to c.args.profile.now x sts in
-    let reached = reach_is lines nodes u c.args.from.now.place key c.of-key.result c.reach_of-reached.result c.requires.from.there c.of-key.ensures c.reach_of-reached.ensures in
+    let reached = reach_is lines nodes u c.args.from.now.place key c.of-key.result c.reach_of-reached.result c.requires.from.there c.of-key.ensures
+    c.reach_of-reached.ensures in
     let k = c.lowest-place.result in
     let st = c.index-stations-i.result in
     let bits = c.loop-rest.invariant.reached k c.lowest-place.ensures.set in
@@ -260,9 +270,12 @@ loop-rest-preserved-then-hears g c =
     let placed : IsPlaced nodes st.place st.node = subst (λ (s : Station). IsPlaced nodes s.place s.node) (sym at) (c.requires.places k st below) in
     let test : c.hears.result ≡ is_heard lines u x key rs st =
     c.hears.ensures ∙ ap (λ (q : Key). hears_by true false (bit_at c.in-Some.crowd.mixed st.place == 1) lines x q rs st) c.of-key.ensures
-    ∙ hears_there lines nodes u x key rs st k c.reach_of-reached.result c.in-Some.crowd.spoiled c.in-Some.crowd.mixed placed place bits.0 bits.1 reached c.in-Some.ensures.some.spoiled c.in-Some.ensures.some.mixed in
+    ∙ hears_there lines nodes u x key rs st k c.reach_of-reached.result c.in-Some.crowd.spoiled c.in-Some.crowd.mixed placed place bits.0 bits.1 reached
+    c.in-Some.ensures.some.spoiled c.in-Some.ensures.some.mixed in
     record {
-      pairs = looked_at lines u x key rs sts c.requires.in_order c.loop-rest.rest c.without_bit-rest.result k st below at c.lowest-place.ensures.set c.lowest-place.ensures.first c.without_bit-rest.ensures.cleared
+      pairs =
+          looked_at lines u x key rs sts c.requires.in_order c.loop-rest.rest c.without_bit-rest.result k st below at c.lowest-place.ensures.set
+          c.lowest-place.ensures.first c.without_bit-rest.ensures.cleared
           c.without_bit-rest.ensures.others c.hears.result test c.loop-rest.hearers c.loop-rest.invariant.pairs c.push.new.self (c.push.ensures
           ∙ sym (cond-true c.hears.result _ _ c.if-hears.true));
       reached = λ j one. elim (cases_eq j k) [

@@ -2,7 +2,7 @@ use Rattle.std.proofs.Common.{◌<◌, ◌∙◌, get_or, length, inl, inr, refl
 use Rattle.std.proofs.lemmas.Bool.{cases_eq}
 use Rattle.std.specs.Int.{bit_at}
 use Rattle.radio_model.proofs.Members.{same_default}
-use Rattle.radio_model.proofs.Origins.{sender_joins}
+use Rattle.radio_model.proofs.BegunOrigins.{sender_joins}
 use Rattle.radio_model.proofs.mark.origin_of.Goals as goal
 
 pub bounds-marks-i : goal.bounds-marks-i

@@ -10,7 +10,8 @@ use Rattle.radio_model.proofs.medium.listeners_at.Goals as goal
 pub listeners-requires-clause-aged : goal.listeners-requires-clause-aged
 listeners-requires-clause-aged g c =
     let st = c.index-stations-place.result in
-    (subst (λ (o : Option Sending). IsSomeAnd o (λ x. (x.start ≤ 2 ^ 46) × (x.end ≤ 2 ^ 46) × All (λ (s : Station). IsAged x.end s.ended.items) c.args.stations.now))
+    (subst (λ (o : Option Sending). IsSomeAnd o
+    (λ x. (x.start ≤ 2 ^ 46) × (x.end ≤ 2 ^ 46) × All (λ (s : Station). IsAged x.end s.ended.items) c.args.stations.now))
     (ap (λ (s : Station). s.sending) (sym c.index-stations-place.is) ∙ c.in-Some.is) (c.requires.sends st)).2
 
 pub listeners-requires-clause-among : goal.listeners-requires-clause-among
@@ -26,5 +27,9 @@ listeners-requires-clause-alike g c =
     let e = c.index-marks-place.result in
     let mk = get_or mks i e in
     alike_to c.requires.alike.0 c.args.stations.now mks i c.index-stations-place.result mk c.in-Some.x c.requires.alike.1
-    (record { below = c.requires.place; station = sym c.index-stations-place.is; mark = same_default mks i mk e (omega (arith, c.requires.place, c.requires.marks.one_each)) })
+    (record {
+      below = c.requires.place;
+      station = sym c.index-stations-place.is;
+      mark = same_default mks i mk e (omega (arith, c.requires.place, c.requires.marks.one_each));
+    })
     c.in-Some.is

@@ -19,4 +19,5 @@ pub returns : goal.returns
 returns c =
     λ k from to.
     let f = c.args.profile.now.frame in
-    since f c.args.t k (some_frame c.args.profile.now c.frame.ensures.made) (let is = ap (λ (n : ℕ). c.args.t % n) c.frame.ensures.value in omega (arith, from, is)) to
+    since f c.args.t k (some_frame c.args.profile.now c.frame.ensures.made)
+    (let is = ap (λ (n : ℕ). c.args.t % n) c.frame.ensures.value in omega (arith, from, is)) to

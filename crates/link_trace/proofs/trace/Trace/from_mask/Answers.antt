@@ -7,16 +7,34 @@ use Rattle.link_trace.specs.Masks.{IsMask}
 use Rattle.link_trace.specs.Passes.{Lines, cuts_by, is_of_step, is_link}
 use Rattle.link_trace.specs.Sealed.{Traced}
 use Rattle.link_trace.proofs.MaskReads.{read_at, named, cut_at}
-use Rattle.link_trace.proofs.MasksOfPassing.{mask_of_passing, none_passing}
+use Rattle.link_trace.proofs.MasksOfPassing.{all_passing, mask_of_passing, none_passing}
 use Rattle.link_trace.proofs.trace.Trace.from_mask.Goals as goal
 
 -- the masks, of the nodes and lines that are equal to those that were passed
-lost_at : (nodes passed : List ℕ) (found losses : List LoseLine) (to v m : ℕ) → passed ≡ nodes → found ≡ losses → to ≡ v → IsMask (λ from. list_any (λ (l : LoseLine). (l.from == from) && (l.to == to)) found) passed m
+lost_at : (nodes passed : List ℕ) (found losses : List LoseLine) (to v m : ℕ) → passed ≡ nodes → found ≡ losses → to ≡ v
+    → IsMask (λ from. list_any (λ (l : LoseLine). (l.from == from) && (l.to == to)) found) passed m
     → IsMask (λ from. list_any (λ (l : LoseLine). (l.from == from) && (l.to == v)) losses) nodes m
 lost_at nodes passed found losses to v m same_nodes same_lines same_node is =
     subst (λ (w : ℕ). IsMask (λ from. list_any (λ (l : LoseLine). (l.from == from) && (l.to == w)) losses) nodes m) same_node
     (subst (λ (ls : List LoseLine). IsMask (λ from. list_any (λ (l : LoseLine). (l.from == from) && (l.to == to)) ls) nodes m) same_lines
     (subst (λ (ns : List ℕ). IsMask (λ from. list_any (λ (l : LoseLine). (l.from == from) && (l.to == to)) found) ns m) same_nodes is))
+
+pub returns-then-are_none : goal.returns-then-are_none
+returns-then-are_none c =
+    let kept = c.self.inside in
+    let t : Lines = record { links = kept.links.items; losses = kept.losses.items; cuts = kept.cuts.items; captures = kept.captures.items } in
+    let nodes = kept.nodes.items in
+    let v = get_or nodes c.args.at 0 in
+    let inside : c.args.at < length nodes = subst (λ (v : Traced). c.args.at < length v.nodes) (sym c.self.view_is) c.requires in
+    let links = c.index-links.result.now in
+    let links_is : links ≡ get_or kept.masks.items c.args.at links = c.index-links.ensures ∙ ap (λ (n : ℕ). get_or kept.masks.items n links) c.from.ensures in
+    let linked : IsMask (λ from. list_any (is_link from v) t.links) nodes links.to_it =
+    subst (λ (m : LinkMasks). IsMask (λ from. list_any (is_link from v) t.links) nodes m.to_it) (sym links_is)
+    (c.self.invariant.link_masks.to_each c.args.at links inside) in
+    rw (← c.self.view_is)
+    (all_passing t c.args.frame c.args.slot c.args.step v nodes links.to_it
+    (sym c.deref.ensures.value ∙ c.are_none.ensures.losses c.if-are_none.true)
+    (sym c.deref-2.ensures.value ∙ c.are_none.ensures.cuts c.if-are_none.true) linked)
 
 pub returns-then-names : goal.returns-then-names
 returns-then-names c =
@@ -27,8 +45,10 @@ returns-then-names c =
     let t : Lines = record { links = kept.links.items; losses = kept.losses.items; cuts = kept.cuts.items; captures = kept.captures.items } in
     let nodes = kept.nodes.items in
     let inside : c.args.at < length nodes = subst (λ (v : Traced). c.args.at < length v.nodes) (sym c.self.view_is) c.requires in
-    let to_is : c.index-to.result.now ≡ get_or nodes c.args.at 0 = read_at nodes c.from.result c.args.at c.index-to.result.now inside c.from.ensures c.index-to.ensures in
-    let cuts_are : c.cuts_so_far-cuts.result.now ≡ filter (cuts_by f j k) t.cuts = c.cuts_so_far-cuts.ensures ∙ ap (λ (ls : List CutLine). filter (cuts_by f j k) ls) c.deref.ensures.value in
+    let to_is : c.index-to.result.now ≡ get_or nodes c.args.at 0 =
+    read_at nodes c.from-2.result c.args.at c.index-to.result.now inside c.from-2.ensures c.index-to.ensures in
+    let cuts_are : c.cuts_so_far-cuts.result.now ≡ filter (cuts_by f j k) t.cuts =
+    c.cuts_so_far-cuts.ensures ∙ ap (λ (ls : List CutLine). filter (cuts_by f j k) ls) c.deref-3.ensures.value in
     rw (← c.self.view_is)
     (none_passing t f j k (get_or nodes c.args.at 0) nodes
     (named t.cuts c.cuts_so_far-cuts.result.now f j k c.index-to.result.now (get_or nodes c.args.at 0) cuts_are to_is ∙ sym c.names.ensures ∙ c.if-names.true))
@@ -43,16 +63,23 @@ returns c =
     let nodes = kept.nodes.items in
     let v = get_or nodes c.args.at 0 in
     let inside : c.args.at < length nodes = subst (λ (v : Traced). c.args.at < length v.nodes) (sym c.self.view_is) c.requires in
-    let to_is : c.index-to.result.now ≡ v = read_at nodes c.from.result c.args.at c.index-to.result.now inside c.from.ensures c.index-to.ensures in
-    let cuts_are : c.cuts_so_far-cuts.result.now ≡ filter (cuts_by f j k) t.cuts = c.cuts_so_far-cuts.ensures ∙ ap (λ (ls : List CutLine). filter (cuts_by f j k) ls) c.deref.ensures.value in
-    let losses_are : c.losses_of_step-losses.result.now ≡ filter (is_of_step f j k) t.losses = c.losses_of_step-losses.ensures ∙ ap (λ (ls : List LoseLine). filter (is_of_step f j k) ls) c.deref-2.ensures.value in
+    let to_is : c.index-to.result.now ≡ v = read_at nodes c.from-2.result c.args.at c.index-to.result.now inside c.from-2.ensures c.index-to.ensures in
+    let cuts_are : c.cuts_so_far-cuts.result.now ≡ filter (cuts_by f j k) t.cuts =
+    c.cuts_so_far-cuts.ensures ∙ ap (λ (ls : List CutLine). filter (cuts_by f j k) ls) c.deref-3.ensures.value in
+    let losses_are : c.losses_of_step-losses.result.now ≡ filter (is_of_step f j k) t.losses =
+    c.losses_of_step-losses.ensures ∙ ap (λ (ls : List LoseLine). filter (is_of_step f j k) ls) c.deref-4.ensures.value in
     let none = named t.cuts c.cuts_so_far-cuts.result.now f j k c.index-to.result.now v cuts_are to_is ∙ sym c.names.ensures ∙ c.if-names.false in
     let links = c.index-links.result.now in
-    let links_is : links ≡ get_or kept.masks.items c.args.at links = c.index-links.ensures ∙ ap (λ (n : ℕ). get_or kept.masks.items n links) c.from-2.ensures in
-    let linked : IsMask (λ from. list_any (is_link from v) t.links) nodes links.to_it = subst (λ (m : LinkMasks). IsMask (λ from. list_any (is_link from v) t.links) nodes m.to_it) (sym links_is) (c.self.invariant.link_masks.to_each c.args.at links inside) in
+    let links_is : links ≡ get_or kept.masks.items c.args.at links = c.index-links.ensures ∙ ap (λ (n : ℕ). get_or kept.masks.items n links) c.from.ensures in
+    let linked : IsMask (λ from. list_any (is_link from v) t.links) nodes links.to_it =
+    subst (λ (m : LinkMasks). IsMask (λ from. list_any (is_link from v) t.links) nodes m.to_it) (sym links_is)
+    (c.self.invariant.link_masks.to_each c.args.at links inside) in
     let lost : IsMask (λ from. list_any (λ l. (l.from == from) && (l.to == v)) (filter (is_of_step f j k) t.losses)) nodes c.lost_mask-lost.result =
-    lost_at nodes c.deref-3.result.now c.losses_of_step-losses.result.now (filter (is_of_step f j k) t.losses) c.index-to.result.now v c.lost_mask-lost.result c.deref-3.ensures.value losses_are to_is c.lost_mask-lost.ensures in
+    lost_at nodes c.deref-5.result.now c.losses_of_step-losses.result.now (filter (is_of_step f j k) t.losses) c.index-to.result.now v
+    c.lost_mask-lost.result c.deref-5.ensures.value losses_are to_is c.lost_mask-lost.ensures in
     let cut : IsMask (λ node. list_any (λ l. l.node == node) (filter (cuts_by f j k) t.cuts)) nodes c.cut_mask-cut.result =
-    cut_at nodes c.deref-4.result.now c.cuts_so_far-cuts.result.now (filter (cuts_by f j k) t.cuts) c.cut_mask-cut.result c.deref-4.ensures.value cuts_are c.cut_mask-cut.ensures in
+    cut_at nodes c.deref-6.result.now c.cuts_so_far-cuts.result.now (filter (cuts_by f j k) t.cuts) c.cut_mask-cut.result
+    c.deref-6.ensures.value cuts_are c.cut_mask-cut.ensures in
     rw (← c.self.view_is)
-    (mask_of_passing t f j k v nodes c.self.invariant.few c.index-links.result.now.to_it c.lost_mask-lost.result c.cut_mask-cut.result c.lost_mask-lost.type_inv c.cut_mask-cut.type_inv none linked lost cut)
+    (mask_of_passing t f j k v nodes c.self.invariant.few c.index-links.result.now.to_it c.lost_mask-lost.result c.cut_mask-cut.result c.lost_mask-lost.type_inv
+    c.cut_mask-cut.type_inv none linked lost cut)

@@ -7,16 +7,34 @@ use Rattle.link_trace.specs.Masks.{IsMask}
 use Rattle.link_trace.specs.Passes.{Lines, cuts_by, is_of_step, is_link}
 use Rattle.link_trace.specs.Sealed.{Traced}
 use Rattle.link_trace.proofs.MaskReads.{read_at, named, cut_at}
-use Rattle.link_trace.proofs.MasksOfReaching.{mask_of_reaching, none_reaching}
+use Rattle.link_trace.proofs.MasksOfReaching.{all_reaching, mask_of_reaching, none_reaching}
 use Rattle.link_trace.proofs.trace.Trace.to_mask.Goals as goal
 
 -- the mask, of the nodes and lines that are equal to those that were passed
-lost_from_at : (nodes passed : List ℕ) (found losses : List LoseLine) (from v m : ℕ) → passed ≡ nodes → found ≡ losses → from ≡ v → IsMask (λ to. list_any (λ (l : LoseLine). (l.from == from) && (l.to == to)) found) passed m
+lost_from_at : (nodes passed : List ℕ) (found losses : List LoseLine) (from v m : ℕ) → passed ≡ nodes → found ≡ losses → from ≡ v
+    → IsMask (λ to. list_any (λ (l : LoseLine). (l.from == from) && (l.to == to)) found) passed m
     → IsMask (λ to. list_any (λ (l : LoseLine). (l.from == v) && (l.to == to)) losses) nodes m
 lost_from_at nodes passed found losses from v m same_nodes same_lines same_node is =
     subst (λ (w : ℕ). IsMask (λ to. list_any (λ (l : LoseLine). (l.from == w) && (l.to == to)) losses) nodes m) same_node
     (subst (λ (ls : List LoseLine). IsMask (λ to. list_any (λ (l : LoseLine). (l.from == from) && (l.to == to)) ls) nodes m) same_lines
     (subst (λ (ns : List ℕ). IsMask (λ to. list_any (λ (l : LoseLine). (l.from == from) && (l.to == to)) found) ns m) same_nodes is))
+
+pub returns-then-are_none : goal.returns-then-are_none
+returns-then-are_none c =
+    let kept = c.self.inside in
+    let t : Lines = record { links = kept.links.items; losses = kept.losses.items; cuts = kept.cuts.items; captures = kept.captures.items } in
+    let nodes = kept.nodes.items in
+    let v = get_or nodes c.args.from 0 in
+    let inside : c.args.from < length nodes = subst (λ (v : Traced). c.args.from < length v.nodes) (sym c.self.view_is) c.requires in
+    let links = c.index-links.result.now in
+    let links_is : links ≡ get_or kept.masks.items c.args.from links = c.index-links.ensures ∙ ap (λ (n : ℕ). get_or kept.masks.items n links) c.from.ensures in
+    let linked : IsMask (λ to. list_any (is_link v to) t.links) nodes links.from_it =
+    subst (λ (m : LinkMasks). IsMask (λ to. list_any (is_link v to) t.links) nodes m.from_it) (sym links_is)
+    (c.self.invariant.link_masks.from_each c.args.from links inside) in
+    rw (← c.self.view_is)
+    (all_reaching t c.args.frame c.args.slot c.args.step v nodes links.from_it
+    (sym c.deref.ensures.value ∙ c.are_none.ensures.losses c.if-are_none.true)
+    (sym c.deref-2.ensures.value ∙ c.are_none.ensures.cuts c.if-are_none.true) linked)
 
 pub returns-then-names : goal.returns-then-names
 returns-then-names c =
@@ -27,11 +45,14 @@ returns-then-names c =
     let t : Lines = record { links = kept.links.items; losses = kept.losses.items; cuts = kept.cuts.items; captures = kept.captures.items } in
     let nodes = kept.nodes.items in
     let inside : c.args.from < length nodes = subst (λ (v : Traced). c.args.from < length v.nodes) (sym c.self.view_is) c.requires in
-    let node_is : c.index-node.result.now ≡ get_or nodes c.args.from 0 = read_at nodes c.from.result c.args.from c.index-node.result.now inside c.from.ensures c.index-node.ensures in
-    let cuts_are : c.cuts_so_far-cuts.result.now ≡ filter (cuts_by f j k) t.cuts = c.cuts_so_far-cuts.ensures ∙ ap (λ (ls : List CutLine). filter (cuts_by f j k) ls) c.deref.ensures.value in
+    let node_is : c.index-node.result.now ≡ get_or nodes c.args.from 0 =
+    read_at nodes c.from-2.result c.args.from c.index-node.result.now inside c.from-2.ensures c.index-node.ensures in
+    let cuts_are : c.cuts_so_far-cuts.result.now ≡ filter (cuts_by f j k) t.cuts =
+    c.cuts_so_far-cuts.ensures ∙ ap (λ (ls : List CutLine). filter (cuts_by f j k) ls) c.deref-3.ensures.value in
     rw (← c.self.view_is)
     (none_reaching t f j k (get_or nodes c.args.from 0) nodes
-    (named t.cuts c.cuts_so_far-cuts.result.now f j k c.index-node.result.now (get_or nodes c.args.from 0) cuts_are node_is ∙ sym c.names.ensures ∙ c.if-names.true))
+    (named t.cuts c.cuts_so_far-cuts.result.now f j k c.index-node.result.now (get_or nodes c.args.from 0) cuts_are node_is ∙ sym c.names.ensures
+    ∙ c.if-names.true))
 
 pub returns : goal.returns
 returns c =
@@ -43,16 +64,24 @@ returns c =
     let nodes = kept.nodes.items in
     let v = get_or nodes c.args.from 0 in
     let inside : c.args.from < length nodes = subst (λ (v : Traced). c.args.from < length v.nodes) (sym c.self.view_is) c.requires in
-    let node_is : c.index-node.result.now ≡ v = read_at nodes c.from.result c.args.from c.index-node.result.now inside c.from.ensures c.index-node.ensures in
-    let cuts_are : c.cuts_so_far-cuts.result.now ≡ filter (cuts_by f j k) t.cuts = c.cuts_so_far-cuts.ensures ∙ ap (λ (ls : List CutLine). filter (cuts_by f j k) ls) c.deref.ensures.value in
-    let losses_are : c.losses_of_step-losses.result.now ≡ filter (is_of_step f j k) t.losses = c.losses_of_step-losses.ensures ∙ ap (λ (ls : List LoseLine). filter (is_of_step f j k) ls) c.deref-2.ensures.value in
+    let node_is : c.index-node.result.now ≡ v =
+    read_at nodes c.from-2.result c.args.from c.index-node.result.now inside c.from-2.ensures c.index-node.ensures in
+    let cuts_are : c.cuts_so_far-cuts.result.now ≡ filter (cuts_by f j k) t.cuts =
+    c.cuts_so_far-cuts.ensures ∙ ap (λ (ls : List CutLine). filter (cuts_by f j k) ls) c.deref-3.ensures.value in
+    let losses_are : c.losses_of_step-losses.result.now ≡ filter (is_of_step f j k) t.losses =
+    c.losses_of_step-losses.ensures ∙ ap (λ (ls : List LoseLine). filter (is_of_step f j k) ls) c.deref-4.ensures.value in
     let none = named t.cuts c.cuts_so_far-cuts.result.now f j k c.index-node.result.now v cuts_are node_is ∙ sym c.names.ensures ∙ c.if-names.false in
     let links = c.index-links.result.now in
-    let links_is : links ≡ get_or kept.masks.items c.args.from links = c.index-links.ensures ∙ ap (λ (n : ℕ). get_or kept.masks.items n links) c.from-2.ensures in
-    let linked : IsMask (λ to. list_any (is_link v to) t.links) nodes links.from_it = subst (λ (m : LinkMasks). IsMask (λ to. list_any (is_link v to) t.links) nodes m.from_it) (sym links_is) (c.self.invariant.link_masks.from_each c.args.from links inside) in
+    let links_is : links ≡ get_or kept.masks.items c.args.from links = c.index-links.ensures ∙ ap (λ (n : ℕ). get_or kept.masks.items n links) c.from.ensures in
+    let linked : IsMask (λ to. list_any (is_link v to) t.links) nodes links.from_it =
+    subst (λ (m : LinkMasks). IsMask (λ to. list_any (is_link v to) t.links) nodes m.from_it) (sym links_is)
+    (c.self.invariant.link_masks.from_each c.args.from links inside) in
     let lost : IsMask (λ to. list_any (λ l. (l.from == v) && (l.to == to)) (filter (is_of_step f j k) t.losses)) nodes c.lost_from_mask-lost.result =
-    lost_from_at nodes c.deref-3.result.now c.losses_of_step-losses.result.now (filter (is_of_step f j k) t.losses) c.index-node.result.now v c.lost_from_mask-lost.result c.deref-3.ensures.value losses_are node_is c.lost_from_mask-lost.ensures in
+    lost_from_at nodes c.deref-5.result.now c.losses_of_step-losses.result.now (filter (is_of_step f j k) t.losses) c.index-node.result.now v
+    c.lost_from_mask-lost.result c.deref-5.ensures.value losses_are node_is c.lost_from_mask-lost.ensures in
     let cut : IsMask (λ node. list_any (λ l. l.node == node) (filter (cuts_by f j k) t.cuts)) nodes c.cut_mask-cut.result =
-    cut_at nodes c.deref-4.result.now c.cuts_so_far-cuts.result.now (filter (cuts_by f j k) t.cuts) c.cut_mask-cut.result c.deref-4.ensures.value cuts_are c.cut_mask-cut.ensures in
+    cut_at nodes c.deref-6.result.now c.cuts_so_far-cuts.result.now (filter (cuts_by f j k) t.cuts) c.cut_mask-cut.result
+    c.deref-6.ensures.value cuts_are c.cut_mask-cut.ensures in
     rw (← c.self.view_is)
-    (mask_of_reaching t f j k v nodes c.self.invariant.few c.index-links.result.now.from_it c.lost_from_mask-lost.result c.cut_mask-cut.result c.lost_from_mask-lost.type_inv c.cut_mask-cut.type_inv none linked lost cut)
+    (mask_of_reaching t f j k v nodes c.self.invariant.few c.index-links.result.now.from_it c.lost_from_mask-lost.result c.cut_mask-cut.result
+    c.lost_from_mask-lost.type_inv c.cut_mask-cut.type_inv none linked lost cut)

@@ -11,7 +11,9 @@ invariant_of-self g c =
     record {
       few = search rules;
       timed = timed_by _ _ _ _ c.heard_reference-reference.ensures c.profile-profile.ensures;
-      stands = joined_stands _ c.args.schedule.now c.args.packet.now c.slot-slot.result _ c.last_by.result c.zero.result c.part_by.result c.heard-reply.new.self c.part_by.ensures c.last_by.ensures flood_is (search rules) (omega (arith, c.zero.ensures.value, c.zero.ensures.range));
+      stands =
+          joined_stands _ c.args.schedule.now c.args.packet.now c.slot-slot.result _ c.last_by.result c.zero.result c.part_by.result c.heard-reply.new.self
+          c.part_by.ensures c.last_by.ensures flood_is (search rules) (omega (arith, c.zero.ensures.value, c.zero.ensures.range));
       accepted = search rules;
       hosted = search rules;
     }

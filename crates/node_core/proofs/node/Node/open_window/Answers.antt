@@ -1,16 +1,19 @@
-use Rattle.std.proofs.Common.{◌∙◌, ap, subst, List, option_map}
+use Rattle.std.proofs.Common.{◌∙◌, ap, subst, List, None, option_map, rules}
 use Rattle.lwb_base.specs.Profile.{Numbers}
 use Rattle.lwb_base.specs.declared.order.Order.{Order}
 use Rattle.time_reference.specs.Reference.{RoundTimes}
 use Rattle.round_runner.specs.Rounds.{round_of}
 use Rattle.bus_rules.specs.declared.part.Part.{Part}
+use Rattle.bus_rules.specs.Plans.{last_slot}
 use Rattle.bus_rules.specs.Tuning.{rank_of}
 use Rattle.bus_rules.specs.Slots.{opened, part_of}
+use Rattle.lwb_member.specs.Members.{Member}
 use Rattle.lwb_member.specs.Said.{said_in}
-use Rattle.node_core.specs.Nodes.{NodeState}
+use Rattle.node_core.specs.declared.stage.Stage.{Stage}
+use Rattle.node_core.specs.Nodes.{Node, NodeState}
 use Rattle.node_core.specs.Rows.{window_opens}
 use Rattle.lwb_base.specs.Orders.{Gives}
-use Rattle.node_core.proofs.OpenedWindows.{orders_are}
+use Rattle.node_core.proofs.OpenedWindows.{orders_are, opened_stage, stage_is}
 use Rattle.node_core.proofs.node.Node.open_window.Goals as goal
 
 pub returns-clause-orders : goal.returns-clause-orders
@@ -20,8 +23,31 @@ returns-clause-orders g c =
     let slot = c.args.slot in
     let ranked = c.rank-rank.ensures in
     let p = m.setup.profile in
-    let rounded = c.new-round.ensures ∙ ap (λ (q : Numbers). round_of q i.reference c.owners.result c.contend.result) c.profile-profile.ensures ∙ ap (λ (r : RoundTimes). round_of p r c.owners.result c.contend.result) c.self.invariant.timed in
-    let said = c.speak-packet.ensures.packet ∙ ap (λ (p : Part). option_map (said_in slot) (opened m.setup i.frame p m.core).message) c.part-part.ensures.value in
-    let orders = orders_are p i.reference.zero slot _ _ c.new-round.result c.window-times.result rounded c.window-times.ensures c.rank-rank.result (rank_of m.core.tune) c.speak-packet.result (opened m.setup i.frame (part_of m.core.plan slot) m.core).message ranked said in
+    let rounded = c.new-round.ensures ∙ ap (λ (q : Numbers). round_of q i.reference c.owners.result c.contend.result) c.profile-profile.ensures
+    ∙ ap (λ (r : RoundTimes). round_of p r c.owners.result c.contend.result) c.self.invariant.timed in
+    let said =
+    c.speak-packet.ensures.packet ∙ ap (λ (p : Part). option_map (said_in slot) (opened m.setup i.frame p m.core).message) c.part-part.ensures.value in
+    let orders = orders_are p i.reference.zero slot _ _ c.new-round.result c.window-times.result rounded c.window-times.ensures c.rank-rank.result
+    (rank_of m.core.tune) c.speak-packet.result (opened m.setup i.frame (part_of m.core.plan slot) m.core).message ranked said in
     subst (λ (l : List Order). Gives (g.R.Radio.told c.args.radio.now) (g.R.Radio.told c.order.new.radio) l)
     (orders ∙ ap (λ (n : NodeState). (window_opens n.setup n.node slot).orders) c.self.view_is) c.order.ensures
+
+pub invariant_of-self : goal.invariant_of-self
+invariant_of-self g c = rw c.open.ensures (search rules)
+
+pub returns-clause-node : goal.returns-clause-node
+returns-clause-node g c =
+    let i = c.self.inside in
+    let m = i.member in
+    let slot = c.args.slot in
+    let part = part_of m.core.plan slot in
+    let o = opened m.setup i.frame part m.core in
+    let spoken = c.speak-packet.ensures.packet in
+    let said = spoken ∙ ap (λ (p : Part). option_map (said_in slot) (opened m.setup i.frame p m.core).message) c.part-part.ensures.value in
+    let stage = c.open.ensures ∙ stage_is m.setup slot c.sends-sends.result c.last_slot-last.result (last_slot m.core.plan) c.part-part.result part
+    c.speak-packet.result o.message c.sends-sends.ensures.value c.last_slot-last.ensures.value c.part-part.ensures.value said in
+    let after = c.speak-packet.ensures.core ∙ ap (λ (p : Part). record m { core = (opened m.setup i.frame p m.core).core }) c.part-part.ensures.value in
+    let node : Member → Stage → Node = λ x s. record { core = x.core; frame = i.frame; zero = i.reference.zero; stage = s } in
+    let at : Member → Stage → NodeState = λ x s. record { setup = x.setup; node = node x s; delivery = None } in
+    ap (at c.speak-packet.new.self) stage ∙ ap (λ (x : Member). at x (opened_stage m.setup slot (last_slot m.core.plan) part o.message)) after
+    ∙ ap (λ (n : NodeState). record n { node = (window_opens n.setup n.node slot).node; delivery = None }) c.self.view_is

@@ -23,23 +23,32 @@ invariant_of-self g c =
     let m : MediumState = record { numbers = c.self.inside.profile; now = c.self.inside.time; stations = c.self.inside.stations.items } in
     let old = c.index_mut-station.result.now in
     let there = subst (λ (s : MediumState). Contains (nodes_of s) c.args.node) (sym c.self.view_is) c.requires.node in
-    let at = found_place m c.self.inside.places.items c.deref.result.now c.args.node c.place_of-place.result c.deref.ensures.value c.self.invariant.1 there c.place_of-place.ensures in
+    let at = found_place m c.self.inside.places.items c.deref.result.now c.args.node c.place_of-place.result c.deref.ensures.value c.self.invariant.1 there
+    c.place_of-place.ensures in
     let of : old.node ≡ c.args.node = ap node_of c.index_mut-station.ensures.value ∙ at.1 old in
     let later : m.now ≤ c.args.t = subst (λ (s : MediumState). s.now ≤ c.args.t) (sym c.self.view_is) c.requires.time.later in
     let ends : Ends m c.args.node c.args.t = subst (λ (s : MediumState). Ends s c.args.node c.args.t) (sym c.self.view_is) c.requires.sends in
-    let room : old.ended.capacity ≡ 13 = ap (λ (st : Station). st.ended.capacity) c.index_mut-station.ensures.value ∙ c.self.invariant.0.rooms c.place_of-place.result old at.0 in (
-      after_medium m c.self.invariant.0 finished finished_keeps c.args.node c.args.t c.place_of-place.result old c.finish.new.self at.0 c.index_mut-station.ensures.value of c.finish.ensures,
-      subst (λ (l : List ℕ). ArePlaces l c.self.inside.places.items) (sym (nodes_same m c.self.invariant.0 finished finished_keeps c.args.node c.args.t c.place_of-place.result old c.finish.new.self at.0 c.index_mut-station.ensures.value of c.finish.ensures)) c.self.invariant.1,
+    let room : old.ended.capacity ≡ 13 =
+    ap (λ (st : Station). st.ended.capacity) c.index_mut-station.ensures.value ∙ c.self.invariant.0.rooms c.place_of-place.result old at.0 in (
+      after_medium m c.self.invariant.0 finished finished_keeps c.args.node c.args.t c.place_of-place.result old c.finish.new.self at.0
+          c.index_mut-station.ensures.value of c.finish.ensures,
+      subst (λ (l : List ℕ). ArePlaces l c.self.inside.places.items)
+          (sym (nodes_same m c.self.invariant.0 finished finished_keeps c.args.node c.args.t c.place_of-place.result old c.finish.new.self at.0
+          c.index_mut-station.ensures.value of c.finish.ensures)) c.self.invariant.1,
       marks_stay m.stations c.self.inside.marks.items c.place_of-place.result c.finish.new.self c.self.invariant.2 (λ e.
           subst (λ (st : Station). IsMark (on_air st) (get_or c.self.inside.marks.items c.place_of-place.result e)) (sym c.finish.ensures)
           (mark_finished old (get_or c.self.inside.marks.items c.place_of-place.result e) room
-          (subst (λ (st : Station). IsMark (on_air st) (get_or c.self.inside.marks.items c.place_of-place.result e)) (sym c.index_mut-station.ensures.value) (c.self.invariant.2.each c.place_of-place.result old e at.0)))),
-      alike_kept m.now c.args.t m.stations c.self.inside.marks.items c.place_of-place.result old c.finish.new.self at.0 c.index_mut-station.ensures.value (ap node_of c.finish.ensures ∙ finished_keeps.node old)
+          (subst (λ (st : Station). IsMark (on_air st) (get_or c.self.inside.marks.items c.place_of-place.result e)) (sym c.index_mut-station.ensures.value)
+          (c.self.invariant.2.each c.place_of-place.result old e at.0)))),
+      alike_kept m.now c.args.t m.stations c.self.inside.marks.items c.place_of-place.result old c.finish.new.self at.0 c.index_mut-station.ensures.value
+          (ap node_of c.finish.ensures ∙ finished_keeps.node old)
           (λ y newest. newest_finished old room y (subst (λ (st : Station). IsNewest (on_air st) y) c.finish.ensures newest))
           (λ y newest. subst (λ (st : Station). IsNewest (on_air st) y) (sym c.finish.ensures) (newest_unfinished old room y newest)) later c.self.invariant.3,
       c.self.invariant.4,
-      aged_after_ending m c.self.invariant.0 c.args.node c.place_of-place.result c.args.t old c.finish.new.self at.0 c.index_mut-station.ensures.value of later ends c.self.invariant.5 c.finish.ensures,
-      recent_stay m.now c.args.t m.stations c.self.inside.marks.items c.self.inside.recent c.place_of-place.result old c.finish.new.self at.0 c.index_mut-station.ensures.value
+      aged_after_ending m c.self.invariant.0 c.args.node c.place_of-place.result c.args.t old c.finish.new.self at.0 c.index_mut-station.ensures.value of later
+          ends c.self.invariant.5 c.finish.ensures,
+      recent_stay m.now c.args.t m.stations c.self.inside.marks.items c.self.inside.recent c.place_of-place.result old c.finish.new.self at.0
+          c.index_mut-station.ensures.value
           (λ x runs. absurd (none_runs x (sym (ap (λ (s : Station). s.sending) c.finish.ensures) ∙ runs))) later c.self.invariant.6,
     )
 
@@ -48,23 +57,28 @@ returns-clause-state g c =
     let m : MediumState = record { numbers = c.self.inside.profile; now = c.self.inside.time; stations = c.self.inside.stations.items } in
     let old = c.index_mut-station.result.now in
     let there = subst (λ (s : MediumState). Contains (nodes_of s) c.args.node) (sym c.self.view_is) c.requires.node in
-    let at = found_place m c.self.inside.places.items c.deref.result.now c.args.node c.place_of-place.result c.deref.ensures.value c.self.invariant.1 there c.place_of-place.ensures in
+    let at = found_place m c.self.inside.places.items c.deref.result.now c.args.node c.place_of-place.result c.deref.ensures.value c.self.invariant.1 there
+    c.place_of-place.ensures in
     let of : old.node ≡ c.args.node = ap node_of c.index_mut-station.ensures.value ∙ at.1 old in
-    after_is m c.self.invariant.0 finished finished_keeps c.args.node c.args.t c.place_of-place.result old c.finish.new.self at.0 c.index_mut-station.ensures.value of c.finish.ensures
+    after_is m c.self.invariant.0 finished finished_keeps c.args.node c.args.t c.place_of-place.result old c.finish.new.self at.0
+    c.index_mut-station.ensures.value of c.finish.ensures
     ∙ ap (after c.args.t c.args.node finished) c.self.view_is
 
 pub returns-clause-hearers : goal.returns-clause-hearers
 returns-clause-hearers g c =
-    names_who_hears c.args.self.now c.hearers-hearers.ensures.kept c.args.node c.args.t c.requires.sends (g.M.Links.lines c.args.links.now) c.hearers-hearers.result c.hearers-hearers.ensures.list
+    names_who_hears c.args.self.now c.hearers-hearers.ensures.kept c.args.node c.args.t c.requires.sends
+    (g.M.Links.lines c.args.links.now) c.hearers-hearers.result c.hearers-hearers.ensures.list
     c.requires.node c.requires.time.later
 
 pub returns-clause-sender : goal.returns-clause-sender
 returns-clause-sender g c =
-    names_one_sender c.args.self.now c.hearers-hearers.ensures.kept c.args.node c.args.t c.requires.sends (g.M.Links.lines c.args.links.now) c.hearers-hearers.result c.hearers-hearers.ensures.list
+    names_one_sender c.args.self.now c.hearers-hearers.ensures.kept c.args.node c.args.t c.requires.sends
+    (g.M.Links.lines c.args.links.now) c.hearers-hearers.result c.hearers-hearers.ensures.list
 
 pub returns-clause-ascending : goal.returns-clause-ascending
 returns-clause-ascending g c =
-    names_in_order c.args.self.now c.hearers-hearers.ensures.kept c.args.node c.args.t c.requires.sends (g.M.Links.lines c.args.links.now) c.hearers-hearers.result c.hearers-hearers.ensures.list
+    names_in_order c.args.self.now c.hearers-hearers.ensures.kept c.args.node c.args.t c.requires.sends
+    (g.M.Links.lines c.args.links.now) c.hearers-hearers.result c.hearers-hearers.ensures.list
 
 pub returns-clause-holds : goal.returns-clause-holds
 returns-clause-holds g c =

@@ -9,7 +9,7 @@ use Rattle.radio_model.proofs.PlacedStations.{found_place}
 use Rattle.radio_model.specs.Holding.{Holds, after_starting}
 use Rattle.radio_model.proofs.AfterStarting.{holds_after_starting}
 use Rattle.radio_model.proofs.EndedSendings.{aged_same}
-use Rattle.radio_model.proofs.Origins.{after_start, begins_if}
+use Rattle.radio_model.proofs.BegunOrigins.{after_start, begins_if}
 use Rattle.std.proofs.lemmas.List.Elements.{Contains-get_or}
 use Rattle.std.specs.Int.{bit_at}
 use Rattle.radio_model.specs.Recent.{AreRecent}
@@ -27,7 +27,8 @@ pub raise-requires : goal.raise-requires
 raise-requires c =
     let m : MediumState = record { numbers = c.self.inside.profile; now = c.self.inside.time; stations = c.self.inside.stations.items } in
     let there = subst (λ (s : MediumState). Contains (nodes_of s) c.args.node) (sym c.self.view_is) c.requires.node in
-    let at = found_place m c.self.inside.places.items c.deref.result.now c.args.node c.place_of-place.result c.deref.ensures.value c.self.invariant.1 there c.place_of-place.ensures in
+    let at = found_place m c.self.inside.places.items c.deref.result.now c.args.node c.place_of-place.result c.deref.ensures.value c.self.invariant.1 there
+    c.place_of-place.ensures in
     omega (arith, at.0, c.self.invariant.2.one_each)
 
 pub invariant_of-self : goal.invariant_of-self
@@ -35,9 +36,11 @@ invariant_of-self c =
     let m : MediumState = record { numbers = c.self.inside.profile; now = c.self.inside.time; stations = c.self.inside.stations.items } in
     let old = c.index_mut-station.result.now in
     let there = subst (λ (s : MediumState). Contains (nodes_of s) c.args.node) (sym c.self.view_is) c.requires.node in
-    let at = found_place m c.self.inside.places.items c.deref.result.now c.args.node c.place_of-place.result c.deref.ensures.value c.self.invariant.1 there c.place_of-place.ensures in
+    let at = found_place m c.self.inside.places.items c.deref.result.now c.args.node c.place_of-place.result c.deref.ensures.value c.self.invariant.1 there
+    c.place_of-place.ensures in
     let of : old.node ≡ c.args.node = ap node_of c.index_mut-station.ensures.value ∙ at.1 old in
-    let end_is : c.args.t + c.airtime.result ≡ c.args.t + airtime m.numbers (length c.args.packet.now) = ap (λ (n : ℕ). c.args.t + n) (c.airtime.ensures.value ∙ ap (airtime m.numbers) c.length.ensures.value) in
+    let end_is : c.args.t + c.airtime.result ≡ c.args.t + airtime m.numbers (length c.args.packet.now) =
+    ap (λ (n : ℕ). c.args.t + n) (c.airtime.ensures.value ∙ ap (airtime m.numbers) c.length.ensures.value) in
     let is_started : c.start-rank.new.self ≡ started m.numbers c.args.t c.args.packet.now old = c.start-rank.ensures.state m.numbers end_is in
     let later : m.now ≤ c.args.t = subst (λ (s : MediumState). s.now ≤ c.args.t) (sym c.self.view_is) c.requires.time.later in
     let p = m.numbers in
@@ -48,21 +51,32 @@ invariant_of-self c =
     let new = c.start-rank.new.self in
     let aged = subst (λ (st : Station). IsAged m.now st.ended.items) (sym c.index_mut-station.ensures.value) (c.self.invariant.5 i old at.0) in
     let still : (k : ℕ) (d : Station) (y : Sending) → k < length m.stations → (get_or m.stations k d).sending ≡ Some y → t ≤ y.end = λ k d y inside runs.
-    (subst (λ (s : MediumState). IsTime s t) (sym c.self.view_is) c.requires.time).running (get_or m.stations k d) y (Contains-get_or m.stations k d inside) runs in
+    (subst (λ (s : MediumState). IsTime s t) (sym c.self.view_is) c.requires.time).running (get_or m.stations k d) y
+    (Contains-get_or m.stations k d inside) runs in
     let from : IsOrigin m.stations marks i t packet c.origin_of-origin.result =
     subst (λ (l : List Mark). IsOrigin m.stations l i t packet c.origin_of-origin.result) c.deref-3.ensures.value
     (subst (λ (l : List Station). IsOrigin l c.deref-3.result.now i t packet c.origin_of-origin.result) c.deref-2.ensures.value c.origin_of-origin.ensures) in
-    let after = after_start p m.now t (t + c.airtime.result) packet m.stations marks i old new c.origin_of-origin.result at.0 c.index_mut-station.ensures.value is_started end_is aged later
+    let after = after_start p m.now t
+    (t + c.airtime.result) packet m.stations marks i old new c.origin_of-origin.result at.0 c.index_mut-station.ensures.value is_started end_is aged later
     c.self.invariant.2 c.self.invariant.3 from c.start-rank.result c.start-rank.ensures.value in (
-      after_medium m c.self.invariant.0 (started m.numbers c.args.t c.args.packet.now) (started_keeps m.numbers c.args.t c.args.packet.now) c.args.node c.args.t c.place_of-place.result old c.start-rank.new.self at.0 c.index_mut-station.ensures.value of is_started,
-      subst (λ (l : List ℕ). ArePlaces l c.self.inside.places.items) (sym (nodes_same m c.self.invariant.0 (started m.numbers c.args.t c.args.packet.now) (started_keeps m.numbers c.args.t c.args.packet.now) c.args.node c.args.t c.place_of-place.result old c.start-rank.new.self at.0 c.index_mut-station.ensures.value of is_started)) c.self.invariant.1,
+      after_medium m c.self.invariant.0 (started m.numbers c.args.t c.args.packet.now)
+          (started_keeps m.numbers c.args.t c.args.packet.now) c.args.node c.args.t c.place_of-place.result old c.start-rank.new.self at.0
+          c.index_mut-station.ensures.value of is_started,
+      subst (λ (l : List ℕ). ArePlaces l c.self.inside.places.items)
+          (sym (nodes_same m c.self.invariant.0 (started m.numbers c.args.t c.args.packet.now)
+          (started_keeps m.numbers c.args.t c.args.packet.now) c.args.node c.args.t c.place_of-place.result old c.start-rank.new.self at.0
+          c.index_mut-station.ensures.value of is_started)) c.self.invariant.1,
       subst (AreMarks (set m.stations i new)) (sym (c.raise.ensures no_mark)) after.0,
       subst (AreAlike t (set m.stations i new)) (sym (c.raise.ensures no_mark)) after.1,
       c.self.invariant.4,
-      aged_same m.now c.args.t c.place_of-place.result m.stations old c.start-rank.new.self later c.self.invariant.5 at.0 c.index_mut-station.ensures.value (ap (λ (s : Station). s.ended) is_started),
+      aged_same m.now c.args.t c.place_of-place.result m.stations old c.start-rank.new.self later c.self.invariant.5 at.0 c.index_mut-station.ensures.value
+          (ap (λ (s : Station). s.ended) is_started),
       subst (λ (l : List Mark). AreRecent t (set m.stations i new) l c.next-self-inside.result) (sym (c.raise.ensures no_mark))
-          (recent_after_start p m.now t (t + c.airtime.result) packet m.stations marks i old new c.origin_of-origin.result c.self.inside.recent c.next-self-inside.result at.0 c.index_mut-station.ensures.value
-          is_started later c.self.invariant.2 still c.self.invariant.6 c.start-rank.result c.start-rank.ensures.value (λ some. c.next-self-inside.ensures.starts (c.is_some-starts.ensures ∙ some)) (λ none. c.next-self-inside.ensures.stays (c.is_some-starts.ensures ∙ none))),
+          (recent_after_start p m.now t (t + c.airtime.result) packet m.stations marks i old new c.origin_of-origin.result c.self.inside.recent
+          c.next-self-inside.result at.0 c.index_mut-station.ensures.value
+          is_started later c.self.invariant.2 still c.self.invariant.6 c.start-rank.result c.start-rank.ensures.value
+          (λ some. c.next-self-inside.ensures.starts (c.is_some-starts.ensures ∙ some))
+          (λ none. c.next-self-inside.ensures.stays (c.is_some-starts.ensures ∙ none))),
     )
 
 pub returns-clause-value : goal.returns-clause-value
@@ -70,7 +84,8 @@ returns-clause-value c =
     let m : MediumState = record { numbers = c.self.inside.profile; now = c.self.inside.time; stations = c.self.inside.stations.items } in
     let old = c.index_mut-station.result.now in
     let there = subst (λ (s : MediumState). Contains (nodes_of s) c.args.node) (sym c.self.view_is) c.requires.node in
-    let at = found_place m c.self.inside.places.items c.deref.result.now c.args.node c.place_of-place.result c.deref.ensures.value c.self.invariant.1 there c.place_of-place.ensures in
+    let at = found_place m c.self.inside.places.items c.deref.result.now c.args.node c.place_of-place.result c.deref.ensures.value c.self.invariant.1 there
+    c.place_of-place.ensures in
     let of : old.node ≡ c.args.node = ap node_of c.index_mut-station.ensures.value ∙ at.1 old in
     c.is_some-starts.ensures ∙ ap is_some c.start-rank.ensures.value ∙ begins_if old.tuned old.sending
     ∙ ap can_send (sym (found m.stations c.args.node c.place_of-place.result old c.self.invariant.0.nodes.ascending at.0 c.index_mut-station.ensures.value of))
@@ -81,11 +96,15 @@ returns-clause-state c =
     let m : MediumState = record { numbers = c.self.inside.profile; now = c.self.inside.time; stations = c.self.inside.stations.items } in
     let old = c.index_mut-station.result.now in
     let there = subst (λ (s : MediumState). Contains (nodes_of s) c.args.node) (sym c.self.view_is) c.requires.node in
-    let at = found_place m c.self.inside.places.items c.deref.result.now c.args.node c.place_of-place.result c.deref.ensures.value c.self.invariant.1 there c.place_of-place.ensures in
+    let at = found_place m c.self.inside.places.items c.deref.result.now c.args.node c.place_of-place.result c.deref.ensures.value c.self.invariant.1 there
+    c.place_of-place.ensures in
     let of : old.node ≡ c.args.node = ap node_of c.index_mut-station.ensures.value ∙ at.1 old in
-    let end_is : c.args.t + c.airtime.result ≡ c.args.t + airtime m.numbers (length c.args.packet.now) = ap (λ (n : ℕ). c.args.t + n) (c.airtime.ensures.value ∙ ap (airtime m.numbers) c.length.ensures.value) in
+    let end_is : c.args.t + c.airtime.result ≡ c.args.t + airtime m.numbers (length c.args.packet.now) =
+    ap (λ (n : ℕ). c.args.t + n) (c.airtime.ensures.value ∙ ap (airtime m.numbers) c.length.ensures.value) in
     let is_started : c.start-rank.new.self ≡ started m.numbers c.args.t c.args.packet.now old = c.start-rank.ensures.state m.numbers end_is in
-    after_is m c.self.invariant.0 (started m.numbers c.args.t c.args.packet.now) (started_keeps m.numbers c.args.t c.args.packet.now) c.args.node c.args.t c.place_of-place.result old c.start-rank.new.self at.0 c.index_mut-station.ensures.value of is_started
+    after_is m c.self.invariant.0 (started m.numbers c.args.t c.args.packet.now)
+    (started_keeps m.numbers c.args.t c.args.packet.now) c.args.node c.args.t c.place_of-place.result old c.start-rank.new.self at.0
+    c.index_mut-station.ensures.value of is_started
     ∙ ap (λ (s : MediumState). after c.args.t c.args.node (started s.numbers c.args.t c.args.packet.now) s) c.self.view_is
 
 pub returns-clause-holds : goal.returns-clause-holds
