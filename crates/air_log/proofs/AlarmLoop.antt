@@ -1,5 +1,6 @@
 -- The alarms of a tick come to an end.
-use Rattle.std.proofs.Common.{◌≡◌, ℕ, zero, suc, ◌+◌, ◌*◌, ◌/◌, ◌^◌, ◌≤◌, List, [], ◌∷◌, Bool, true, false, ◌==◌, fold, Option, Some, None, refl, sym, ◌∙◌, ap, arith, mul-le-mul_left, mul-le-mul_right, suc-mul, div-mul-le_self, eqb-true, true≢false, inl, inr, ◌⊎◌}
+use Rattle.std.proofs.Common.{◌≡◌, ℕ, zero, suc, ◌+◌, ◌*◌, ◌/◌, ◌^◌, ◌≤◌, List, [], ◌∷◌, Bool, true, false, ◌==◌, fold, Option, Some, None, refl, sym, ◌∙◌}
+use Rattle.std.proofs.Common.{ap, arith, mul-le-mul_left, mul-le-mul_right, suc-mul, div-mul-le_self, eqb-true, true≢false, inl, inr, ◌⊎◌}
 use Rattle.std.proofs.lemmas.Bool.{cond_both}
 use Rattle.lwb_base.specs.declared.event.Event.{Event}
 use Rattle.lwb_base.specs.declared.event.Event.TheVariants.{Boot, Alarm, Heard, Sent}
@@ -25,8 +26,10 @@ use Rattle.node_core.specs.declared.stage.Stage.{Stage}
 use Rattle.node_core.specs.declared.stage.Stage.TheVariants.{Idle, Scanning, AwaitFrame, AwaitSlot, InWindow}
 use Rattle.air_log.specs.Devices.{Device, Power, PowerOff, PowerOn, Listening, Ordered, obeyed, moved, stepped, event, event_by, silenced, tunes, listens_to}
 use Rattle.air_log.specs.ScriptedDevices.{after_act, after_line, dropped, with_new_core}
-use Rattle.air_log.specs.Trails.{Reception, run_end, setup_of, lines_at, scripted, ending_at, hears, heard, ended_by, ended, is_due, alarms, alarmed, before_start, begun_by, starts, before_tick}
-use Rattle.air_log.proofs.AlarmRows.{IsRoomy, roomy, Waits, Goes, GoesBy, alarm_by, alarm_after, progress, most, in_reach, boot_goes, heard_goes, sent_goes, alarm_goes, Rises}
+use Rattle.air_log.specs.Trails.{Reception, run_end, setup_of, lines_at, scripted, ending_at, hears, heard, ended_by}
+use Rattle.air_log.specs.Trails.{ended, is_due, alarms, alarmed, before_start, begun_by, starts, before_tick}
+use Rattle.air_log.proofs.AlarmRows.{IsRoomy, roomy, Waits, Goes, GoesBy, alarm_by, alarm_after, progress, most}
+use Rattle.air_log.proofs.AlarmRows.{in_reach, boot_goes, heard_goes, sent_goes, alarm_goes, Rises}
 
 -- orders change the alarm alone, of what is looked at here
 abbrev Has : Power → Option ℕ → Device → Type 0
@@ -60,7 +63,8 @@ module _ (s : Setup) (L : ℕ → ℕ) (t : ℕ) where
   sound_if : (p : Power) (a : Option ℕ) (d : Device) → Has p a d → SoundBy p a → Sound d
   sound_if p a d has sound = rw (has.0, has.1) sound
 
-  step_has : (e : Event) (x : Option Sending) (d : Device) (n : Node) → Has (PowerOn (node_after n (row s n (L t) e))) (alarm_after s L t d.alarm (orders_by (row s n (L t) e))) (stepped L s t e x d n)
+  step_has : (e : Event) (x : Option Sending) (d : Device) (n : Node)
+      → Has (PowerOn (node_after n (row s n (L t) e))) (alarm_after s L t d.alarm (orders_by (row s n (L t) e))) (stepped L s t e x d n)
   step_has e x d n =
       let r = row s n (L t) e in
       orders_have (PowerOn (node_after n r)) (orders_by r) d.alarm (moved t e x d n r) (refl, refl)
@@ -94,7 +98,8 @@ module _ (s : Setup) (L : ℕ → ℕ) (t : ℕ) where
     act_sound frame d (Leave i) (PowerOn n) at sound = with_streams_goes n d.alarm (left i n.core.streams) sound
     act_sound frame d (Put i payload) (PowerOff boots) at sound = rw at sound
     act_sound frame d (Put i payload) (PowerOn n) at sound =
-        cond_both (refuses i n.core) (dropped s.id frame i d) (with_new_core d n (queues i payload n.core)) Sound (λ is. rw at sound) (λ is. with_streams_goes n d.alarm (put i payload n.core.streams) sound)
+        cond_both (refuses i n.core) (dropped s.id frame i d) (with_new_core d n (queues i payload n.core)) Sound (λ is. rw at sound)
+        (λ is. with_streams_goes n d.alarm (put i payload n.core.streams) sound)
 
     lines_sound : (ls : List ScriptLine) (d : Device) → Sound d → Sound (fold (after_line L s t) d ls)
     lines_sound [] d sound = sound
@@ -133,7 +138,8 @@ module _ (s : Setup) (L : ℕ → ℕ) (t : ℕ) where
       abbrev Next : ℕ → Device → Type 0
       Next more d = Sound d × ((Left d.power more) ⊎ (d.alarm ≡ None))
 
-      next_if : (more : ℕ) (n : Node) (stage : Stage) (d : Device) → n.stage ≡ stage → Has (PowerOn (node_after n (at_alarm s n stage))) (alarm_after s L t None (orders_by (at_alarm s n stage))) d
+      next_if : (more : ℕ) (n : Node) (stage : Stage) (d : Device) → n.stage ≡ stage
+          → Has (PowerOn (node_after n (at_alarm s n stage))) (alarm_after s L t None (orders_by (at_alarm s n stage))) d
           → Rises s L t room clock early n stage (at_alarm s n stage) → most s L t room ≤ progress n + suc more → (Left d.power more) ⊎ (d.alarm ≡ None)
       next_if more n Idle d at has rises left = inr has.1
       next_if more n Scanning d at has rises left = inl (rw has.0 (omega (arith, rises, left)))
@@ -141,7 +147,8 @@ module _ (s : Setup) (L : ℕ → ℕ) (t : ℕ) where
       next_if more n (AwaitSlot j) d at has rises left = inl (rw has.0 (omega (arith, rises, left)))
       next_if more n (InWindow j w) d at has rises left = inl (rw has.0 (omega (arith, rises, left)))
 
-      one_alarm : (more : ℕ) (d : Device) (n : Node) → is_due t d.alarm ≡ true → Goes s L t n d.alarm → most s L t room ≤ progress n + suc more → Next more (stepped L s t Alarm None (record d { alarm = None }) n)
+      one_alarm : (more : ℕ) (d : Device) (n : Node) → is_due t d.alarm ≡ true → Goes s L t n d.alarm → most s L t room ≤ progress n + suc more
+          → Next more (stepped L s t Alarm None (record d { alarm = None }) n)
       one_alarm more d n due goes left =
           let x : Device = record d { alarm = None } in
           let all = alarm_goes s L t room clock early n n.stage refl goes.0 (fires n.stage n.frame d.alarm due goes.1) in
@@ -156,8 +163,10 @@ module _ (s : Setup) (L : ℕ → ℕ) (t : ℕ) where
       at_last d (PowerOff boots) due sound left = true≢false (sym due ∙ ap (is_due t) sound)
       at_last d (PowerOn n) due sound left = omega (arith, left, in_reach s L t room n sound.0)
 
-      goes_on : (more : ℕ) (d : Device) (power : Power) → is_due t d.alarm ≡ true → SoundBy power d.alarm → Left power (suc more) → ((e : Device) → Sound e → Left e.power more → Ends (alarms L s t (is_due t e.alarm) more e))
-          → Ends (alarms L s t (is_due t (event_by L s t Alarm None (record d { alarm = None }) power).alarm) more (event_by L s t Alarm None (record d { alarm = None }) power))
+      goes_on : (more : ℕ) (d : Device) (power : Power) → is_due t d.alarm ≡ true → SoundBy power d.alarm → Left power (suc more)
+          → ((e : Device) → Sound e → Left e.power more → Ends (alarms L s t (is_due t e.alarm) more e))
+          → Ends (alarms L s t (is_due t (event_by L s t Alarm None (record d { alarm = None }) power).alarm) more
+          (event_by L s t Alarm None (record d { alarm = None }) power))
       goes_on more d (PowerOff boots) due sound left rest = absurd (true≢false (sym due ∙ ap (is_due t) sound))
       goes_on more d (PowerOn n) due sound left rest =
           let e = stepped L s t Alarm None (record d { alarm = None }) n in
@@ -179,7 +188,11 @@ module _ (s : Setup) (L : ℕ → ℕ) (t : ℕ) where
 
       allowed : (power : Power) → Left power (L t + 300)
       allowed (PowerOff boots) = tt
-      allowed (PowerOn n) = omega (arith, enough ((L t + s.profile.frame) / s.profile.frame) (L t) s.profile.frame room.long (div-mul-le_self (L t + s.profile.frame) s.profile.frame))
+      allowed (PowerOn n) =
+          omega (
+            arith,
+            enough ((L t + s.profile.frame) / s.profile.frame) (L t) s.profile.frame room.long (div-mul-le_self (L t + s.profile.frame) s.profile.frame),
+          )
 
       alarms_end : (d : Device) → Sound d → Ends (alarmed L s t d)
       alarms_end d sound = loop (L t + 300) (is_due t d.alarm) d refl sound (allowed d.power)
@@ -196,7 +209,8 @@ later s L t d on sound = by_power d.power sound
 
     by_power : (power : Power) → SoundBy s L t power d.alarm → SoundBy s L (suc t) power d.alarm
     by_power (PowerOff boots) sound = sound
-    by_power (PowerOn n) sound = (record { small = sound.0.small; frame = omega (arith, sound.0.frame, on); stage = sound.0.stage }, waits_on n.frame n.stage sound.1)
+    by_power (PowerOn n) sound =
+        (record { small = sound.0.small; frame = omega (arith, sound.0.frame, on); stage = sound.0.stage }, waits_on n.frame n.stage sound.1)
 
 -- the start of a sending
 pub begun_sound : (s : Setup) (L : ℕ → ℕ) (t : ℕ) (d : Device) (o : Option Ordered) → Sound s L t d → Sound s L t (begun_by s t d o)
@@ -227,7 +241,8 @@ module _ (s : ScenarioParts) (v : ℕ) (L : ℕ → ℕ) (hs : List Reception) (
       let d = before_tick s v L hs t in
       let x = before_start s v L hs t d in
       let within = in_tick t d (omega (arith, early)) (at_tick t (omega (arith, early))) in
-      later (setup_of s v) L t (begun_by (setup_of s v) t x x.ordered) (never_back L t (suc t) clock (omega arith) (omega (arith, early))) (begun_sound (setup_of s v) L t x x.ordered within.0)
+      later (setup_of s v) L t (begun_by (setup_of s v) t x x.ordered) (never_back L t (suc t) clock (omega arith) (omega (arith, early)))
+      (begun_sound (setup_of s v) L t x x.ordered within.0)
 
   pub none_left : (t : ℕ) → t ≤ 2 ^ 45 → is_due t (before_start s v L hs t (before_tick s v L hs t)).alarm ≡ false
   none_left t early = (in_tick t (before_tick s v L hs t) early (at_tick t early)).1
@@ -239,5 +254,6 @@ early_in_run s t sound within =
     let few : s.frames * s.profile.frame ≤ 4096 * s.profile.frame = mul-le-mul_right s.profile.frame sound.few_frames in
     omega (arith, within, few, room.short)
 
-pub no_alarm_left : (s : ScenarioParts) (v : ℕ) (L : ℕ → ℕ) (hs : List Reception) (t : ℕ) → IsSoundScenario s → IsClock L → t ≤ run_end s → is_due t (before_start s v L hs t (before_tick s v L hs t)).alarm ≡ false
+pub no_alarm_left : (s : ScenarioParts) (v : ℕ) (L : ℕ → ℕ) (hs : List Reception) (t : ℕ) → IsSoundScenario s → IsClock L → t ≤ run_end s
+    → is_due t (before_start s v L hs t (before_tick s v L hs t)).alarm ≡ false
 no_alarm_left s v L hs t sound clock within = none_left s v L hs (roomy s.profile sound.profile) clock t (early_in_run s t sound within)

@@ -1,5 +1,6 @@
 -- What each row keeps of a node and its alarm, and that the rows of an alarm go on in frames and slots.
-use Rattle.std.proofs.Common.{◌≡◌, ℕ, ◌+◌, ◌*◌, ◌/◌, ◌^◌, ◌<◌, ◌≤◌, max, List, ◌==◌, nat_lt, if◌then◌else◌, fold, Option, Some, None, refl, subst, arith, mul-le-mul_left, mul-le-mul_right, add-mul, le-div_iff_mul-le, div-mul-le_self, ltb-true, inl, inr, IfSome}
+use Rattle.std.proofs.Common.{◌≡◌, ℕ, ◌+◌, ◌*◌, ◌/◌, ◌^◌, ◌<◌, ◌≤◌, max, List, ◌==◌, nat_lt, if◌then◌else◌, fold, Option, Some, None, refl, subst, arith}
+use Rattle.std.proofs.Common.{mul-le-mul_left, mul-le-mul_right, add-mul, le-div_iff_mul-le, div-mul-le_self, ltb-true, inl, inr, IfSome}
 use Rattle.std.proofs.lemmas.Bool.{cond_both}
 use Rattle.lwb_base.specs.Profile.{Numbers, IsProfile}
 use Rattle.lwb_base.specs.Messages.{Schedule}
@@ -21,7 +22,8 @@ use Rattle.node_core.specs.declared.stage.Stage.{Stage}
 use Rattle.node_core.specs.declared.stage.Stage.TheVariants.{Idle, Scanning, AwaitFrame, AwaitSlot, InWindow}
 use Rattle.node_core.specs.Windows.{Window}
 use Rattle.node_core.specs.Nodes.{Node, frame_alarm, stopped_frame}
-use Rattle.node_core.specs.Rows.{Stepped, row, stage_for, orders_for, zero_for, frame_alarms, window_opens, window_closes, joins, scanner_hears, accepted_in, at_alarm, at_heard, at_sent, sends}
+use Rattle.node_core.specs.Rows.{Stepped, row, stage_for, orders_for, zero_for, frame_alarms, window_opens}
+use Rattle.node_core.specs.Rows.{window_closes, joins, scanner_hears, accepted_in, at_alarm, at_heard, at_sent, sends}
 use Rattle.node_core.specs.Rows.{node_after, orders_by}
 use Rattle.air_log.proofs.SmallPlans.{read_few}
 use Rattle.air_log.proofs.SmallCores.{IsSmall, booted_small, frame_small, opened_small, closed_small, accepted_few}
@@ -95,10 +97,15 @@ module _ (s : Setup) (L : ℕ → ℕ) (t : ℕ) where
         (record { small = booted_small n.core.boot; frame = omega (arith, less, stops, room.lead); stage = tt }, omega arith)
 
     -- a frame alarm
-    after_frame : (tune : Tune) (f z : ℕ) (a : Option ℕ) → InRange (stage_for tune f) × Waits f (stage_for tune f) (alarm_after a (orders_for s.profile tune f z))
+    after_frame : (tune : Tune) (f z : ℕ) (a : Option ℕ)
+        → InRange (stage_for tune f) × Waits f (stage_for tune f) (alarm_after a (orders_for s.profile tune f z))
     after_frame (Scan r waited) f z a = (tt, omega arith)
-    after_frame (Hold r due_in) f z a = cond_both (due_in == f) (AwaitSlot 0) AwaitFrame (λ (x : Stage). InRange x × Waits f x (alarm_after a (orders_for s.profile (Hold r due_in) f z))) (λ is. (omega arith, tt)) (λ is. (tt, rw is (omega arith)))
-    after_frame (Host r due_in) f z a = cond_both (due_in == f) (AwaitSlot 0) AwaitFrame (λ (x : Stage). InRange x × Waits f x (alarm_after a (orders_for s.profile (Host r due_in) f z))) (λ is. (omega arith, tt)) (λ is. (tt, rw is (omega arith)))
+    after_frame (Hold r due_in) f z a =
+        cond_both (due_in == f) (AwaitSlot 0) AwaitFrame (λ (x : Stage). InRange x × Waits f x (alarm_after a (orders_for s.profile (Hold r due_in) f z)))
+        (λ is. (omega arith, tt)) (λ is. (tt, rw is (omega arith)))
+    after_frame (Host r due_in) f z a =
+        cond_both (due_in == f) (AwaitSlot 0) AwaitFrame (λ (x : Stage). InRange x × Waits f x (alarm_after a (orders_for s.profile (Host r due_in) f z)))
+        (λ is. (omega arith, tt)) (λ is. (tt, rw is (omega arith)))
 
     frame_goes : (n : Node) (a : Option ℕ) → IsSmall n.core → n.frame * s.profile.frame ≤ L t → GoesBy n a (Some (frame_alarms s n))
     frame_goes n a small passed =
@@ -111,20 +118,29 @@ module _ (s : Setup) (L : ℕ → ℕ) (t : ℕ) where
         (record { small = frame_small s n.frame n.core room.few small; frame = omega (arith, passed, stops, next); stage = after.0 }, after.1)
 
     -- windows
-    opens_goes : (n : Node) (j : ℕ) (a : Option ℕ) → IsSmall n.core → n.frame * s.profile.frame ≤ L t + s.profile.frame → j ≤ 45 → GoesBy n a (Some (window_opens s n j))
-    opens_goes n j a small frame few = (record { small = opened_small s n.frame (part_of n.core.plan j) n.core room.few small; frame = frame; stage = (few, small.0) }, tt)
+    opens_goes : (n : Node) (j : ℕ) (a : Option ℕ) → IsSmall n.core → n.frame * s.profile.frame ≤ L t + s.profile.frame → j ≤ 45
+        → GoesBy n a (Some (window_opens s n j))
+    opens_goes n j a small frame few =
+        (record { small = opened_small s n.frame (part_of n.core.plan j) n.core room.few small; frame = frame; stage = (few, small.0) }, tt)
 
-    closes_goes : (n : Node) (j : ℕ) (w : Window) (a : Option ℕ) → IsSmall n.core → n.frame * s.profile.frame ≤ L t + s.profile.frame → j ≤ 45 → w.last ≤ 45 → GoesBy n a (Some (window_closes s n j w))
-    closes_goes n j w a small frame few last = (record { small = closed_small s n.frame w.part w.flood.initiated n.core (accepted_in w) (accepted_few w) small; frame = frame; stage = in_range }, waits)
+    closes_goes : (n : Node) (j : ℕ) (w : Window) (a : Option ℕ) → IsSmall n.core → n.frame * s.profile.frame ≤ L t + s.profile.frame → j ≤ 45 → w.last ≤ 45
+        → GoesBy n a (Some (window_closes s n j w))
+    closes_goes n j w a small frame few last = (
+      record { small = closed_small s n.frame w.part w.flood.initiated n.core (accepted_in w) (accepted_few w) small; frame = frame; stage = in_range },
+      waits,
+    )
       where
         in_range : InRange (if nat_lt j w.last then AwaitSlot (j + 1) else AwaitFrame)
         in_range = cond_both (nat_lt j w.last) (AwaitSlot (j + 1)) AwaitFrame InRange (λ is. omega (arith, ltb-true j w.last is, last)) (λ is. tt)
 
         waits : Waits n.frame (if nat_lt j w.last then AwaitSlot (j + 1) else AwaitFrame) (alarm_after a (orders_by (Some (window_closes s n j w))))
-        waits = cond_both (nat_lt j w.last) (AwaitSlot (j + 1)) AwaitFrame (λ x. Waits n.frame x (alarm_after a (orders_by (Some (window_closes s n j w))))) (λ is. tt) (λ is. rw is (omega arith))
+        waits =
+            cond_both (nat_lt j w.last) (AwaitSlot (j + 1)) AwaitFrame (λ x. Waits n.frame x (alarm_after a (orders_by (Some (window_closes s n j w)))))
+            (λ is. tt) (λ is. rw is (omega arith))
 
     -- hearings
-    joins_goes : (n : Node) (a : Option ℕ) (p : List ℕ) (x : Schedule) → message_of p ≡ Some (ScheduleOf x) → IsGoing n → GoesBy n a (Some (joins s n (L t) p x))
+    joins_goes : (n : Node) (a : Option ℕ) (p : List ℕ) (x : Schedule) → message_of p ≡ Some (ScheduleOf x) → IsGoing n
+        → GoesBy n a (Some (joins s n (L t) p x))
     joins_goes n a p x says going =
         let read = read_few p x says in (
           record {
@@ -158,7 +174,8 @@ module _ (s : Setup) (L : ℕ → ℕ) (t : ℕ) where
     sent_goes n a (AwaitSlot j) at goes = goes
     sent_goes n a (InWindow j w) at goes =
         let range : InRange (InWindow j w) = subst InRange at goes.0.stage in
-        cond_both w.flood.waiting (Some (sends n j w)) None (λ r. GoesBy n a r) (λ is. (record { small = goes.0.small; frame = goes.0.frame; stage = range }, tt)) (λ is. goes)
+        cond_both w.flood.waiting (Some (sends n j w)) None (λ r. GoesBy n a r)
+        (λ is. (record { small = goes.0.small; frame = goes.0.frame; stage = range }, tt)) (λ is. goes)
 
     -- how far a node can be
     abbrev pub most : ℕ
@@ -200,7 +217,8 @@ module _ (s : Setup) (L : ℕ → ℕ) (t : ℕ) where
       next_frame : (n : Node) → place_in n.stage ≤ 127 → n.frame * s.profile.frame ≤ L t → progress n < progress (frame_alarms s n).node
       next_frame n place less = omega (arith, place, few_frames n.frame less)
 
-      pub alarm_goes : (n : Node) (stage : Stage) → n.stage ≡ stage → IsGoing n → Waits n.frame stage (Some t) → GoesBy n None (at_alarm s n stage) × Rises n stage (at_alarm s n stage)
+      pub alarm_goes : (n : Node) (stage : Stage) → n.stage ≡ stage → IsGoing n → Waits n.frame stage (Some t)
+          → GoesBy n None (at_alarm s n stage) × Rises n stage (at_alarm s n stage)
       alarm_goes n Idle at going fired = ((going, rw at tt), tt)
       alarm_goes n Scanning at going fired = let less = passed n.frame fired in (frame_goes n None going.small less, next_frame n (rw at (omega arith)) less)
       alarm_goes n AwaitFrame at going fired = let less = passed n.frame fired in (frame_goes n None going.small less, next_frame n (rw at (omega arith)) less)
@@ -208,5 +226,8 @@ module _ (s : Setup) (L : ℕ → ℕ) (t : ℕ) where
           let range : InRange (AwaitSlot j) = subst InRange at going.stage in
           (opens_goes n j None going.small going.frame range, rw at (omega arith))
       alarm_goes n (InWindow j w) at going fired =
-          let range : InRange (InWindow j w) = subst InRange at going.stage in
-          (closes_goes n j w None going.small going.frame range.0 range.1, rw at (cond_both (nat_lt j w.last) (AwaitSlot (j + 1)) AwaitFrame (λ x. 128 * n.frame + (2 * j + 1) < 128 * n.frame + place_in x) (λ is. omega arith) (λ is. omega (arith, range.0))))
+          let range : InRange (InWindow j w) = subst InRange at going.stage in (
+            closes_goes n j w None going.small going.frame range.0 range.1,
+            rw at (cond_both (nat_lt j w.last) (AwaitSlot (j + 1)) AwaitFrame (λ x. 128 * n.frame + (2 * j + 1) < 128 * n.frame + place_in x)
+                (λ is. omega arith) (λ is. omega (arith, range.0))),
+          )

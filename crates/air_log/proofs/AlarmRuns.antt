@@ -23,14 +23,16 @@ module _ (clock : ℕ → ℕ) (s : Setup) (t : ℕ) where
       each zero less = due
       each (suc j) less = subst (λ (x : Device). is_due t x.alarm ≡ true) (first_of j d) (run.due j (omega (arith, less)))
 
-  pub is_run : (b : Bool) (more : ℕ) (d : Device) → is_due t d.alarm ≡ b → is_due t (alarms clock s t b more d).alarm ≡ false → IsAlarmRun clock s t d (alarms clock s t b more d)
+  pub is_run : (b : Bool) (more : ℕ) (d : Device) → is_due t d.alarm ≡ b → is_due t (alarms clock s t b more d).alarm ≡ false
+      → IsAlarmRun clock s t d (alarms clock s t b more d)
   unfolding alarms
   is_run false more d due over = record { count = zero; is = refl; due = λ j less. absurd (omega (arith, less)); over = over }
   is_run true zero d due over = record { count = zero; is = refl; due = λ j less. absurd (omega (arith, less)); over = over }
   is_run true (suc more) d due over = let e = one_alarm clock s t d in with_first d _ due (is_run (is_due t e.alarm) more e refl over)
 
   -- there are no more of them than the trail takes at most
-  due_still : (more : ℕ) (d : Device) (b : Bool) → is_due t d.alarm ≡ b → ((j : ℕ) → j ≤ more → is_due t (after_alarms clock s t j d).alarm ≡ true) → is_due t (alarms clock s t b more d).alarm ≡ true
+  due_still : (more : ℕ) (d : Device) (b : Bool) → is_due t d.alarm ≡ b → ((j : ℕ) → j ≤ more → is_due t (after_alarms clock s t j d).alarm ≡ true)
+      → is_due t (alarms clock s t b more d).alarm ≡ true
   unfolding alarms
   due_still more d false is due = absurd (true≢false (sym (due 0 (omega arith)) ∙ is))
   due_still zero d true is due = is
@@ -38,7 +40,8 @@ module _ (clock : ℕ → ℕ) (s : Setup) (t : ℕ) where
       due_still more (one_alarm clock s t d) (is_due t (one_alarm clock s t d).alarm) refl
       (λ j less. ap (λ (x : Device). is_due t x.alarm) (first_of j d) ∙ due (suc j) (omega (arith, less)))
 
-  pub are_fewer : (d : Device) (k : ℕ) → IsAlarmRun clock s t d (alarmed clock s t d) → ((j : ℕ) → j < k → is_due t (after_alarms clock s t j d).alarm ≡ true) → k ≤ clock t + 300
+  pub are_fewer : (d : Device) (k : ℕ) → IsAlarmRun clock s t d (alarmed clock s t d) → ((j : ℕ) → j < k → is_due t (after_alarms clock s t j d).alarm ≡ true)
+      → k ≤ clock t + 300
   are_fewer d k run due = elim (cases_order k (clock t + 300)) [
     | inl is ↦ omega (arith, is)
     | inr (inl less) ↦ omega (arith, less)
@@ -60,4 +63,9 @@ module _ (clock : ℕ → ℕ) (s : Setup) (t : ℕ) (d : Device) where
   runs_agree e f x y = x.is ∙ ap (λ (k : ℕ). after_alarms clock s t k d) same ∙ sym y.is
     where
       same : x.count ≡ y.count
-      same = elim (cases_order x.count y.count) [ inl is ↦ is | inr (inl less) ↦ absurd (no_shorter e f x y less) | inr (inr more) ↦ absurd (no_shorter f e y x more) ]
+      same =
+          elim (cases_order x.count y.count) [
+            | inl is ↦ is
+            | inr (inl less) ↦ absurd (no_shorter e f x y less)
+            | inr (inr more) ↦ absurd (no_shorter f e y x more)
+          ]

@@ -9,7 +9,7 @@ use Rattle.air_log.specs.Trails.{is_due, alarmed}
 use Rattle.air_log.specs.AlarmRuns.{after_alarms, IsAlarmRun}
 use Rattle.air_log.specs.Courses.{CourseState, Shows, Goes, IsShownEnding}
 use Rattle.air_log.proofs.AlarmRuns.{runs_agree, are_fewer}
-use Rattle.air_log.proofs.CourseSteps.{shows_as}
+use Rattle.air_log.proofs.ShownCourses.{shows_as}
 
 -- so many have been taken, and each was due
 pub record AreTaken (clock : ℕ → ℕ) (t k : ℕ) (old new : CourseState) : Type 0 where
@@ -33,13 +33,15 @@ module _ (clock : ℕ → ℕ) (t : ℕ) where
       goes = subst (λ (n : ℕ). Goes t (λ q d. after_alarms clock q t n d) old last) (sym (add-one k))
           (λ q d shows. rest q (let x = after_alarms clock q t k d in record x { alarm = None }) (first q (after_alarms clock q t k d) (taken.goes q d shows)));
       due = λ q d shows j less. elim (cases_order j k) [
-        | inl is ↦ ap (λ (n : ℕ). is_due t (after_alarms clock q t n d).alarm) is ∙ ap (is_due t) (sym (alarm_shown q t now (after_alarms clock q t k d) (taken.goes q d shows))) ∙ due
+        | inl is ↦ ap (λ (n : ℕ). is_due t (after_alarms clock q t n d).alarm) is
+            ∙ ap (is_due t) (sym (alarm_shown q t now (after_alarms clock q t k d) (taken.goes q d shows))) ∙ due
         | inr (inl before) ↦ taken.due q d shows j before
         | inr (inr behind) ↦ absurd (omega (arith, less, behind))
       ];
     }
 
-    pub all_taken : is_due t now.device.alarm ≡ false → (q : Setup) (d : Device) → Shows q t old d → IsAlarmRun clock q t d (alarmed clock q t d) → Shows q t now (alarmed clock q t d)
+    pub all_taken : is_due t now.device.alarm ≡ false → (q : Setup) (d : Device) → Shows q t old d → IsAlarmRun clock q t d (alarmed clock q t d)
+        → Shows q t now (alarmed clock q t d)
     all_taken over q d shows runs =
         let shown = taken.goes q d shows in
         shows_as q t now (after_alarms clock q t k d) (alarmed clock q t d) shown

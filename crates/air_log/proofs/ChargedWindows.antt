@@ -11,7 +11,8 @@ use Rattle.air_log.specs.Devices.{Power, PowerOff, PowerOn, seen_power}
 use Rattle.air_log.specs.Trails.{Reception, run_end, before_tick, trail}
 use Rattle.air_log.specs.WindowLogs.{WindowLog}
 use Rattle.air_log.specs.WindowSums.{WindowSum, charge_by, AreSmall, IsCounted}
-use Rattle.air_log.proofs.FewWindows.{by_alarm, few_windows, boots_of}
+use Rattle.air_log.proofs.OpenedByAlarm.{by_alarm}
+use Rattle.air_log.proofs.FewWindows.{few_windows, boots_of}
 use Rattle.air_log.proofs.CountedWindows.{total}
 
 -- what all windows count
@@ -25,8 +26,10 @@ counts_few p n (w ∷ ws) small =
     one : (w : WindowLog) → charge_by p n w ≤ 2 ^ 28 → charge_by p n w ≤ 2 ^ 28 * (if w.by_alarm then 1 else 0)
     one w less = by w.by_alarm less
       where
-        by : (b : Bool) → (if b then Rattle.air_log.specs.Charges.counted p (Rattle.bus_rules.specs.Charges.last_of n (Rattle.air_log.specs.Charges.sent_packets w)) else 0) ≤ 2 ^ 28
-            → (if b then Rattle.air_log.specs.Charges.counted p (Rattle.bus_rules.specs.Charges.last_of n (Rattle.air_log.specs.Charges.sent_packets w)) else 0) ≤ 2 ^ 28 * (if b then 1 else 0)
+        by : (b : Bool) → (if b then Rattle.air_log.specs.Charges.counted p
+            (Rattle.bus_rules.specs.Charges.last_of n (Rattle.air_log.specs.Charges.sent_packets w)) else 0) ≤ 2 ^ 28
+            → (if b then Rattle.air_log.specs.Charges.counted p (Rattle.bus_rules.specs.Charges.last_of n (Rattle.air_log.specs.Charges.sent_packets w)) else 0)
+            ≤ 2 ^ 28 * (if b then 1 else 0)
         by true less = omega (arith, less)
         by false less = omega arith
 
@@ -36,7 +39,8 @@ module _ (clock : ℕ → ℕ) (s : ScenarioParts) (v : ℕ) (hs : List Receptio
   boots_by (PowerOn n) = refl
 
   -- all windows of a run together, of a node that boots as often as a scenario may say
-  pub charge_is : (seen_power (before_tick s v clock hs (run_end s)).power).1 ≤ 200 → (x : WindowSum) → IsCounted s.profile s.sends (trail s v clock hs).made.windows x → (x.earlier + x.last) % 2 ^ 64 ≡ windows_charge s (trail s v clock hs)
+  pub charge_is : (seen_power (before_tick s v clock hs (run_end s)).power).1 ≤ 200 → (x : WindowSum)
+      → IsCounted s.profile s.sends (trail s v clock hs).made.windows x → (x.earlier + x.last) % 2 ^ 64 ≡ windows_charge s (trail s v clock hs)
   charge_is less x counted =
       let t = trail s v clock hs in
       let sum = total s.profile s.sends sound.few_sends t.made.windows x counted in

@@ -1,6 +1,7 @@
 -- Trails are computed from one tick at which something is due to the next. The search for the first tick at which a clock
 -- reads a number cannot be computed, so a function that gives the same is put in its place.
-use Rattle.std.proofs.Common.{◌≡◌, ℕ, zero, suc, ◌+◌, ◌/◌, ◌<◌, ◌≤◌, IfSome, max, List, [], ◌∷◌, Bool, true, false, not, ◌==◌, ◌&&◌, ◌||◌, nat_lt, nat_le, if◌then◌else◌, fold, Option, Some, None, Contains, ◌⊎◌, inl, inr, refl, sym, ◌∙◌, ap, subst, arith, true≢false, ltb-true}
+use Rattle.std.proofs.Common.{◌≡◌, ℕ, zero, suc, ◌+◌, ◌/◌, ◌<◌, ◌≤◌, IfSome, max, List, [], ◌∷◌, Bool, true, false, not, ◌==◌, ◌&&◌, ◌||◌, nat_lt, nat_le}
+use Rattle.std.proofs.Common.{if◌then◌else◌, fold, Option, Some, None, Contains, ◌⊎◌, inl, inr, refl, sym, ◌∙◌, ap, subst, arith, true≢false, ltb-true}
 use Rattle.std.proofs.lemmas.Bool.{and_parts, leb-true, eq-eqb}
 use Rattle.std.specs.List.{list_all}
 use Rattle.std.proofs.Math.Path.{fun_ext}
@@ -132,7 +133,8 @@ module _ (clock : ℕ → ℕ) where
       let e = before_alarms (due clock) clock s v hs t d in
       ap (begun x t) (same_alarms x t (is_due t e.alarm) (clock t + 300) e)
 
-  one_tick : (s : ScenarioParts) (v : ℕ) (hs : List Reception) (t : ℕ) (d : Device) → before_tick s v clock hs t ≡ d → before_tick s v clock hs (suc t) ≡ in_tick (due clock) clock s v hs t d
+  one_tick : (s : ScenarioParts) (v : ℕ) (hs : List Reception) (t : ℕ) (d : Device) → before_tick s v clock hs t ≡ d
+      → before_tick s v clock hs (suc t) ≡ in_tick (due clock) clock s v hs t d
   unfolding before_tick
   one_tick s v hs t d is = ap (tick s v clock hs t) is ∙ same_tick s v hs t d
 
@@ -153,7 +155,8 @@ from_line : (b c : Bool) → (not b || c) ≡ true → b ≡ true → c ≡ true
 from_line true c is here = is
 from_line false c is here = absurd (true≢false (sym here))
 
-from_test : (D clock : ℕ → ℕ) (s : ScenarioParts) (v : ℕ) (hs : List Reception) (a b : ℕ) (d : Device) → is_next D clock s v hs a b d ≡ true → (a ≤ b) × NextDue s v hs a b d
+from_test : (D clock : ℕ → ℕ) (s : ScenarioParts) (v : ℕ) (hs : List Reception) (a b : ℕ) (d : Device) → is_next D clock s v hs a b d ≡ true
+    → (a ≤ b) × NextDue s v hs a b d
 from_test D clock s v hs a b d is =
     let lines = and_parts _ _ is in
     let hearings = and_parts _ _ lines.0 in
@@ -164,7 +167,9 @@ from_test D clock s v hs a b d is =
       record {
         set = record { alarm = alarm_set d.alarm set.1; ordered = start_set d.ordered starts.1; sending = end_set d.sending ends.1 };
         hearings = λ h there. from_outside D clock a b h.end (all_passes _ hs hearings.1 h there);
-        lines = λ l there node. from_outside D clock a b (frame_start s l.frame) (from_line (l.node == v) _ (all_passes _ s.script lines.1 l there) (eq-eqb l.node v node));
+        lines =
+            λ l there node. from_outside D clock a b (frame_start s l.frame)
+            (from_line (l.node == v) _ (all_passes _ s.script lines.1 l there) (eq-eqb l.node v node));
       },
     )
   where
@@ -181,7 +186,8 @@ from_test D clock s v hs a b d is =
     end_set (Some x) is = leb-true b x.end is
 
 -- what is computed is the trail
-through : (clock : ℕ → ℕ) (s : ScenarioParts) (v : ℕ) (hs : List Reception) (last a : ℕ) (bs : List ℕ) (d : Device) → before_tick s v clock hs a ≡ d → goes_through (due clock) clock s v hs last a bs d ≡ true
+through : (clock : ℕ → ℕ) (s : ScenarioParts) (v : ℕ) (hs : List Reception) (last a : ℕ) (bs : List ℕ) (d : Device) → before_tick s v clock hs a ≡ d
+    → goes_through (due clock) clock s v hs last a bs d ≡ true
     → before_tick s v clock hs last ≡ after_ticks (due clock) clock s v hs bs d
 through clock s v hs last a [] d is goes =
     let next = from_test (due clock) clock s v hs a last d goes in
@@ -192,11 +198,13 @@ through clock s v hs last a (b ∷ bs) d is goes =
     let here : before_tick s v clock hs b ≡ d = until_next s v clock hs a b next.0 (rw is next.1) ∙ is in
     through clock s v hs last (suc b) bs (in_tick (due clock) clock s v hs b d) (one_tick clock s v hs b d here) both.1
 
-pub computed : (clock D : ℕ → ℕ) → ((x : ℕ) → due clock x ≡ D x) → (s : ScenarioParts) (v : ℕ) (hs : List Reception) (last : ℕ) (bs : List ℕ) → goes_through D clock s v hs last 0 bs at_rest ≡ true
+pub computed : (clock D : ℕ → ℕ) → ((x : ℕ) → due clock x ≡ D x) → (s : ScenarioParts) (v : ℕ) (hs : List Reception) (last : ℕ) (bs : List ℕ)
+    → goes_through D clock s v hs last 0 bs at_rest ≡ true
     → before_tick s v clock hs last ≡ after_ticks D clock s v hs bs at_rest
 unfolding before_tick
 computed clock D same s v hs last bs =
-    subst (λ (E : ℕ → ℕ). goes_through E clock s v hs last 0 bs at_rest ≡ true → before_tick s v clock hs last ≡ after_ticks E clock s v hs bs at_rest) (fun_ext same)
+    subst (λ (E : ℕ → ℕ). goes_through E clock s v hs last 0 bs at_rest ≡ true → before_tick s v clock hs last ≡ after_ticks E clock s v hs bs at_rest)
+    (fun_ext same)
     (through clock s v hs last 0 bs at_rest (at_first s v clock hs))
   where
     at_first : (s : ScenarioParts) (v : ℕ) (clock : ℕ → ℕ) (hs : List Reception) → before_tick s v clock hs 0 ≡ at_rest

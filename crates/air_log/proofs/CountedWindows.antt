@@ -1,5 +1,6 @@
 -- What windows count so far, event by event.
-use Rattle.std.proofs.Common.{◌≡◌, ℕ, ◌+◌, ◌%◌, ◌^◌, ◌≤◌, min, List, [], ◌∷◌, ◌++◌, Bool, true, false, ◌==◌, if◌then◌else◌, Option, Some, None, option_to_list, filter_map, length, sum_by, refl, sym, ◌∙◌, ap, arith, eqb-true, eq-eqb}
+use Rattle.std.proofs.Common.{◌≡◌, ℕ, ◌+◌, ◌%◌, ◌^◌, ◌≤◌, min, List, [], ◌∷◌, ◌++◌, Bool, true, false, ◌==◌, if◌then◌else◌, Option, Some}
+use Rattle.std.proofs.Common.{None, option_to_list, filter_map, length, sum_by, refl, sym, ◌∙◌, ap, arith, eqb-true, eq-eqb}
 use Rattle.std.specs.List.{last_or}
 use Rattle.std.proofs.lemmas.Bool.{cond_both, ne_eqb}
 use Rattle.std.proofs.lemmas.List.{length-append}
@@ -47,7 +48,8 @@ last_by n ps p =
 
 module _ (p : Numbers) (n : ℕ) (few : n ≤ 4) where
   -- a packet more in the last window
-  pub sends_more : (w m : WindowLog) (ws : List WindowLog) (x : WindowSum) (packet : List ℕ) → x.profile ≡ p → x.sends ≡ n → m.by_alarm ≡ w.by_alarm → sent_packets m ≡ sent_packets w ++ packet ∷ []
+  pub sends_more : (w m : WindowLog) (ws : List WindowLog) (x : WindowSum) (packet : List ℕ) → x.profile ≡ p → x.sends ≡ n → m.by_alarm ≡ w.by_alarm
+      → sent_packets m ≡ sent_packets w ++ packet ∷ []
       → IsCountedTo p n w ws x → IsCountedTo p n m ws (sent_sum packet x)
   sends_more w m ws x packet profile sends same more is = record {
     earlier = is.earlier;
@@ -67,22 +69,28 @@ module _ (p : Numbers) (n : ℕ) (few : n ≤ 4) where
           ∙ sym (ap (last_of n) more ∙ last_by n (sent_packets w) packet)
 
   -- an event that leaves the last window open
-  goes_on_by : (o : Option (List ℕ)) (w m : WindowLog) (ws : List WindowLog) (x : WindowSum) → x.profile ≡ p → x.sends ≡ n → m.by_alarm ≡ w.by_alarm → sent_packets m ≡ sent_packets w ++ option_to_list o
+  goes_on_by : (o : Option (List ℕ)) (w m : WindowLog) (ws : List WindowLog) (x : WindowSum) → x.profile ≡ p → x.sends ≡ n → m.by_alarm ≡ w.by_alarm
+      → sent_packets m ≡ sent_packets w ++ option_to_list o
       → IsCountedTo p n w ws x → IsCountedTo p n m ws (with_packet o x)
   goes_on_by None w m ws x profile sends same more is =
       let packets : sent_packets m ≡ sent_packets w = more ∙ Rattle.std.proofs.lemmas.List.append-nil (sent_packets w) in
       record {
         earlier = is.earlier;
-        last = is.last ∙ ap (λ (b : Bool). if b then counted p (last_of n (sent_packets w)) else 0) (sym same) ∙ ap (λ (ps : List (List ℕ)). if m.by_alarm then counted p (last_of n ps) else 0) (sym packets);
+        last =
+            is.last ∙ ap (λ (b : Bool). if b then counted p (last_of n (sent_packets w)) else 0) (sym same)
+            ∙ ap (λ (ps : List (List ℕ)). if m.by_alarm then counted p (last_of n ps) else 0) (sym packets);
         by_alarm = is.by_alarm ∙ sym same;
         sent = is.sent ∙ ap (λ (ps : List (List ℕ)). min (length ps) 5) (sym packets);
       }
   goes_on_by (Some packet) w m ws x profile sends same more is = sends_more w m ws x packet profile sends same more is
 
-  packets_more : (w : WindowLog) (t : ℕ) (e : Event) (ended : Option Sending) (u : Window) → filter_map sent_in (w.happenings ++ happening t e ended) ≡ sent_packets w ++ option_to_list (sent_with e ended)
-  packets_more w t e ended u = filter_map-append sent_in w.happenings (happening t e ended) ∙ ap (λ (ps : List (List ℕ)). sent_packets w ++ ps) (sent_by_event t e ended)
+  packets_more : (w : WindowLog) (t : ℕ) (e : Event) (ended : Option Sending) (u : Window)
+      → filter_map sent_in (w.happenings ++ happening t e ended) ≡ sent_packets w ++ option_to_list (sent_with e ended)
+  packets_more w t e ended u =
+      filter_map-append sent_in w.happenings (happening t e ended) ∙ ap (λ (ps : List (List ℕ)). sent_packets w ++ ps) (sent_by_event t e ended)
 
-  gone_on_counted : (t : ℕ) (e : Event) (ended : Option Sending) (u : Window) (logs : List WindowLog) (x : WindowSum) → IsCounted p n logs x → (with_packet (sent_with e ended) x).last ≤ 2 ^ 28 → IsCounted p n (gone_on t e ended u logs) (with_packet (sent_with e ended) x)
+  gone_on_counted : (t : ℕ) (e : Event) (ended : Option Sending) (u : Window) (logs : List WindowLog) (x : WindowSum) → IsCounted p n logs x
+      → (with_packet (sent_with e ended) x).last ≤ 2 ^ 28 → IsCounted p n (gone_on t e ended u logs) (with_packet (sent_with e ended) x)
   gone_on_counted t e ended u [] x is less = by (sent_with e ended)
     where
       by : (o : Option (List ℕ)) → IsCounted p n [] (with_packet o x)
@@ -90,7 +98,11 @@ module _ (p : Numbers) (n : ℕ) (few : n ≤ 4) where
       by (Some packet) = record {
         profile = is.profile;
         sends = is.sends;
-        counts = record { earlier = is.counts.earlier; last = ap (λ (b : Bool). if b then counted x.profile (only_if (min (x.sent + 1) 5 == x.sends) packet) else 0) is.counts.by_alarm; by_alarm = is.counts.by_alarm };
+        counts = record {
+          earlier = is.counts.earlier;
+          last = ap (λ (b : Bool). if b then counted x.profile (only_if (min (x.sent + 1) 5 == x.sends) packet) else 0) is.counts.by_alarm;
+          by_alarm = is.counts.by_alarm;
+        };
         small = tt;
       }
   gone_on_counted t e ended u (w ∷ ws) x is less =
@@ -98,9 +110,15 @@ module _ (p : Numbers) (n : ℕ) (few : n ≤ 4) where
       let counts = goes_on_by (sent_with e ended) w m ws x is.profile is.sends refl (packets_more w t e ended u) is.counts in
       kept (sent_with e ended) counts less
     where
-      kept : (o : Option (List ℕ)) → IsCountedTo p n (record w { happenings = w.happenings ++ happening t e ended; last = u }) ws (with_packet o x) → (with_packet o x).last ≤ 2 ^ 28 → IsCounted p n (record w { happenings = w.happenings ++ happening t e ended; last = u } ∷ ws) (with_packet o x)
+      kept : (o : Option (List ℕ)) → IsCountedTo p n (record w { happenings = w.happenings ++ happening t e ended; last = u }) ws (with_packet o x)
+          → (with_packet o x).last ≤ 2 ^ 28 → IsCounted p n (record w { happenings = w.happenings ++ happening t e ended; last = u } ∷ ws) (with_packet o x)
       kept None counts less = record { profile = is.profile; sends = is.sends; counts = counts; small = (omega (arith, less, counts.last), is.small.1) }
-      kept (Some packet) counts less = record { profile = is.profile; sends = is.sends; counts = counts; small = (omega (arith, less, counts.last), is.small.1) }
+      kept (Some packet) counts less = record {
+        profile = is.profile;
+        sends = is.sends;
+        counts = counts;
+        small = (omega (arith, less, counts.last), is.small.1);
+      }
 
   -- the sum of all
   pub total : (logs : List WindowLog) (x : WindowSum) → IsCounted p n logs x → (x.earlier + x.last) % 2 ^ 64 ≡ sum_by (charge_by p n) logs % 2 ^ 64
@@ -111,7 +129,8 @@ module _ (p : Numbers) (n : ℕ) (few : n ≤ 4) where
       omega (arith, c.earlier, c.last, all)
 
   -- a window opens with nothing sent in it
-  opened_counted : (b : Bool) (m : WindowLog) (logs : List WindowLog) (x : WindowSum) → m.by_alarm ≡ b → sent_packets m ≡ [] → IsCounted p n logs x → IsCountedTo p n m logs (opened_sum b x)
+  opened_counted : (b : Bool) (m : WindowLog) (logs : List WindowLog) (x : WindowSum) → m.by_alarm ≡ b → sent_packets m ≡ [] → IsCounted p n logs x
+      → IsCountedTo p n m logs (opened_sum b x)
   opened_counted b m logs x same none is = record {
     earlier = total logs x is;
     last =
@@ -125,15 +144,19 @@ module _ (p : Numbers) (n : ℕ) (few : n ≤ 4) where
       nothing_last : (let none : List (List ℕ) = [] in last_of n none ≡ None)
       nothing_last = cond_both (0 == n) None None (λ (o : Option (List ℕ)). o ≡ None) (λ is. refl) (λ is. refl)
 
-  opens_counted : (t : ℕ) (e : Event) (ended : Option Sending) (nd md : Node) (i : ℕ) (u : Window) (logs : List WindowLog) (x : WindowSum) → IsCounted p n logs x → (with_packet (sent_with e ended) (opened_sum (is_alarm e) x)).last ≤ 2 ^ 28
+  opens_counted : (t : ℕ) (e : Event) (ended : Option Sending) (nd md : Node) (i : ℕ) (u : Window) (logs : List WindowLog) (x : WindowSum)
+      → IsCounted p n logs x → (with_packet (sent_with e ended) (opened_sum (is_alarm e) x)).last ≤ 2 ^ 28
       → IsCounted p n (opened_log t e ended nd md i u ∷ logs) (with_packet (sent_with e ended) (opened_sum (is_alarm e) x))
   opens_counted t e ended nd md i u logs x is less =
       let bare : WindowLog = record (opened_log t e ended nd md i u) { happenings = [] } in
       let opened = opened_counted (is_alarm e) bare logs x refl refl is in
-      let counts = goes_on_by (sent_with e ended) bare (opened_log t e ended nd md i u) logs (opened_sum (is_alarm e) x) is.profile is.sends refl (sent_by_event t e ended) opened in
+      let counts = goes_on_by (sent_with e ended) bare (opened_log t e ended nd md i u) logs (opened_sum (is_alarm e) x) is.profile is.sends refl
+      (sent_by_event t e ended) opened in
       kept (sent_with e ended) counts less
     where
-      kept : (o : Option (List ℕ)) → IsCountedTo p n (opened_log t e ended nd md i u) logs (with_packet o (opened_sum (is_alarm e) x)) → (with_packet o (opened_sum (is_alarm e) x)).last ≤ 2 ^ 28 → IsCounted p n (opened_log t e ended nd md i u ∷ logs) (with_packet o (opened_sum (is_alarm e) x))
+      kept : (o : Option (List ℕ)) → IsCountedTo p n (opened_log t e ended nd md i u) logs (with_packet o (opened_sum (is_alarm e) x))
+          → (with_packet o (opened_sum (is_alarm e) x)).last ≤ 2 ^ 28
+          → IsCounted p n (opened_log t e ended nd md i u ∷ logs) (with_packet o (opened_sum (is_alarm e) x))
       kept None counts less = record { profile = is.profile; sends = is.sends; counts = counts; small = (omega (arith, less, counts.last), is.small) }
       kept (Some packet) counts less = record { profile = is.profile; sends = is.sends; counts = counts; small = (omega (arith, less, counts.last), is.small) }
 
@@ -141,9 +164,15 @@ module _ (p : Numbers) (n : ℕ) (few : n ≤ 4) where
   closed_counted t md [] x is = is
   closed_counted t md (w ∷ ws) x is =
       let c = is.counts in
-      record { profile = is.profile; sends = is.sends; counts = record { earlier = c.earlier; last = c.last; by_alarm = c.by_alarm; sent = c.sent }; small = is.small }
+      record {
+        profile = is.profile;
+        sends = is.sends;
+        counts = record { earlier = c.earlier; last = c.last; by_alarm = c.by_alarm; sent = c.sent };
+        small = is.small;
+      }
 
-  pub after_event : (t : ℕ) (e : Event) (ended : Option Sending) (nd md : Node) (from to : Stage) (logs : List WindowLog) (x : WindowSum) → IsCounted p n logs x → (noted (is_window from) (is_window to) (is_alarm e) (sent_with e ended) x).last ≤ 2 ^ 28
+  pub after_event : (t : ℕ) (e : Event) (ended : Option Sending) (nd md : Node) (from to : Stage) (logs : List WindowLog) (x : WindowSum) → IsCounted p n logs x
+      → (noted (is_window from) (is_window to) (is_alarm e) (sent_with e ended) x).last ≤ 2 ^ 28
       → IsCounted p n (windows_after t e ended nd md from to logs) (noted (is_window from) (is_window to) (is_alarm e) (sent_with e ended) x)
   after_event t e ended nd md (InWindow j w) (InWindow i u) logs x is less = gone_on_counted t e ended u logs x is less
   after_event t e ended nd md (InWindow j w) Idle logs x is less = closed_counted t md logs x is

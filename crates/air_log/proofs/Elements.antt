@@ -1,10 +1,12 @@
 -- Elements of lists.
-use Rattle.std.proofs.Common.{◌≡◌, ℕ, suc, ◌+◌, ◌<◌, Bool, true, Option, Some, None, filter, filter_map, reverse, take, length, get_or, ◌∙◌, sym, ap, List, [], ◌∷◌, ◌++◌, inl, inr, refl, subst, arith, map, drop}
+use Rattle.std.proofs.Common.{◌≡◌, ℕ, suc, ◌+◌, ◌<◌, Bool, true, Option, Some, None, filter, filter_map, reverse, take, length}
+use Rattle.std.proofs.Common.{get_or, ◌∙◌, sym, ap, List, [], ◌∷◌, ◌++◌, inl, inr, refl, subst, arith, map, drop}
 use Rattle.std.specs.Prelude.{Contains, ◌⊎◌, ◌≢◌, AllPairs, slice_get}
 use Rattle.std.specs.List.{cons_option}
 use Rattle.std.proofs.lemmas.Bool.{cond_both, cond-true}
 use Rattle.std.proofs.lemmas.List.{reverse-append, map_more, length-map, get_or-map}
-use Rattle.std.proofs.lemmas.List.Elements.{Contains-append_cases, Contains-append_left, Contains-append_right, Contains-push, Contains-push_cases, All-contains, All-filter, All-contains_itself, filter_passes}
+use Rattle.std.proofs.lemmas.List.Elements.{Contains-append_cases, Contains-append_left, Contains-append_right, Contains-push}
+use Rattle.std.proofs.lemmas.List.Elements.{Contains-push_cases, All-contains, All-filter, All-contains_itself, filter_passes}
 
 pub not_in_none : {X : Type 0} (x : X) → Contains [] x → ⊥
 not_in_none x (k, less, is) = omega arith
@@ -17,7 +19,11 @@ contains_tail x xs y there = Contains-append_right (x ∷ []) xs y there
 
 pub contains_cases : {X : Type 0} (x : X) (xs : List X) (y : X) → Contains (x ∷ xs) y → (x ≡ y) ⊎ Contains xs y
 contains_cases x xs y there =
-    elim (Contains-append_cases (x ∷ []) xs y there) [ inl at ↦ elim (Contains-push_cases [] x y at) [ inl none ↦ absurd (not_in_none y none) | inr is ↦ inl is ] | inr later ↦ inr later ]
+    elim (Contains-append_cases (x ∷ []) xs y there) [
+      | inl at ↦
+          elim (Contains-push_cases [] x y at) [ inl none ↦ absurd (not_in_none y none) | inr is ↦ inl is ]
+      | inr later ↦ inr later
+    ]
 
 -- lists of one or two elements, and the first element
 pub one_of : {X : Type 0} (x y : X) → Contains (x ∷ []) y → x ≡ y
@@ -80,7 +86,8 @@ pub filter_from : {X Y : Type 0} (g : X → Option Y) (xs : List X) (y : Y) → 
 filter_from g [] y there = absurd (not_in_none y there)
 filter_from {X = X} {Y = Y} g (x ∷ xs) y there = by_cases (g x) refl (λ later. filter_from g xs y later) there
   where
-    by_cases : (c : Option Y) → g x ≡ c → (Contains (filter_map g xs) y → (z : X) × Contains xs z × (g z ≡ Some y)) → Contains (cons_option c (filter_map g xs)) y → (z : X) × Contains (x ∷ xs) z × (g z ≡ Some y)
+    by_cases : (c : Option Y) → g x ≡ c → (Contains (filter_map g xs) y → (z : X) × Contains xs z × (g z ≡ Some y))
+        → Contains (cons_option c (filter_map g xs)) y → (z : X) × Contains (x ∷ xs) z × (g z ≡ Some y)
     by_cases None at rest there = let w = rest there in (w.0, contains_tail x xs w.0 w.1, w.2)
     by_cases (Some z) at rest there =
         elim (contains_cases z (filter_map g xs) y there) [
@@ -91,10 +98,12 @@ filter_from {X = X} {Y = Y} g (x ∷ xs) y there = by_cases (g x) refl (λ later
 pub filter_same : {X Y : Type 0} (g h : X → Option Y) (xs : List X) → ((x : X) → Contains xs x → g x ≡ h x) → filter_map g xs ≡ filter_map h xs
 filter_same g h [] same = refl
 filter_same g h (x ∷ xs) same =
-    ap (λ c. cons_option c (filter_map g xs)) (same x (contains_head x xs)) ∙ ap (λ l. cons_option (h x) l) (filter_same g h xs (λ y there. same y (contains_tail x xs y there)))
+    ap (λ c. cons_option c (filter_map g xs)) (same x (contains_head x xs))
+    ∙ ap (λ l. cons_option (h x) l) (filter_same g h xs (λ y there. same y (contains_tail x xs y there)))
 
 -- what a filter gives stands there once, if it tells what it comes from
-pub filter_distinct : {X Y : Type 0} (g : X → Option Y) → ((d e : X) (y : Y) → g d ≡ Some y → g e ≡ Some y → d ≡ e) → (xs : List X) → AllPairs (λ d e. d ≢ e) xs → Distinct (filter_map g xs)
+pub filter_distinct : {X Y : Type 0} (g : X → Option Y) → ((d e : X) (y : Y) → g d ≡ Some y → g e ≡ Some y → d ≡ e) → (xs : List X) → AllPairs (λ d e. d ≢ e) xs
+    → Distinct (filter_map g xs)
 filter_distinct g tells [] all = tt
 filter_distinct {X = X} {Y = Y} g tells (x ∷ xs) all = by_cases (g x) refl (filter_distinct g tells xs (pairs_tail (λ d e. d ≢ e) x xs all))
   where
@@ -106,7 +115,8 @@ filter_distinct {X = X} {Y = Y} g tells (x ∷ xs) all = by_cases (g x) refl (fi
     by_cases (Some y) at rest = (λ there. twice y at (filter_from g xs y there), rest)
 
 -- a push of what a map gives at the next place
-pub map_pushed : {X Y : Type 0} (g : X → Y) (xs : List X) (i : ℕ) (x : X) (items : List Y) (y : Y) → i < length xs → x ≡ get_or xs i x → items ≡ map g (take i xs) → y ≡ g x → items ++ y ∷ [] ≡ map g (take (i + 1) xs)
+pub map_pushed : {X Y : Type 0} (g : X → Y) (xs : List X) (i : ℕ) (x : X) (items : List Y) (y : Y) → i < length xs → x ≡ get_or xs i x
+    → items ≡ map g (take i xs) → y ≡ g x → items ++ y ∷ [] ≡ map g (take (i + 1) xs)
 map_pushed g xs i x items y below at is value =
     ap (λ (l : List _). l ++ y ∷ []) is ∙ ap (λ (z : _). map g (take i xs) ++ z ∷ []) (value ∙ ap g at) ∙ sym (map_more g xs i x below)
 
@@ -121,8 +131,10 @@ pub in_filtered : {X : Type 0} (test : X → Bool) (xs : List X) (x : X) → Con
 in_filtered test [] x there is = absurd (not_in_none x there)
 in_filtered {X} test (y ∷ xs) x there is =
     elim (contains_cases y xs x there) [
-      | inl same ↦ subst (λ (l : List X). Contains l x) (sym (cond-true (test y) (y ∷ filter test xs) (filter test xs) (ap test same ∙ is))) (subst (Contains (y ∷ filter test xs)) same (contains_head y (filter test xs)))
-      | inr rest ↦ cond_both (test y) (y ∷ filter test xs) (filter test xs) (λ (l : List X). Contains l x) (λ at. contains_tail y (filter test xs) x (in_filtered test xs x rest is)) (λ not. in_filtered test xs x rest is)
+      | inl same ↦ subst (λ (l : List X). Contains l x) (sym (cond-true (test y) (y ∷ filter test xs) (filter test xs) (ap test same ∙ is)))
+          (subst (Contains (y ∷ filter test xs)) same (contains_head y (filter test xs)))
+      | inr rest ↦ cond_both (test y) (y ∷ filter test xs) (filter test xs) (λ (l : List X). Contains l x)
+          (λ at. contains_tail y (filter test xs) x (in_filtered test xs x rest is)) (λ not. in_filtered test xs x rest is)
     ]
 
 pub reversed : {X : Type 0} (y : X) (xs : List X) → reverse (y ∷ xs) ≡ reverse xs ++ y ∷ []

@@ -1,13 +1,10 @@
 -- How many windows open by their alarm: few for each frame number that a node counts, and for each of its boots.
-use Rattle.std.proofs.Common.{◌≡◌, ◌⊎◌, inl, inr, true≢false, ℕ, zero, suc, ◌+◌, ◌*◌, ◌^◌, ◌<◌, ◌≤◌, List, [], ◌∷◌, Bool, true, false, ◌==◌, nat_lt, if◌then◌else◌, fold, Option, Some, None, refl, sym, ◌∙◌, ap, arith, ltb-true, mul-le-mul_right}
+use Rattle.std.proofs.Common.{◌≡◌, true≢false, ℕ, zero, suc, ◌+◌, ◌*◌, ◌^◌, ◌<◌, ◌≤◌, List, [], ◌∷◌, Bool, true, false, ◌==◌}
+use Rattle.std.proofs.Common.{nat_lt, fold, Option, Some, None, refl, sym, ◌∙◌, ap, arith, ltb-true, mul-le-mul_right}
 use Rattle.std.proofs.lemmas.Bool.{cond_both}
-use Rattle.lwb_base.specs.declared.event.Event.{Event}
 use Rattle.lwb_base.specs.declared.event.Event.TheVariants.{Boot, Alarm, Heard, Sent}
-use Rattle.lwb_base.specs.declared.order.Order.{Order}
-use Rattle.lwb_base.specs.declared.order.Order.TheVariants.{Listen, Off as Silent, SendAt, Alarm as AlarmAt}
 use Rattle.tick_clock.specs.Clocks.{IsClock}
 use Rattle.tick_clock.proofs.Readings.{rounded, never_back}
-use Rattle.radio_model.specs.OnAir.{Tuning}
 use Rattle.radio_model.specs.declared.sending.Sending.{Sending}
 use Rattle.scenario_text.specs.ScenarioParts.{ScenarioParts}
 use Rattle.scenario_text.specs.ScenarioFacts.{IsSoundScenario}
@@ -16,190 +13,35 @@ use Rattle.scenario_text.specs.declared.script.Act.TheVariants.{On, Off, Declare
 use Rattle.scenario_text.specs.declared.script.ScriptLine.{ScriptLine}
 use Rattle.bus_rules.specs.States.{refuses, queues}
 use Rattle.bus_rules.specs.Cores.{Setup}
-use Rattle.bus_rules.specs.Slots.{Message, ScheduleOf, DataOf, RequestOf}
-use Rattle.bus_rules.specs.Tuning.{rank_of}
-use Rattle.lwb_member.specs.Said.{message_of}
 use Rattle.node_core.specs.Nodes.{Node, rebooted}
-use Rattle.node_core.specs.Rows.{Stepped, row, joins, scanner_hears, sends, at_alarm, at_heard, at_sent, boots}
-use Rattle.node_core.specs.Rows.{node_after, orders_by}
-use Rattle.node_core.specs.Windows.{Window}
+use Rattle.node_core.specs.Rows.{row, boots}
+use Rattle.node_core.specs.Rows.{node_after}
 use Rattle.node_core.specs.declared.stage.Stage.{Stage}
 use Rattle.node_core.specs.declared.stage.Stage.TheVariants.{Idle, Scanning, AwaitFrame, AwaitSlot, InWindow}
-use Rattle.node_core.proofs.KeptBoots.{KeepsBoot, boot_kept}
-use Rattle.air_log.specs.Devices.{Device, Power, PowerOff, PowerOn, Listening, Ordered, obeyed, moved, stepped, event_by, silenced, tunes, listens_to}
+use Rattle.air_log.specs.Devices.{Device, Power, PowerOff, PowerOn, Listening, Ordered, stepped, event_by}
 use Rattle.air_log.specs.ScriptedDevices.{after_act, after_line, dropped, with_new_core}
-use Rattle.air_log.specs.Trails.{Reception, run_end, setup_of, lines_at, scripted, ending_at, hears, heard, ended_by, ended, is_due, alarms, alarmed, begun_by, starts, before_tick, trail}
-use Rattle.air_log.specs.WindowLogs.{WindowLog, is_alarm, gone_on, closed_log, windows_after}
+use Rattle.air_log.specs.Trails.{Reception, run_end, setup_of, lines_at, scripted, ending_at, hears, heard, ended_by}
+use Rattle.air_log.specs.Trails.{ended, is_due, alarms, alarmed, begun_by, starts, before_tick, trail}
 use Rattle.air_log.proofs.AlarmRows.{IsRoomy, roomy, InRange, IsGoing, alarm_goes}
 use Rattle.air_log.proofs.AlarmLoop.{Sound, SoundBy, step_sound, heard_sound, sent_sound, act_sound, fires, begun_sound, later, early_in_run}
-
--- how many of these opened by their alarm
-abbrev pub by_alarm : List WindowLog → ℕ
-by_alarm [] = 0
-by_alarm (w ∷ ws) = (if w.by_alarm then 1 else 0) + by_alarm ws
-
--- how far a node is in its frame, and in all: this never goes back while it is on
-abbrev place_spent : Stage → ℕ
-place_spent Idle = 0
-place_spent Scanning = 0
-place_spent AwaitFrame = 127
-place_spent (AwaitSlot j) = 2 * j
-place_spent (InWindow j w) = 2 * j + 1
-
-abbrev spent : Node → ℕ
-spent n = 128 * n.frame + place_spent n.stage
-
--- so many windows were opened by their alarm
-abbrev FewBy : Power → ℕ → Type 0
-FewBy (PowerOff boots) k = k ≤ boots * 2 ^ 20
-FewBy (PowerOn n) k = k + 2 ^ 20 ≤ n.core.boot * 2 ^ 20 + spent n
-
-abbrev pub Few : Device → Type 0
-Few d = FewBy d.power (by_alarm d.made.windows)
-
--- one event
-gone_same : (t : ℕ) (e : Event) (x : Option Sending) (u : Window) (logs : List WindowLog) → by_alarm (gone_on t e x u logs) ≡ by_alarm logs
-gone_same t e x u [] = refl
-gone_same t e x u (w ∷ ws) = refl
-
-closed_same : (t : ℕ) (m : Node) (logs : List WindowLog) → by_alarm (closed_log t m logs) ≡ by_alarm logs
-closed_same t m [] = refl
-closed_same t m (w ∷ ws) = refl
-
--- of a window that was opened by this event
-abbrev opens : Event → ℕ
-opens e = if is_alarm e then 1 else 0
-
-one_at_most : (t : ℕ) (e : Event) (x : Option Sending) (n m : Node) (from to : Stage) (logs : List WindowLog) → by_alarm (windows_after t e x n m from to logs) ≤ opens e + by_alarm logs
-one_at_most t e x n m (InWindow j w) (InWindow i u) logs = omega (arith, gone_same t e x u logs)
-one_at_most t e x n m (InWindow j w) Idle logs = omega (arith, closed_same t m logs)
-one_at_most t e x n m (InWindow j w) Scanning logs = omega (arith, closed_same t m logs)
-one_at_most t e x n m (InWindow j w) AwaitFrame logs = omega (arith, closed_same t m logs)
-one_at_most t e x n m (InWindow j w) (AwaitSlot i) logs = omega (arith, closed_same t m logs)
-one_at_most t e x n m Idle (InWindow i u) logs = omega arith
-one_at_most t e x n m Scanning (InWindow i u) logs = omega arith
-one_at_most t e x n m AwaitFrame (InWindow i u) logs = omega arith
-one_at_most t e x n m (AwaitSlot j) (InWindow i u) logs = omega arith
-one_at_most t e x n m Idle Idle logs = omega arith
-one_at_most t e x n m Idle Scanning logs = omega arith
-one_at_most t e x n m Idle AwaitFrame logs = omega arith
-one_at_most t e x n m Idle (AwaitSlot i) logs = omega arith
-one_at_most t e x n m Scanning Idle logs = omega arith
-one_at_most t e x n m Scanning Scanning logs = omega arith
-one_at_most t e x n m Scanning AwaitFrame logs = omega arith
-one_at_most t e x n m Scanning (AwaitSlot i) logs = omega arith
-one_at_most t e x n m AwaitFrame Idle logs = omega arith
-one_at_most t e x n m AwaitFrame Scanning logs = omega arith
-one_at_most t e x n m AwaitFrame AwaitFrame logs = omega arith
-one_at_most t e x n m AwaitFrame (AwaitSlot i) logs = omega arith
-one_at_most t e x n m (AwaitSlot j) Idle logs = omega arith
-one_at_most t e x n m (AwaitSlot j) Scanning logs = omega arith
-one_at_most t e x n m (AwaitSlot j) AwaitFrame logs = omega arith
-one_at_most t e x n m (AwaitSlot j) (AwaitSlot i) logs = omega arith
-
--- power and windows through orders
-abbrev Has : Power → List WindowLog → Device → Type 0
-Has p ws d = (d.power ≡ p) × (d.made.windows ≡ ws)
-
-on_has : (p : Power) (ws : List WindowLog) (rank t : ℕ) (d : Device) (es : List Tuning) → Has p ws d → Has p ws (tunes rank t d es)
-on_has p ws rank t d [] has = has
-on_has p ws rank t d (e ∷ es) has = cond_both _ _ _ (Has p ws) (λ same. has) (λ other. has)
-
-order_has : (clock : ℕ → ℕ) (v t : ℕ) (p : Power) (ws : List WindowLog) (d : Device) (o : Order) → Has p ws d → Has p ws (obeyed clock v t d o)
-order_has clock v t p ws d (Listen rank) has =
-    let x = silenced v t d in
-    cond_both (listens_to rank d.listening) d (tunes rank t x x.made.tuned) (Has p ws) (λ on. has) (λ off. on_has p ws rank t x x.made.tuned has)
-order_has clock v t p ws d Silent has = has
-order_has clock v t p ws d (SendAt local packet) has = has
-order_has clock v t p ws d (AlarmAt local) has = has
-
-orders_have : (clock : ℕ → ℕ) (v t : ℕ) (p : Power) (ws : List WindowLog) (os : List Order) (d : Device) → Has p ws d → Has p ws (fold (obeyed clock v t) d os)
-orders_have clock v t p ws [] d has = has
-orders_have clock v t p ws (o ∷ os) d has = orders_have clock v t p ws os (obeyed clock v t d o) (order_has clock v t p ws d o has)
-
-few_if : (p : Power) (ws : List WindowLog) (d : Device) → Has p ws d → FewBy p (by_alarm ws) → Few d
-few_if p ws d has few = rw (has.0, has.1) few
-
-boot_after : (n : Node) (r : Option Stepped) → KeepsBoot n r → (node_after n r).core.boot ≡ n.core.boot
-boot_after n None kept = refl
-boot_after n (Some r) kept = kept
+use Rattle.air_log.proofs.OpenedByAlarm.{by_alarm, place_spent, FewBy, Few, one_at_most, row_few, heard_few, sent_few, alarm_few}
 
 module _ (s : Setup) (L : ℕ → ℕ) (t : ℕ) where
-  -- a row that opens no more windows than it goes on
-  row_few : (e : Event) (x : Option Sending) (d : Device) (n : Node) → (let m = node_after n (row s n (L t) e) in by_alarm (windows_after t e x n m n.stage m.stage d.made.windows) + spent n ≤ by_alarm d.made.windows + spent m)
-      → FewBy (PowerOn n) (by_alarm d.made.windows) → Few (stepped L s t e x d n)
-  row_few e x d n goes few =
-      let r = row s n (L t) e in
-      let m = node_after n r in
-      let ws = windows_after t e x n m n.stage m.stage d.made.windows in
-      let boot : m.core.boot ≡ n.core.boot = boot_after n r (boot_kept s n (L t) e) in
-      let times : m.core.boot * 2 ^ 20 ≡ n.core.boot * 2 ^ 20 = ap (λ (k : ℕ). k * 2 ^ 20) boot in
-      few_if (PowerOn m) ws (stepped L s t e x d n) (orders_have L s.id t (PowerOn m) ws (orders_by r) (moved t e x d n r) (refl, refl)) (omega (arith, goes, few, times))
-
-  -- hearings
-  scanner_spent : (n : Node) (p : List ℕ) (m : Option Message) → n.stage ≡ Scanning → spent n ≤ spent (node_after n (scanner_hears s n (L t) p m))
-  scanner_spent n p None at = omega arith
-  scanner_spent n p (Some (DataOf d)) at = omega arith
-  scanner_spent n p (Some (RequestOf r)) at = omega arith
-  scanner_spent n p (Some (ScheduleOf x)) at =
-      cond_both (x.plan.rank == rank_of n.core.tune) (Some (joins s n (L t) p x)) None (λ r. spent n ≤ spent (node_after n r)) (λ is. rw at (omega arith)) (λ is. omega arith)
-
-  heard_spent : (n : Node) (p : List ℕ) (stage : Stage) → n.stage ≡ stage → spent n ≤ spent (node_after n (at_heard s n (L t) p stage))
-  heard_spent n p Idle at = omega arith
-  heard_spent n p Scanning at = scanner_spent n p (message_of p) at
-  heard_spent n p AwaitFrame at = omega arith
-  heard_spent n p (AwaitSlot j) at = omega arith
-  heard_spent n p (InWindow j w) at = rw at (omega arith)
-
-  sent_spent : (n : Node) (stage : Stage) → n.stage ≡ stage → spent n ≤ spent (node_after n (at_sent n stage))
-  sent_spent n Idle at = omega arith
-  sent_spent n Scanning at = omega arith
-  sent_spent n AwaitFrame at = omega arith
-  sent_spent n (AwaitSlot j) at = omega arith
-  sent_spent n (InWindow j w) at = cond_both w.flood.waiting (Some (sends n j w)) None (λ r. spent n ≤ spent (node_after n r)) (λ is. rw at (omega arith)) (λ is. omega arith)
-
-  heard_few : (p : List ℕ) (d : Device) (n : Node) → FewBy (PowerOn n) (by_alarm d.made.windows) → Few (stepped L s t (Heard p) None d n)
-  heard_few p d n few =
-      let m = node_after n (row s n (L t) (Heard p)) in
-      row_few (Heard p) None d n (omega (arith, one_at_most t (Heard p) None n m n.stage m.stage d.made.windows, heard_spent n p n.stage refl)) few
-
-  sent_few : (x : Option Sending) (d : Device) (n : Node) → FewBy (PowerOn n) (by_alarm d.made.windows) → Few (stepped L s t Sent x d n)
-  sent_few x d n few =
-      let m = node_after n (row s n (L t) Sent) in
-      row_few Sent x d n (omega (arith, one_at_most t Sent x n m n.stage m.stage d.made.windows, sent_spent n n.stage refl)) few
-
-  -- alarms
-  alarm_spent : (n : Node) (stage : Stage) → n.stage ≡ stage → InRange stage → n.frame < 2 ^ 23 → (stage ≡ Idle) ⊎ (spent n + 1 ≤ spent (node_after n (at_alarm s n stage)))
-  alarm_spent n Idle at range small = inl refl
-  alarm_spent n Scanning at range small = inr (rw at (omega (arith, small)))
-  alarm_spent n AwaitFrame at range small = inr (rw at (omega (arith, small)))
-  alarm_spent n (AwaitSlot j) at range small = inr (rw at (omega arith))
-  alarm_spent n (InWindow j w) at range small =
-      inr (rw at (cond_both (nat_lt j w.last) (AwaitSlot (j + 1)) AwaitFrame (λ x. 128 * n.frame + (2 * j + 1) + 1 ≤ 128 * n.frame + place_spent x) (λ is. omega arith) (λ is. omega (arith, range.0))))
-
-  alarm_few : (d : Device) (n : Node) → InRange n.stage → n.frame < 2 ^ 23 → FewBy (PowerOn n) (by_alarm d.made.windows) → Few (stepped L s t Alarm None d n)
-  alarm_few d n range small few =
-      let m = node_after n (row s n (L t) Alarm) in
-      row_few Alarm None d n
-      (elim (alarm_spent n n.stage refl range small) [
-        | inl idle ↦ rw idle (omega arith)
-        | inr rises ↦ omega (arith, one_at_most t Alarm None n m n.stage m.stage d.made.windows, rises)
-      ])
-      few
-
   -- what holds of a device through a tick
   pub record Goes_few (d : Device) : Type 0 where
     pub sound : Sound s L t d
     pub few : Few d
 
   module _ (room : IsRoomy s.profile) where
-    heard_both : (p : List ℕ) (d : Device) (power : Power) → d.power ≡ power → SoundBy s L t power d.alarm → FewBy power (by_alarm d.made.windows) → Goes_few (event_by L s t (Heard p) None d power)
+    heard_both : (p : List ℕ) (d : Device) (power : Power) → d.power ≡ power → SoundBy s L t power d.alarm → FewBy power (by_alarm d.made.windows)
+        → Goes_few (event_by L s t (Heard p) None d power)
     heard_both p d (PowerOff boots) at sound few = record { sound = rw at sound; few = rw at few }
-    heard_both p d (PowerOn n) at sound few = record { sound = heard_sound s L t room p d (PowerOn n) sound at; few = heard_few p d n few }
+    heard_both p d (PowerOn n) at sound few = record { sound = heard_sound s L t room p d (PowerOn n) sound at; few = heard_few s L t p d n few }
 
-    sent_both : (x : Option Sending) (d : Device) (power : Power) → d.power ≡ power → SoundBy s L t power d.alarm → FewBy power (by_alarm d.made.windows) → Goes_few (event_by L s t Sent x d power)
+    sent_both : (x : Option Sending) (d : Device) (power : Power) → d.power ≡ power → SoundBy s L t power d.alarm → FewBy power (by_alarm d.made.windows)
+        → Goes_few (event_by L s t Sent x d power)
     sent_both x d (PowerOff boots) at sound few = record { sound = rw at sound; few = rw at few }
-    sent_both x d (PowerOn n) at sound few = record { sound = sent_sound s L t room x d (PowerOn n) sound at; few = sent_few x d n few }
+    sent_both x d (PowerOn n) at sound few = record { sound = sent_sound s L t room x d (PowerOn n) sound at; few = sent_few s L t x d n few }
 
     hearings_both : (hs : List Reception) (d : Device) → Goes_few d → Goes_few (fold (hears L s t) d hs)
     hearings_both [] d both = both
@@ -218,16 +60,18 @@ module _ (s : Setup) (L : ℕ → ℕ) (t : ℕ) where
 
     begun_few : (d : Device) (o : Option Ordered) → Few d → Few (begun_by s t d o)
     begun_few d None few = few
-    begun_few d (Some o) few = cond_both (o.tick == t) (starts s t o.packet d d.listening d.sending) d Few (λ is. starts_few o.packet d d.listening d.sending few) (λ is. few)
+    begun_few d (Some o) few =
+        cond_both (o.tick == t) (starts s t o.packet d d.listening d.sending) d Few (λ is. starts_few o.packet d d.listening d.sending few) (λ is. few)
 
     module _ (clock : IsClock L) (early : t ≤ 2 ^ 45) (in_run : (n : Node) → IsGoing s L t n → n.frame < 2 ^ 13) where
-      alarm_both : (d : Device) (power : Power) → d.power ≡ power → is_due t d.alarm ≡ true → SoundBy s L t power d.alarm → FewBy power (by_alarm d.made.windows) → Goes_few (event_by L s t Alarm None (record d { alarm = None }) power)
+      alarm_both : (d : Device) (power : Power) → d.power ≡ power → is_due t d.alarm ≡ true → SoundBy s L t power d.alarm
+          → FewBy power (by_alarm d.made.windows) → Goes_few (event_by L s t Alarm None (record d { alarm = None }) power)
       alarm_both d (PowerOff boots) at due sound few = absurd (true≢false (sym due ∙ ap (is_due t) sound))
       alarm_both d (PowerOn n) at due sound few =
           let x : Device = record d { alarm = None } in
           let goes = (alarm_goes s L t room clock early n n.stage refl sound.0 (fires s L t room clock early n.stage n.frame d.alarm due sound.1)).0 in
           let frame = in_run n sound.0 in
-          record { sound = step_sound s L t Alarm None x n goes; few = alarm_few x n sound.0.stage (omega (arith, frame)) few }
+          record { sound = step_sound s L t Alarm None x n goes; few = alarm_few s L t x n sound.0.stage (omega (arith, frame)) few }
 
       alarms_both : (more : ℕ) (b : Bool) (d : Device) → is_due t d.alarm ≡ b → Goes_few d → Goes_few (alarms L s t b more d)
       unfolding alarms
@@ -238,11 +82,13 @@ module _ (s : Setup) (L : ℕ → ℕ) (t : ℕ) where
           alarms_both more (is_due t e.alarm) e refl (alarm_both d d.power refl due both.sound both.few)
 
       -- power comes on with a boot more, and goes off
-      booted : (b : ℕ) (d : Device) → by_alarm d.made.windows ≤ b * 2 ^ 20 → Few (stepped L s t Boot None (record d { power = PowerOn (rebooted (b + 1)) }) (rebooted (b + 1)))
+      booted : (b : ℕ) (d : Device) → by_alarm d.made.windows ≤ b * 2 ^ 20
+          → Few (stepped L s t Boot None (record d { power = PowerOn (rebooted (b + 1)) }) (rebooted (b + 1)))
       booted b d few =
           let n = rebooted (b + 1) in
           let m = node_after n (row s n (L t) Boot) in
-          row_few Boot None (record d { power = PowerOn n }) n (omega (arith, one_at_most t Boot None n m n.stage m.stage d.made.windows)) (omega (arith, few))
+          row_few s L t Boot None (record d { power = PowerOn n }) n (omega (arith, one_at_most t Boot None n m n.stage m.stage d.made.windows))
+          (omega (arith, few))
 
       in_frame : (stage : Stage) → InRange stage → place_spent stage ≤ 127
       in_frame Idle range = omega arith
@@ -254,7 +100,8 @@ module _ (s : Setup) (L : ℕ → ℕ) (t : ℕ) where
       pub off_few : (n : Node) (k : ℕ) → IsGoing s L t n → FewBy (PowerOn n) k → k ≤ n.core.boot * 2 ^ 20
       off_few n k going few = omega (arith, few, in_run n going, in_frame n.stage going.stage)
 
-      act_few : (frame : ℕ) (d : Device) (a : Act) (power : Power) → d.power ≡ power → SoundBy s L t power d.alarm → FewBy power (by_alarm d.made.windows) → Few (after_act L s t frame d a power)
+      act_few : (frame : ℕ) (d : Device) (a : Act) (power : Power) → d.power ≡ power → SoundBy s L t power d.alarm → FewBy power (by_alarm d.made.windows)
+          → Few (after_act L s t frame d a power)
       act_few frame d On (PowerOff b) at sound few = booted b d few
       act_few frame d On (PowerOn n) at sound few = rw at few
       act_few frame d Off (PowerOff b) at sound few = rw at few
@@ -270,7 +117,8 @@ module _ (s : Setup) (L : ℕ → ℕ) (t : ℕ) where
       lines_both : (ls : List ScriptLine) (d : Device) → Goes_few d → Goes_few (fold (after_line L s t) d ls)
       lines_both [] d both = both
       lines_both (l ∷ ls) d both =
-          lines_both ls (after_line L s t d l) (record { sound = act_sound s L t room l.frame d l.act d.power refl both.sound; few = act_few l.frame d l.act d.power refl both.sound both.few })
+          lines_both ls (after_line L s t d l)
+          (record { sound = act_sound s L t room l.frame d l.act d.power refl both.sound; few = act_few l.frame d l.act d.power refl both.sound both.few })
 
 -- a whole run
 module _ (s : ScenarioParts) (v : ℕ) (L : ℕ → ℕ) (hs : List Reception) (sound : IsSoundScenario s) (clock : IsClock L) where
@@ -308,7 +156,10 @@ module _ (s : ScenarioParts) (v : ℕ) (L : ℕ → ℕ) (hs : List Reception) (
       let four = alarms_both x L t room clock early (in_run t less) (L t + 300) (is_due t d3.alarm) d3 refl three in
       let d4 = alarmed L x t d3 in
       let on = never_back L t (suc t) clock (omega arith) (omega (arith, early)) in
-      record { sound = later x L t (begun_by x t d4 d4.ordered) on (begun_sound x L t d4 d4.ordered four.sound); few = begun_few x L t room d4 d4.ordered four.few }
+      record {
+        sound = later x L t (begun_by x t d4 d4.ordered) on (begun_sound x L t d4 d4.ordered four.sound);
+        few = begun_few x L t room d4 d4.ordered four.few;
+      }
 
   -- the boots of a node that is on or off
   abbrev pub boots_of : Power → ℕ
@@ -318,6 +169,10 @@ module _ (s : ScenarioParts) (v : ℕ) (L : ℕ → ℕ) (hs : List Reception) (
   pub few_windows : by_alarm (trail s v L hs).made.windows ≤ boots_of (before_tick s v L hs (run_end s)).power * 2 ^ 20
   few_windows = let both = at_tick (run_end s) (omega arith) in by (before_tick s v L hs (run_end s)).power both.sound both.few
     where
-      by : (power : Power) → SoundBy (setup_of s v) L (run_end s) power (before_tick s v L hs (run_end s)).alarm → FewBy power (by_alarm (before_tick s v L hs (run_end s)).made.windows) → by_alarm (before_tick s v L hs (run_end s)).made.windows ≤ boots_of power * 2 ^ 20
+      by : (power : Power) → SoundBy (setup_of s v) L (run_end s) power (before_tick s v L hs (run_end s)).alarm
+          → FewBy power (by_alarm (before_tick s v L hs (run_end s)).made.windows)
+          → by_alarm (before_tick s v L hs (run_end s)).made.windows ≤ boots_of power * 2 ^ 20
       by (PowerOff boots) going few = few
-      by (PowerOn n) going few = off_few (setup_of s v) L (run_end s) room clock (early_in_run s (run_end s) sound (omega arith)) (in_run (run_end s) (omega arith)) n (by_alarm (before_tick s v L hs (run_end s)).made.windows) going.0 few
+      by (PowerOn n) going few =
+          off_few (setup_of s v) L (run_end s) room clock (early_in_run s (run_end s) sound (omega arith)) (in_run (run_end s) (omega arith)) n
+          (by_alarm (before_tick s v L hs (run_end s)).made.windows) going.0 few

@@ -54,11 +54,13 @@ other_worked : IsWorked first_round (by_ticks 2 heard_by_other other_ticks) sent
 unfolding least digits number schedule_of asks_in schedule_heard host_plan plan_round turns
 other_worked = record { sendings = refl; tunings = refl; charge = refl; last = refl }
 
-of_trail : (v : ℕ) (hs : List Reception) (ticks : List ℕ) → goes_through (λ x. x) (λ t. t) first_round v hs 1536000000 0 ticks at_rest ≡ true → trail first_round v (true_time v) hs ≡ by_ticks v hs ticks
+of_trail : (v : ℕ) (hs : List Reception) (ticks : List ℕ) → goes_through (λ x. x) (λ t. t) first_round v hs 1536000000 0 ticks at_rest ≡ true
+    → trail first_round v (true_time v) hs ≡ by_ticks v hs ticks
 of_trail v hs ticks goes = ap (silenced v 1536000000) (computed (λ t. t) (λ x. x) true_due first_round v hs 1536000000 ticks goes)
 
 module _ (sent : List Sending) (tuned : List Tuning) (windows : ℕ) (tune : Tune) where
-  worked : (v : ℕ) (hs : List Reception) (ticks : List ℕ) → goes_through (λ x. x) (λ t. t) first_round v hs 1536000000 0 ticks at_rest ≡ true → IsWorked first_round (by_ticks v hs ticks) sent tuned windows tune
+  worked : (v : ℕ) (hs : List Reception) (ticks : List ℕ) → goes_through (λ x. x) (λ t. t) first_round v hs 1536000000 0 ticks at_rest ≡ true
+      → IsWorked first_round (by_ticks v hs ticks) sent tuned windows tune
       → IsWorked first_round (trail first_round v (true_time v) hs) sent tuned windows tune
   worked v hs ticks goes all = subst (λ (d : Device). IsWorked first_round d sent tuned windows tune) (sym (of_trail v hs ticks goes)) all
 

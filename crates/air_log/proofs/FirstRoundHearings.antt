@@ -1,5 +1,6 @@
 -- The hearings of the worked first round are those of the rule of the air.
-use Rattle.std.proofs.Common.{◌≡◌, ◌≢◌, ℕ, ◌+◌, ◌<◌, ◌≤◌, List, [], ◌∷◌, ◌++◌, Bool, true, false, not, ◌==◌, ◌&&◌, ◌||◌, nat_lt, nat_le, get_or, Contains, All, AllPairs, refl, sym, ◌∙◌, ap, subst, arith, inl, inr, ◌⊎◌, true≢false, eqb-true, ltb-true, lt-ltb}
+use Rattle.std.proofs.Common.{◌≡◌, ◌≢◌, ℕ, ◌+◌, ◌<◌, ◌≤◌, List, [], ◌∷◌, ◌++◌, Bool, true, false, not, ◌==◌, ◌&&◌, ◌||◌, nat_lt, nat_le, get_or, Contains}
+use Rattle.std.proofs.Common.{All, AllPairs, refl, sym, ◌∙◌, ap, subst, arith, inl, inr, ◌⊎◌, true≢false, eqb-true, ltb-true, lt-ltb}
 use Rattle.std.specs.List.{list_all, list_any}
 use Rattle.std.proofs.lemmas.Bool.{and_parts, and_from, leb-true, le-leb}
 use Rattle.std.proofs.lemmas.List.Elements.{All-nil, All-cons}
@@ -72,27 +73,105 @@ record IsGood (h : Hearing) : Type 0 where
 hears_it : (h : Hearing) → IsGood h → Hears scene h.node h.sending
 hears_it h good = record {
   sent = good.sent;
-  tuned = λ t from below. record { tuning = good.tuning; there = good.there; node = good.node; rank = good.rank; since = omega (arith, good.since, from); until = omega (arith, good.until, below) };
+  tuned =
+      λ t from below. record {
+        tuning = good.tuning;
+        there = good.there;
+        node = good.node;
+        rank = good.rank;
+        since = omega (arith, good.since, from);
+        until = omega (arith, good.until, below);
+      };
   silent = λ y there node meets. good.other (ap (λ (w : Sending). w.node) (meets_self sent_in_round round_in_turn h.sending y good.sent there meets) ∙ node);
   arrives = good.arrives;
-  first = λ y rival same. subst (λ (w : Sending). Before h.sending w) (meets_self sent_in_round round_in_turn h.sending y good.sent rival.sent rival.meets) (record { start = omega arith; node = λ is. omega arith });
-  close = λ y rival same. subst (λ (w : Sending). w.start ≤ h.sending.start + scene.numbers.delta) (meets_self sent_in_round round_in_turn h.sending y good.sent rival.sent rival.meets) (omega arith);
+  first =
+      λ y rival same. subst (λ (w : Sending). Before h.sending w) (meets_self sent_in_round round_in_turn h.sending y good.sent rival.sent rival.meets)
+      (record { start = omega arith; node = λ is. omega arith });
+  close =
+      λ y rival same. subst (λ (w : Sending). w.start ≤ h.sending.start + scene.numbers.delta)
+      (meets_self sent_in_round round_in_turn h.sending y good.sent rival.sent rival.meets) (omega arith);
   chosen = inl (λ y rival. ap (λ (w : Sending). w.packet) (sym (meets_self sent_in_round round_in_turn h.sending y good.sent rival.sent rival.meets)));
 }
 
 all_good : Each IsGood heard_in_round
 all_good = (
-  record { sent = (0, omega arith, refl); tuning = get_or tuned_in_round 6 none; there = (6, omega arith, refl); node = refl; rank = refl; since = omega arith; until = omega arith; other = omega arith; arrives = refl; in_run = omega arith },
+  record {
+    sent = (0, omega arith, refl);
+    tuning = get_or tuned_in_round 6 none;
+    there = (6, omega arith, refl);
+    node = refl;
+    rank = refl;
+    since = omega arith;
+    until = omega arith;
+    other = omega arith;
+    arrives = refl;
+    in_run = omega arith;
+  },
   (
-    record { sent = (1, omega arith, refl); tuning = get_or tuned_in_round 2 none; there = (2, omega arith, refl); node = refl; rank = refl; since = omega arith; until = omega arith; other = omega arith; arrives = refl; in_run = omega arith },
+    record {
+      sent = (1, omega arith, refl);
+      tuning = get_or tuned_in_round 2 none;
+      there = (2, omega arith, refl);
+      node = refl;
+      rank = refl;
+      since = omega arith;
+      until = omega arith;
+      other = omega arith;
+      arrives = refl;
+      in_run = omega arith;
+    },
     (
-      record { sent = (2, omega arith, refl); tuning = get_or tuned_in_round 6 none; there = (6, omega arith, refl); node = refl; rank = refl; since = omega arith; until = omega arith; other = omega arith; arrives = refl; in_run = omega arith },
+      record {
+        sent = (2, omega arith, refl);
+        tuning = get_or tuned_in_round 6 none;
+        there = (6, omega arith, refl);
+        node = refl;
+        rank = refl;
+        since = omega arith;
+        until = omega arith;
+        other = omega arith;
+        arrives = refl;
+        in_run = omega arith;
+      },
       (
-        record { sent = (4, omega arith, refl); tuning = get_or tuned_in_round 4 none; there = (4, omega arith, refl); node = refl; rank = refl; since = omega arith; until = omega arith; other = omega arith; arrives = refl; in_run = omega arith },
+        record {
+          sent = (4, omega arith, refl);
+          tuning = get_or tuned_in_round 4 none;
+          there = (4, omega arith, refl);
+          node = refl;
+          rank = refl;
+          since = omega arith;
+          until = omega arith;
+          other = omega arith;
+          arrives = refl;
+          in_run = omega arith;
+        },
         (
-          record { sent = (5, omega arith, refl); tuning = get_or tuned_in_round 0 none; there = (0, omega arith, refl); node = refl; rank = refl; since = omega arith; until = omega arith; other = omega arith; arrives = refl; in_run = omega arith },
+          record {
+            sent = (5, omega arith, refl);
+            tuning = get_or tuned_in_round 0 none;
+            there = (0, omega arith, refl);
+            node = refl;
+            rank = refl;
+            since = omega arith;
+            until = omega arith;
+            other = omega arith;
+            arrives = refl;
+            in_run = omega arith;
+          },
           (
-            record { sent = (6, omega arith, refl); tuning = get_or tuned_in_round 4 none; there = (4, omega arith, refl); node = refl; rank = refl; since = omega arith; until = omega arith; other = omega arith; arrives = refl; in_run = omega arith },
+            record {
+              sent = (6, omega arith, refl);
+              tuning = get_or tuned_in_round 4 none;
+              there = (4, omega arith, refl);
+              node = refl;
+              rank = refl;
+              since = omega arith;
+              until = omega arith;
+              other = omega arith;
+              arrives = refl;
+              in_run = omega arith;
+            },
             tt,
           ),
         ),
@@ -114,12 +193,15 @@ is_covered x = list_all (covers x) tuned_in_round
 covered : list_all is_covered sent_in_round ≡ true
 covered = refl
 
-some_hearing : (u start : ℕ) (hs : List Hearing) → list_any (λ (h : Hearing). (h.node == u) && (h.sending.start == start)) hs ≡ true → (h : Hearing) × Contains hs h × (h.node ≡ u) × (h.sending.start ≡ start)
+some_hearing : (u start : ℕ) (hs : List Hearing) → list_any (λ (h : Hearing). (h.node == u) && (h.sending.start == start)) hs ≡ true
+    → (h : Hearing) × Contains hs h × (h.node ≡ u) × (h.sending.start ≡ start)
 some_hearing u start [] is = absurd (true≢false (sym is))
 some_hearing u start (h ∷ hs) is = by_test ((h.node == u) && (h.sending.start == start)) refl is (some_hearing u start hs)
   where
-    by_test : (b : Bool) → ((h.node == u) && (h.sending.start == start)) ≡ b → (b || list_any (λ (h : Hearing). (h.node == u) && (h.sending.start == start)) hs) ≡ true
-        → (list_any (λ (h : Hearing). (h.node == u) && (h.sending.start == start)) hs ≡ true → (g : Hearing) × Contains hs g × (g.node ≡ u) × (g.sending.start ≡ start))
+    by_test : (b : Bool) → ((h.node == u) && (h.sending.start == start)) ≡ b
+        → (b || list_any (λ (h : Hearing). (h.node == u) && (h.sending.start == start)) hs) ≡ true
+        → (list_any (λ (h : Hearing). (h.node == u) && (h.sending.start == start)) hs ≡ true
+        → (g : Hearing) × Contains hs g × (g.node ≡ u) × (g.sending.start ≡ start))
         → (g : Hearing) × Contains (h ∷ hs) g × (g.node ≡ u) × (g.sending.start ≡ start)
     by_test true at is rest = let both = and_parts _ _ at in (h, contains_head h hs, eqb-true h.node u both.0, eqb-true h.sending.start start both.1)
     by_test false at is rest = let g = rest is in (g.0, contains_tail h hs g.0 g.1, g.2, g.3)
@@ -144,13 +226,16 @@ heard_there v x hears =
     let on : IsTuned scene v x.rank x.start = hears.tuned x.start (omega arith) long in
     let cover = all_passes (covers x) tuned_in_round (all_passes is_covered sent_in_round covered x hears.sent) on.tuning on.there in
     let self : x.node ≡ v → ⊥ = λ is. hears.silent x hears.sent is (record { before = long; after = long }) in
-    let among = from_cover _ _ _ cover (λ is. self (sym (eqb-true on.tuning.node x.node is) ∙ on.node)) (and_from _ _ (le-leb on.tuning.start x.start on.since) (lt-ltb x.start on.tuning.end on.until)) in
+    let among = from_cover _ _ _ cover (λ is. self (sym (eqb-true on.tuning.node x.node is) ∙ on.node))
+    (and_from _ _ (le-leb on.tuning.start x.start on.since) (lt-ltb x.start on.tuning.end on.until)) in
     let h = some_hearing on.tuning.node x.start heard_in_round among in
     let good = each_at IsGood heard_in_round h.0 all_good h.1 in
     let whole : h.0.sending.start < h.0.sending.end = takes_time h.0.sending good.sent in
-    let same : h.0.sending ≡ x = meets_self sent_in_round round_in_turn h.0.sending x good.sent hears.sent (record { before = omega (arith, h.3, long); after = omega (arith, h.3, whole) }) in
+    let same : h.0.sending ≡ x = meets_self sent_in_round round_in_turn h.0.sending x good.sent hears.sent
+    (record { before = omega (arith, h.3, long); after = omega (arith, h.3, whole) }) in
     let node : h.0.node ≡ v = h.2 ∙ on.node in
-    let is : h.0 ≡ record { node = v; sending = x } = ap (λ (n : ℕ). record { node = n; sending = h.0.sending }) node ∙ ap (λ (y : Sending). record { node = v; sending = y }) same in
+    let is : h.0 ≡ record { node = v; sending = x } =
+    ap (λ (n : ℕ). record { node = n; sending = h.0.sending }) node ∙ ap (λ (y : Sending). record { node = v; sending = y }) same in
     subst (λ (g : Hearing). Contains heard_in_round g) is h.1
 
 -- no hearing stands twice
@@ -162,7 +247,8 @@ apart : (g : Hearing) (hs : List Hearing) → list_all (λ (h : Hearing). nat_lt
 apart g [] all = All-nil (λ h. g ≢ h)
 apart g (h ∷ hs) all =
     let both = and_parts _ _ all in
-    All-cons (λ h. g ≢ h) h hs (λ is. omega (arith, ltb-true g.sending.start h.sending.start both.0, ap (λ (k : Hearing). k.sending.start) is)) (apart g hs both.1)
+    All-cons (λ h. g ≢ h) h hs (λ is. omega (arith, ltb-true g.sending.start h.sending.start both.0, ap (λ (k : Hearing). k.sending.start) is))
+    (apart g hs both.1)
 
 rises : (hs : List Hearing) → Rising hs → AllPairs (λ g h. g ≢ h) hs
 rises [] rising = λ i j d less within. absurd (omega (arith, within))
@@ -170,6 +256,11 @@ rises (g ∷ gs) rising = AllPairs-cons (λ g h. g ≢ h) g gs (apart g gs risin
 
 pub follows_hearing : FollowsHearing first_round first_round_log
 follows_hearing = record {
-  heard = λ v x. ((λ there. (let good = each_at IsGood heard_in_round (record { node = v; sending = x }) all_good there in (good.in_run, hears_it (record { node = v; sending = x }) good))), (λ is. heard_there v x is.1));
+  heard =
+      λ v x. (
+        (λ there. (let good = each_at IsGood heard_in_round (record { node = v; sending = x }) all_good there in
+            (good.in_run, hears_it (record { node = v; sending = x }) good))),
+        (λ is. heard_there v x is.1),
+      );
   once = rises heard_in_round (refl, (refl, (refl, (refl, (refl, (refl, tt))))));
 }

@@ -28,10 +28,14 @@ unknown : (v : ℕ) → v ≢ 1 → v ≢ 2 → knows first_round.nodes v ≡ fa
 unknown v one two = rw (ne_eqb 1 v (λ is. one (sym is))) rw (ne_eqb 2 v (λ is. two (sym is))) refl
 
 no_sent : (v : ℕ) → v ≢ 1 → v ≢ 2 → sent_by first_round_log v ≡ []
-no_sent v one two = none_passes (λ (x : Sending). x.node == v) sent_in_round (λ x there is. from_either x.node v (all_passes (λ (y : Sending). of_either y.node) sent_in_round refl x there) one two (eqb-true x.node v is))
+no_sent v one two =
+    none_passes (λ (x : Sending). x.node == v) sent_in_round
+    (λ x there is. from_either x.node v (all_passes (λ (y : Sending). of_either y.node) sent_in_round refl x there) one two (eqb-true x.node v is))
 
 no_tuned : (v : ℕ) → v ≢ 1 → v ≢ 2 → tuned_by first_round_log v ≡ []
-no_tuned v one two = none_passes (λ (e : Tuning). e.node == v) tuned_in_round (λ e there is. from_either e.node v (all_passes (λ (d : Tuning). of_either d.node) tuned_in_round refl e there) one two (eqb-true e.node v is))
+no_tuned v one two =
+    none_passes (λ (e : Tuning). e.node == v) tuned_in_round
+    (λ e there is. from_either e.node v (all_passes (λ (d : Tuning). of_either d.node) tuned_in_round refl e there) one two (eqb-true e.node v is))
 
 none_sent : (v : ℕ) → v ≢ 1 → v ≢ 2 → trail_sent first_round true_time first_round_log v ≡ []
 none_sent v one two = rw (unknown v one two) refl

@@ -1,5 +1,6 @@
 -- The ticks of a frame at which something is due, one after another.
-use Rattle.std.proofs.Common.{◌≡◌, ◌⊎◌, inl, inr, ℕ, ◌+◌, ◌*◌, ◌^◌, ◌<◌, ◌≤◌, List, [], ◌∷◌, map, fold, Bool, true, false, ◌==◌, if◌then◌else◌, nat_lt, Option, Some, None, option_map, IfSome, refl, sym, ◌∙◌, ap, subst, arith, mul-le-mul_right, add-one, ltb-true, lt-ltb, eqb-true}
+use Rattle.std.proofs.Common.{◌≡◌, ◌⊎◌, inl, inr, ℕ, ◌+◌, ◌*◌, ◌^◌, ◌<◌, ◌≤◌, List, [], ◌∷◌, map, fold, Bool, true, false, ◌==◌, if◌then◌else◌, nat_lt, Option}
+use Rattle.std.proofs.Common.{Some, None, IfSome, refl, sym, ◌∙◌, ap, subst, arith, mul-le-mul_right, add-one, ltb-true, lt-ltb, eqb-true}
 use Rattle.std.specs.Prelude.{slice_get, Contains}
 use Rattle.std.proofs.lemmas.Bool.{cond_both, cond-true, cond-false, and_parts, ltb-false}
 use Rattle.std.proofs.lemmas.Option.{slice_get-get_or}
@@ -15,15 +16,17 @@ use Rattle.lwb_base.specs.declared.event.Event.TheVariants.{Heard, Sent}
 use Rattle.air_log.specs.Devices.{Device, Ordered, event, seen_power}
 use Rattle.air_log.proofs.KeptPower.{event_power, alarmed_power, begun_power}
 use Rattle.air_log.specs.ScriptedDevices.{after_line}
-use Rattle.air_log.specs.DeviceStates.{DeviceState}
-use Rattle.air_log.specs.Trails.{Reception, setup_of, run_end, frame_start, lines_at, scripted, at_frame, before_tick, hears, heard, ending_at, ended, ended_by, alarmed}
-use Rattle.air_log.specs.Courses.{CourseState, Shows, IsShownEnding, IsCut, Ascends, AlarmsEnd, end_of, reception_in, tick_of as ordered_tick, sending_end, least_of, least_due, before_alarms_in, after_lines}
+use Rattle.air_log.specs.Trails.{Reception, setup_of, run_end, frame_start, lines_at, scripted, at_frame}
+use Rattle.air_log.specs.Trails.{before_tick, hears, heard, ending_at, ended, ended_by, alarmed}
+use Rattle.air_log.specs.Courses.{CourseState, Shows, IsShownEnding, IsCut, Ascends, AlarmsEnd, end_of, reception_in}
+use Rattle.air_log.specs.Courses.{least_due, before_alarms_in, after_lines}
 use Rattle.air_log.proofs.AlarmLoop.{early_in_run}
 use Rattle.air_log.proofs.AlarmRuns.{alarms_are_run}
 use Rattle.air_log.proofs.Elements.{map_from}
 use Rattle.air_log.proofs.NextDue.{is_ahead, none_passes, until_next}
-use Rattle.air_log.proofs.CourseSteps.{shows_as, shows_later}
+use Rattle.air_log.proofs.ShownCourses.{shows_as, shows_later}
 use Rattle.air_log.proofs.ListCuts.{cut_later}
+use Rattle.air_log.proofs.LeastDue.{IsLeast, is_least, no_earlier}
 
 -- the tick at which a frame starts, as it is computed
 pub tick_of : (s : ScenarioParts) (f i j : ℕ) (p : Numbers) → i ≡ f → j ≡ p.frame → p ≡ s.profile → i * j ≡ frame_start s f
@@ -39,60 +42,6 @@ next_start s f = omega arith
 pub start_early : (s : ScenarioParts) (f : ℕ) → IsSoundScenario s → f < s.frames → frame_start s f ≤ 2 ^ 45
 start_early s f sound within = early_in_run s (frame_start s f) sound (omega (arith, in_run s f within, next_start s f))
 
--- the least of what is due comes no later than any of it
-least_below : (t : ℕ) (o : Option ℕ) → (least_of t o ≤ t) × IfSome o (λ u. least_of t o ≤ u)
-least_below t None = (omega arith, tt)
-least_below t (Some u) = (omega arith, omega arith)
-
-least_above : (a t : ℕ) (o : Option ℕ) → a ≤ t → IfSome o (λ u. a ≤ u) → a ≤ least_of t o
-least_above a t None le some = le
-least_above a t (Some u) le some = omega (arith, le, some)
-
-if_some_map : {X : Type 0} (g : X → ℕ) (o : Option X) (P : ℕ → Type 0) → IfSome o (λ x. P (g x)) → IfSome (option_map g o) P
-if_some_map g None P some = tt
-if_some_map g (Some x) P some = some
-
-from_some_map : {X : Type 0} (g : X → ℕ) (o : Option X) (P : ℕ → Type 0) → IfSome (option_map g o) P → IfSome o (λ x. P (g x))
-from_some_map g None P some = tt
-from_some_map g (Some x) P some = some
-
-if_some_weaker : (o : Option ℕ) (a b : ℕ) → a ≤ b → IfSome o (λ u. b ≤ u) → IfSome o (λ u. a ≤ u)
-if_some_weaker None a b le some = tt
-if_some_weaker (Some u) a b le some = omega (arith, le, some)
-
-pub record IsLeast (d : DeviceState) (h : Option HeardEntry) (until u : ℕ) : Type 0 where
-  pub within : u ≤ until
-  pub alarm : IfSome d.alarm (λ x. u ≤ x)
-  pub ordered : IfSome d.ordered (λ o. u ≤ o.tick)
-  pub sending : IfSome d.sending (λ x. u ≤ x.end)
-  pub next : IfSome h (λ x. u ≤ x.end)
-
-pub is_least : (d : DeviceState) (h : Option HeardEntry) (until : ℕ) → IsLeast d h until (least_due d h until)
-is_least d h until =
-    let a = least_of until d.alarm in
-    let b = least_of a (option_map ordered_tick d.ordered) in
-    let e = least_of b (option_map sending_end d.sending) in
-    let u = least_of e (option_map end_of h) in
-    let one = least_below until d.alarm in
-    let two = least_below a (option_map ordered_tick d.ordered) in
-    let three = least_below b (option_map sending_end d.sending) in
-    let four = least_below e (option_map end_of h) in
-    record {
-      within = omega (arith, one.0, two.0, three.0, four.0);
-      alarm = if_some_weaker d.alarm u a (omega (arith, two.0, three.0, four.0)) one.1;
-      ordered = from_some_map ordered_tick d.ordered (λ x. u ≤ x) (if_some_weaker (option_map ordered_tick d.ordered) u b (omega (arith, three.0, four.0)) two.1);
-      sending = from_some_map sending_end d.sending (λ x. u ≤ x) (if_some_weaker (option_map sending_end d.sending) u e (omega (arith, four.0)) three.1);
-      next = from_some_map end_of h (λ x. u ≤ x) four.1;
-    }
-
-pub no_earlier : (d : DeviceState) (h : Option HeardEntry) (until a : ℕ) → a ≤ until → IfSome d.alarm (λ x. a ≤ x) → IfSome d.ordered (λ o. a ≤ o.tick) → IfSome d.sending (λ x. a ≤ x.end) → IfSome h (λ x. a ≤ x.end) → a ≤ least_due d h until
-no_earlier d h until a within alarm ordered sending next =
-    least_above a _ (option_map end_of h)
-    (least_above a _ (option_map sending_end d.sending)
-    (least_above a _ (option_map ordered_tick d.ordered) (least_above a until d.alarm within alarm) (if_some_map ordered_tick d.ordered (λ x. a ≤ x) ordered))
-    (if_some_map sending_end d.sending (λ x. a ≤ x) sending))
-    (if_some_map end_of h (λ x. a ≤ x) next)
-
 -- a tick changes no power but by its lines
 module _ (clock : ℕ → ℕ) (q : Setup) (t : ℕ) where
   hearings_power : (es : List Reception) (d : Device) → seen_power (fold (hears clock q t) d es).power ≡ seen_power d.power
@@ -103,7 +52,8 @@ module _ (clock : ℕ → ℕ) (q : Setup) (t : ℕ) where
   end_power d None = refl
   end_power d (Some x) =
       let y : Device = record d { sending = None } in
-      cond_both (x.end == t) (event clock q t Sent (Some x) y) d (λ (e : Device). seen_power e.power ≡ seen_power d.power) (λ is. event_power clock q t Sent (Some x) y) (λ is. refl)
+      cond_both (x.end == t) (event clock q t Sent (Some x) y) d (λ (e : Device). seen_power e.power ≡ seen_power d.power)
+      (λ is. event_power clock q t Sent (Some x) y) (λ is. refl)
 
   pub tick_power : (es : List Reception) (d : Device) → seen_power (after_lines clock q t es d).power ≡ seen_power d.power
   tick_power es d =
@@ -133,10 +83,12 @@ module _ (clock : ℕ → ℕ) (s : ScenarioParts) (hs : List HeardEntry) (f : �
     cut = cut;
     power = refl;
     shows = λ v shows. shows_as (setup_of s v) (frame_start s f) c (at_frame s v clock rs f) (point v (frame_start s f)) shows
-        (sym (cond-true (nat_lt (frame_start s f) (frame_start s (f + 1))) (at_frame s v clock rs f) (before_tick s v clock rs (frame_start s f)) (lt-ltb (frame_start s f) (frame_start s (f + 1)) (omega (arith, next_start s f, some)))));
+        (sym (cond-true (nat_lt (frame_start s f) (frame_start s (f + 1))) (at_frame s v clock rs f) (before_tick s v clock rs (frame_start s f))
+        (lt-ltb (frame_start s f) (frame_start s (f + 1)) (omega (arith, next_start s f, some)))));
   })
 
-  module _ (sound : IsSoundScenario s) (drifts : IsClock clock) (in_frames : f < s.frames) (t k : ℕ) (old now : CourseState) (at : IsAtTick t k old now) (less : t < frame_start s (f + 1)) where
+  module _ (sound : IsSoundScenario s) (drifts : IsClock clock) (in_frames : f < s.frames) (t k : ℕ) (old now : CourseState) (at : IsAtTick t k old now)
+      (less : t < frame_start s (f + 1)) where
     abbrev told : ℕ → Device
     told v = scripted s v clock t (before_tick s v clock rs t)
 
@@ -155,12 +107,14 @@ module _ (clock : ℕ → ℕ) (s : ScenarioParts) (hs : List HeardEntry) (f : �
     ends_now : (v : ℕ) → AlarmsEnd clock (setup_of s v) t (before_alarms_in clock (setup_of s v) t rs (told v))
     ends_now v = alarms_are_run s v clock rs t sound drifts in_time
 
-    pub alarms_end : (v : ℕ) × Shows (setup_of s v) (frame_start s f) old (at_frame s v clock rs f) → IsShownEnding clock t (λ q d. before_alarms_in clock q t rs d) now
+    pub alarms_end : (v : ℕ) × Shows (setup_of s v) (frame_start s f) old (at_frame s v clock rs f)
+        → IsShownEnding clock t (λ q d. before_alarms_in clock q t rs d) now
     alarms_end first = record { setup = setup_of s first.0; device = told first.0; shows = shown_now first.0 first.1; ends = ends_now first.0 }
 
     -- after the tick, up to the next one at which something is due
     module _ (ascends : Ascends end_of hs) (next : ℕ) (cut : IsCut end_of hs next (t + 1)) (last : CourseState)
-        (goes : (q : Setup) (d : Device) → Shows q t now d → AlarmsEnd clock q t (before_alarms_in clock q t rs d) → Shows q t last (after_lines clock q t rs d)) where
+        (goes : (q : Setup) (d : Device) → Shows q t now d → AlarmsEnd clock q t (before_alarms_in clock q t rs d)
+        → Shows q t last (after_lines clock q t rs d)) where
       abbrev u : ℕ
       u = least_due last.device (slice_get hs next) (frame_start s (f + 1))
 
@@ -168,8 +122,11 @@ module _ (clock : ℕ → ℕ) (s : ScenarioParts) (hs : List HeardEntry) (f : �
       unfolding before_tick
       next_is v = rw add-one refl
 
-      shown_next : (v : ℕ) → Shows (setup_of s v) (frame_start s f) old (at_frame s v clock rs f) → Shows (setup_of s v) t last (before_tick s v clock rs (t + 1))
-      shown_next v first = shows_as (setup_of s v) t last (after_lines clock (setup_of s v) t rs (told v)) (before_tick s v clock rs (t + 1)) (goes (setup_of s v) (told v) (shown_now v first) (ends_now v)) (sym (next_is v))
+      shown_next : (v : ℕ) → Shows (setup_of s v) (frame_start s f) old (at_frame s v clock rs f)
+          → Shows (setup_of s v) t last (before_tick s v clock rs (t + 1))
+      shown_next v first =
+          shows_as (setup_of s v) t last (after_lines clock (setup_of s v) t rs (told v)) (before_tick s v clock rs (t + 1))
+          (goes (setup_of s v) (told v) (shown_now v first) (ends_now v)) (sym (next_is v))
 
       least : IsLeast last.device (slice_get hs next) (frame_start s (f + 1)) u
       least = is_least last.device (slice_get hs next) (frame_start s (f + 1))
@@ -240,8 +197,10 @@ module _ (clock : ℕ → ℕ) (s : ScenarioParts) (hs : List HeardEntry) (f : �
             let same = eqb-true (frame_start s l.frame) u (and_parts _ _ is).1 in
             elim (line_apart l) [ inl before ↦ absurd (omega (arith, before, same, on)) | inr behind ↦ absurd (omega (arith, behind, same, below)) ])
 
-        point_then : (v : ℕ) (b : Bool) → nat_lt u (frame_start s (f + 1)) ≡ b → before_tick s v clock rs u ≡ (if b then scripted s v clock u (before_tick s v clock rs u) else before_tick s v clock rs u)
-        point_then v true is = sym (ap (fold (after_line clock (setup_of s v) u) (before_tick s v clock rs u)) (no_lines v (ltb-true u (frame_start s (f + 1)) is)))
+        point_then : (v : ℕ) (b : Bool) → nat_lt u (frame_start s (f + 1)) ≡ b
+            → before_tick s v clock rs u ≡ (if b then scripted s v clock u (before_tick s v clock rs u) else before_tick s v clock rs u)
+        point_then v true is =
+            sym (ap (fold (after_line clock (setup_of s v) u) (before_tick s v clock rs u)) (no_lines v (ltb-true u (frame_start s (f + 1)) is)))
         point_then v false is = refl
 
         pub next_tick : IsAtTick u next old last
@@ -265,7 +224,9 @@ module _ (clock : ℕ → ℕ) (s : ScenarioParts) (hs : List HeardEntry) (f : �
   pub frame_over : (t k : ℕ) (old now : CourseState) → IsAtTick t k old now → frame_start s (f + 1) ≤ t → IsAtTick (frame_start s (f + 1)) k old now
   frame_over t k old now at over = subst (λ (w : ℕ). IsAtTick w k old now) (omega (arith, over, at.within)) at
 
-  pub shown_over : (k : ℕ) (old now : CourseState) → IsAtTick (frame_start s (f + 1)) k old now → (v : ℕ) → Shows (setup_of s v) (frame_start s f) old (at_frame s v clock rs f) → Shows (setup_of s v) (frame_start s (f + 1)) now (before_tick s v clock rs (frame_start s (f + 1)))
+  pub shown_over : (k : ℕ) (old now : CourseState) → IsAtTick (frame_start s (f + 1)) k old now → (v : ℕ)
+      → Shows (setup_of s v) (frame_start s f) old (at_frame s v clock rs f)
+      → Shows (setup_of s v) (frame_start s (f + 1)) now (before_tick s v clock rs (frame_start s (f + 1)))
   shown_over k old now at v first =
       let T = frame_start s (f + 1) in
       shows_as (setup_of s v) T now (point v T) (before_tick s v clock rs T) (at.shows v first)

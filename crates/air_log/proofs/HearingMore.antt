@@ -15,11 +15,14 @@ without p hs h fails =
     let none : filter p (h ∷ []) ≡ [] = rw fails refl in
     filter-append p hs (h ∷ []) ∙ ap (λ (l : List Reception). filter p hs ++ l) none ∙ append-nil (filter p hs)
 
-pub earlier_stays : (s : ScenarioParts) (v : ℕ) (clock : ℕ → ℕ) (hs : List Reception) (h : Reception) (t : ℕ) → t ≤ h.end → before_tick s v clock (hs ++ h ∷ []) t ≡ before_tick s v clock hs t
+pub earlier_stays : (s : ScenarioParts) (v : ℕ) (clock : ℕ → ℕ) (hs : List Reception) (h : Reception) (t : ℕ) → t ≤ h.end
+    → before_tick s v clock (hs ++ h ∷ []) t ≡ before_tick s v clock hs t
 earlier_stays s v clock hs h t later = prefix s v clock (hs ++ h ∷ []) hs t (without (ends_before t) hs h (le-ltb h.end t later))
 
-pub heard_now : (clock : ℕ → ℕ) (s : Setup) (t : ℕ) (hs : List Reception) (h : Reception) (d : Device) → h.end ≡ t → heard clock s t (hs ++ h ∷ []) d ≡ hears clock s t (heard clock s t hs d) h
+pub heard_now : (clock : ℕ → ℕ) (s : Setup) (t : ℕ) (hs : List Reception) (h : Reception) (d : Device) → h.end ≡ t
+    → heard clock s t (hs ++ h ∷ []) d ≡ hears clock s t (heard clock s t hs d) h
 heard_now clock s t hs h d now =
     let one : ending_at t (h ∷ []) ≡ h ∷ [] = rw (eq-eqb h.end t now) refl in
-    let with_it : ending_at t (hs ++ h ∷ []) ≡ ending_at t hs ++ h ∷ [] = filter-append (λ (g : Reception). g.end == t) hs (h ∷ []) ∙ ap (λ (l : List Reception). ending_at t hs ++ l) one in
+    let with_it : ending_at t (hs ++ h ∷ []) ≡ ending_at t hs ++ h ∷ [] =
+    filter-append (λ (g : Reception). g.end == t) hs (h ∷ []) ∙ ap (λ (l : List Reception). ending_at t hs ++ l) one in
     ap (λ (l : List Reception). fold (hears clock s t) d l) with_it ∙ fold-append (hears clock s t) d (ending_at t hs) (h ∷ [])

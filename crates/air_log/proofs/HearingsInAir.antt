@@ -1,5 +1,7 @@
 -- What a node heard, picked out of an air and put in order.
-use Rattle.std.proofs.Common.{◌≡◌, ℕ, ◌+◌, ◌<◌, ◌≤◌, List, [], ◌∷◌, ◌++◌, take, map, filter, filter_map, length, get_or, Bool, true, false, cond, ◌&&◌, ◌||◌, ◌==◌, nat_lt, if◌then◌else◌, Option, Some, None, option_map, option_to_list, refl, sym, ◌∙◌, ap, arith, inl, inr, lt-ltb, true≢false}
+use Rattle.std.proofs.Common.{◌≡◌, ℕ, ◌+◌, ◌<◌, ◌≤◌, List, [], ◌∷◌, ◌++◌, take, map, filter, filter_map, length, get_or, Bool, true, false, cond, ◌&&◌, ◌||◌}
+use Rattle.std.proofs.Common.{◌==◌, nat_lt, if◌then◌else◌, Option, Some, None, option_map, option_to_list, refl, sym, ◌∙◌, ap, arith, inl, inr, lt-ltb}
+use Rattle.std.proofs.Common.{true≢false}
 use Rattle.std.specs.List.Sorted.{IsSortedBy}
 use Rattle.std.specs.Cmp.{IsStrictWeakOrder, nat_cmp_total, on_total, then_total}
 use Rattle.std.specs.Ordering.{nat_cmp, ordering_then, is_lt}
@@ -37,13 +39,15 @@ mapped : (o : Option HeardEntry) → map hearing_of (option_to_list o) ≡ optio
 mapped None = refl
 mapped (Some h) = refl
 
-pub hearings_more : (air : List Entry) (v i : ℕ) (e : Entry) (items : List HeardEntry) (o : Option HeardEntry) → i < length air → e ≡ get_or air i e → map hearing_of items ≡ hearings_by (take i air) v → option_map hearing_of o ≡ hearing_with e v
+pub hearings_more : (air : List Entry) (v i : ℕ) (e : Entry) (items : List HeardEntry) (o : Option HeardEntry) → i < length air → e ≡ get_or air i e
+    → map hearing_of items ≡ hearings_by (take i air) v → option_map hearing_of o ≡ hearing_with e v
     → map hearing_of (items ++ option_to_list o) ≡ hearings_by (take (i + 1) air) v
 hearings_more air v i e items o below at so is =
     let more : take (i + 1) air ≡ take i air ++ e ∷ [] = take_more air i e below ∙ ap (λ (x : Entry). take i air ++ x ∷ []) (sym at) in
     map-append hearing_of items (option_to_list o)
     ∙ ap (λ (l : List Hearing). l ++ map hearing_of (option_to_list o)) so
-    ∙ ap (λ (l : List Hearing). hearings_by (take i air) v ++ l) (mapped o ∙ ap option_to_list is ∙ sym (picked v (hearing_in e)) ∙ ap (filter (λ (h : Hearing). h.node == v)) (sym (one_of e)))
+    ∙ ap (λ (l : List Hearing). hearings_by (take i air) v ++ l)
+    (mapped o ∙ ap option_to_list is ∙ sym (picked v (hearing_in e)) ∙ ap (filter (λ (h : Hearing). h.node == v)) (sym (one_of e)))
     ∙ sym (ap (λ (l : List Entry). hearings_by l v) more
     ∙ ap (filter (λ (h : Hearing). h.node == v)) (filter_map-append hearing_in (take i air) (e ∷ []))
     ∙ filter-append (λ (h : Hearing). h.node == v) (filter_map hearing_in (take i air)) (filter_map hearing_in (e ∷ [])))
@@ -67,11 +71,13 @@ same_order g h = same_test g.end h.end g.from h.from
 put_same : (h : HeardEntry) (gs : List HeardEntry) → put_in (hearing_of h) (map hearing_of gs) ≡ map hearing_of (placed before h gs)
 put_same h [] = refl
 put_same h (g ∷ gs) =
-    ap (λ (l : List Hearing). if comes_before (hearing_of g) (hearing_of h) then hearing_of g ∷ l else hearing_of h ∷ hearing_of g ∷ map hearing_of gs) (put_same h gs)
+    ap (λ (l : List Hearing). if comes_before (hearing_of g) (hearing_of h) then hearing_of g ∷ l else hearing_of h ∷ hearing_of g ∷ map hearing_of gs)
+    (put_same h gs)
     ∙ ap (λ (b : Bool). if b then hearing_of g ∷ map hearing_of (placed before h gs) else hearing_of h ∷ hearing_of g ∷ map hearing_of gs) (same_order g h)
     ∙ by (before g h)
   where
-    by : (b : Bool) → (if b then hearing_of g ∷ map hearing_of (placed before h gs) else hearing_of h ∷ hearing_of g ∷ map hearing_of gs) ≡ map hearing_of (if b then g ∷ placed before h gs else h ∷ g ∷ gs)
+    by : (b : Bool) → (if b then hearing_of g ∷ map hearing_of (placed before h gs) else hearing_of h ∷ hearing_of g ∷ map hearing_of gs)
+        ≡ map hearing_of (if b then g ∷ placed before h gs else h ∷ g ∷ gs)
     by true = refl
     by false = refl
 
@@ -87,14 +93,17 @@ not_before m n p q is = elim (cases_order m n) [
 ]
 
 pub sorted_ascends : (hs : List HeardEntry) → IsSortedBy before hs → Ascends end_of hs
-sorted_ascends hs sorted i j d less within = not_before (get_or hs i d).end (get_or hs j d).end (get_or hs i d).from (get_or hs j d).from (sorted_far before is_order hs sorted i j d (omega (arith, less)) within)
+sorted_ascends hs sorted i j d less within =
+    not_before (get_or hs i d).end (get_or hs j d).end (get_or hs i d).from (get_or hs j d).from
+    (sorted_far before is_order hs sorted i j d (omega (arith, less)) within)
 
 same_receptions : (hs : List HeardEntry) → map reception_in hs ≡ map reception_of (map hearing_of hs)
 same_receptions [] = refl
 same_receptions (h ∷ hs) = ap (λ (rs : List Reception). reception_in h ∷ rs) (same_receptions hs)
 
 -- what is picked and sorted is what the trail takes
-pub received : (air : List Entry) (v : ℕ) (picks sorts : List HeardEntry) → map hearing_of picks ≡ hearings_by air v → sorts ≡ in_order before picks → map reception_in sorts ≡ heard_by air v
+pub received : (air : List Entry) (v : ℕ) (picks sorts : List HeardEntry) → map hearing_of picks ≡ hearings_by air v → sorts ≡ in_order before picks
+    → map reception_in sorts ≡ heard_by air v
 received air v picks sorts is sorted =
     same_receptions sorts
     ∙ ap (λ (hs : List HeardEntry). map reception_of (map hearing_of hs)) sorted

@@ -40,7 +40,9 @@ module _ (P : Device → Type 0) (clock : ℕ → ℕ) (s : Setup) (t : ℕ) (ke
       all_obeyed (orders_by r) (moved t e x d n r) (kept.moving e x d n r holds)
 
   by_act : (frame : ℕ) (d : Device) (a : Act) (p : Power) → P d → P (after_act clock s t frame d a p)
-  by_act frame d On (PowerOff boots) holds = by_event Boot None (record d { power = PowerOn (rebooted (boots + 1)) }) (PowerOn (rebooted (boots + 1))) (kept.powered d (PowerOn (rebooted (boots + 1))) holds)
+  by_act frame d On (PowerOff boots) holds =
+      by_event Boot None (record d { power = PowerOn (rebooted (boots + 1)) }) (PowerOn (rebooted (boots + 1)))
+      (kept.powered d (PowerOn (rebooted (boots + 1))) holds)
   by_act frame d On (PowerOn n) holds = holds
   by_act frame d Off (PowerOff boots) holds = holds
   by_act frame d Off (PowerOn n) holds = kept.off d n.core.boot holds
@@ -50,7 +52,8 @@ module _ (P : Device → Type 0) (clock : ℕ → ℕ) (s : Setup) (t : ℕ) (ke
   by_act frame d (Leave i) (PowerOn n) holds = kept.powered d _ holds
   by_act frame d (Put i payload) (PowerOff boots) holds = kept.dropping frame i d holds
   by_act frame d (Put i payload) (PowerOn n) holds =
-      cond_both (refuses i n.core) (dropped s.id frame i d) (with_new_core d n (queues i payload n.core)) P (λ is. kept.dropping frame i d holds) (λ is. kept.powered d _ holds)
+      cond_both (refuses i n.core) (dropped s.id frame i d) (with_new_core d n (queues i payload n.core)) P (λ is. kept.dropping frame i d holds)
+      (λ is. kept.powered d _ holds)
 
   by_lines : (ls : List ScriptLine) (d : Device) → P d → P (fold (after_line clock s t) d ls)
   by_lines [] d holds = holds
@@ -63,7 +66,8 @@ module _ (P : Device → Type 0) (clock : ℕ → ℕ) (s : Setup) (t : ℕ) (ke
   by_end : (d : Device) (x : Option Sending) → P d → P (ended_by clock s t d x)
   by_end d None holds = holds
   by_end d (Some x) holds =
-      cond_both (x.end == t) (event clock s t Sent (Some x) (record d { sending = None })) d P (λ is. by_event Sent (Some x) (record d { sending = None }) d.power (kept.after_sending d holds)) (λ is. holds)
+      cond_both (x.end == t) (event clock s t Sent (Some x) (record d { sending = None })) d P
+      (λ is. by_event Sent (Some x) (record d { sending = None }) d.power (kept.after_sending d holds)) (λ is. holds)
 
   by_alarms : (b : Bool) (more : ℕ) (d : Device) → P d → P (alarms clock s t b more d)
   unfolding alarms
@@ -74,7 +78,8 @@ module _ (P : Device → Type 0) (clock : ℕ → ℕ) (s : Setup) (t : ℕ) (ke
       by_alarms (is_due t after.alarm) more after (by_event Alarm None (record d { alarm = None }) d.power (kept.without_alarm d holds))
 
 -- the phases of a tick up to the hearings, the alarms, and all before the start of a sending
-pub in_hearings : (P : Device → Type 0) (s : ScenarioParts) (v : ℕ) (clock : ℕ → ℕ) (hs : List Reception) (t : ℕ) (d : Device) → IsKept P clock (setup_of s v) t → P d → P (heard clock (setup_of s v) t hs (scripted s v clock t d))
+pub in_hearings : (P : Device → Type 0) (s : ScenarioParts) (v : ℕ) (clock : ℕ → ℕ) (hs : List Reception) (t : ℕ) (d : Device) → IsKept P clock (setup_of s v) t
+    → P d → P (heard clock (setup_of s v) t hs (scripted s v clock t d))
 in_hearings P s v clock hs t d kept holds =
     let x = setup_of s v in
     by_hearings P clock x t kept (ending_at t hs) (scripted s v clock t d) (by_lines P clock x t kept (lines_at s v t) d holds)
@@ -82,13 +87,15 @@ in_hearings P s v clock hs t d kept holds =
 pub in_end : (P : Device → Type 0) (clock : ℕ → ℕ) (s : Setup) (t : ℕ) (d : Device) → IsKept P clock s t → P d → P (ended clock s t d)
 in_end P clock s t d kept holds = by_end P clock s t kept d d.sending holds
 
-pub in_event : (P : Device → Type 0) (clock : ℕ → ℕ) (s : Setup) (t : ℕ) (e : Event) (x : Option Sending) (d : Device) → IsKept P clock s t → P d → P (event clock s t e x d)
+pub in_event : (P : Device → Type 0) (clock : ℕ → ℕ) (s : Setup) (t : ℕ) (e : Event) (x : Option Sending) (d : Device) → IsKept P clock s t → P d
+    → P (event clock s t e x d)
 in_event P clock s t e x d kept holds = by_event P clock s t kept e x d d.power holds
 
 pub in_alarms : (P : Device → Type 0) (clock : ℕ → ℕ) (s : Setup) (t : ℕ) (d : Device) → IsKept P clock s t → P d → P (alarmed clock s t d)
 in_alarms P clock s t d kept holds = by_alarms P clock s t kept (is_due t d.alarm) (clock t + 300) d holds
 
-pub in_tick : (P : Device → Type 0) (s : ScenarioParts) (v : ℕ) (clock : ℕ → ℕ) (hs : List Reception) (t : ℕ) (d : Device) → IsKept P clock (setup_of s v) t → P d → P (before_start s v clock hs t d)
+pub in_tick : (P : Device → Type 0) (s : ScenarioParts) (v : ℕ) (clock : ℕ → ℕ) (hs : List Reception) (t : ℕ) (d : Device) → IsKept P clock (setup_of s v) t
+    → P d → P (before_start s v clock hs t d)
 in_tick P s v clock hs t d kept holds =
     let x = setup_of s v in
     let d2 = heard clock x t hs (scripted s v clock t d) in

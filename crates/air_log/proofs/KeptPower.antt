@@ -1,5 +1,6 @@
 -- Whether a node is on, and how often it booted, through events and script lines.
-use Rattle.std.proofs.Common.{◌≡◌, ℕ, zero, suc, ◌+◌, ◌≤◌, ◌<◌, List, [], ◌∷◌, ◌++◌, Bool, true, false, ◌==◌, if◌then◌else◌, Some, None, Option, fold, refl, sym, ◌∙◌, ap, subst, arith}
+use Rattle.std.proofs.Common.{◌≡◌, ℕ, zero, suc, ◌+◌, ◌≤◌, ◌<◌, List, [], ◌∷◌, ◌++◌, Bool, true, false, ◌==◌}
+use Rattle.std.proofs.Common.{if◌then◌else◌, Some, None, Option, fold, refl, sym, ◌∙◌, ap, subst, arith}
 use Rattle.std.proofs.lemmas.Bool.{cond_both, eq-eqb}
 use Rattle.lwb_base.specs.declared.event.Event.{Event}
 use Rattle.lwb_base.specs.declared.event.Event.TheVariants.{Boot, Alarm as AlarmEvent}
@@ -77,7 +78,8 @@ module _ (clock : ℕ → ℕ) (s : Setup) (t : ℕ) where
   by_act frame d (Leave i) (PowerOn n) is = refl
   by_act frame d (Put i payload) (PowerOff boots) is = ap seen_power is
   by_act frame d (Put i payload) (PowerOn n) is =
-      cond_both (refuses i n.core) (dropped s.id frame i d) (with_new_core d n (queues i payload n.core)) (λ (e : Device). seen_power e.power ≡ (true, n.core.boot)) (λ lost. ap seen_power is) (λ kept. refl)
+      cond_both (refuses i n.core) (dropped s.id frame i d) (with_new_core d n (queues i payload n.core))
+      (λ (e : Device). seen_power e.power ≡ (true, n.core.boot)) (λ lost. ap seen_power is) (λ kept. refl)
 
   pub line_power : (d : Device) (l : ScriptLine) → seen_power (after_line clock s t d l).power ≡ turned_by l.act (seen_power d.power)
   line_power d l = by_act l.frame d l.act d.power refl
@@ -89,13 +91,16 @@ module _ (clock : ℕ → ℕ) (s : Setup) (t : ℕ) where
 
   by_start : (d : Device) (o : Option Ordered) → (begun_by s t d o).power ≡ d.power
   by_start d None = refl
-  by_start d (Some o) = cond_both (o.tick == t) (starts s t o.packet d d.listening d.sending) d (λ (e : Device). e.power ≡ d.power) (λ now. starts_power o.packet d d.listening d.sending) (λ other. refl)
+  by_start d (Some o) =
+      cond_both (o.tick == t) (starts s t o.packet d d.listening d.sending) d (λ (e : Device). e.power ≡ d.power)
+      (λ now. starts_power o.packet d d.listening d.sending) (λ other. refl)
 
   pub begun_power : (d : Device) → seen_power (begun s t d).power ≡ seen_power d.power
   begun_power d = ap seen_power (by_start d d.ordered)
 
 -- one line more
-pub turned_more : (v : ℕ) (b : Bool × ℕ) (ls : List ScriptLine) (l : ScriptLine) → turned v b (ls ++ l ∷ []) ≡ (if l.node == v then turned_by l.act (turned v b ls) else turned v b ls)
+pub turned_more : (v : ℕ) (b : Bool × ℕ) (ls : List ScriptLine) (l : ScriptLine)
+    → turned v b (ls ++ l ∷ []) ≡ (if l.node == v then turned_by l.act (turned v b ls) else turned v b ls)
 turned_more v b [] l = refl
 turned_more v b (x ∷ ls) l = turned_more v (if x.node == v then turned_by x.act b else b) ls l
 
@@ -122,7 +127,8 @@ pub turned_over : (v : ℕ) (b : Boots) (xs ys : List ScriptLine) → turned v b
 turned_over v b [] ys = refl
 turned_over v b (x ∷ xs) ys = turned_over v (if x.node == v then turned_by x.act b else b) xs ys
 
-pub few_before : (s : ScenarioParts) (sound : IsSoundScenario s) (told rest : List ScriptLine) (l : ScriptLine) → s.script ≡ told ++ l ∷ rest → l.act ≡ On → (boots : ℕ) → (false, boots) ≡ turned l.node (false, 0) told → boots < 200
+pub few_before : (s : ScenarioParts) (sound : IsSoundScenario s) (told rest : List ScriptLine) (l : ScriptLine) → s.script ≡ told ++ l ∷ rest → l.act ≡ On
+    → (boots : ℕ) → (false, boots) ≡ turned l.node (false, 0) told → boots < 200
 few_before s sound told rest l is on boots before =
     let v = l.node in
     let start : Boots = (false, 0) in
@@ -131,6 +137,7 @@ few_before s sound told rest l is on boots before =
     ap (turned v start) is
     ∙ turned_over v start told (l ∷ rest)
     ∙ ap (λ (b : Boots). turned v b (l ∷ rest)) (sym before)
-    ∙ ap (λ (b : Boots). turned v b rest) (ap (λ (own : Bool). if own then turned_by l.act (false, boots) else (false, boots)) (eq-eqb v v refl) ∙ ap (λ (a : Act). turned_by a (false, boots)) on) in
+    ∙ ap (λ (b : Boots). turned v b rest) (ap (λ (own : Bool). if own then turned_by l.act (false, boots) else (false, boots)) (eq-eqb v v refl)
+    ∙ ap (λ (a : Act). turned_by a (false, boots)) on) in
     let few : (turned v now rest).1 ≤ 200 = subst (λ (b : Boots). b.1 ≤ 200) next (sound.few_boots v) in
     omega (arith, few, boots_up v now rest)

@@ -28,6 +28,7 @@ pub mod SmallCores
 mod DeviceEvents
 mod AlarmsOfCourses
 mod CountedWindows
+mod CourseEvents
 mod CourseSteps
 mod FewWindows
 mod FirstRoundHearings
@@ -35,11 +36,13 @@ mod FirstRoundLog
 mod FramesOfCourses
 mod HearingsInAir
 mod HearingsOfCourses
+mod LeastDue
 mod LinesOfCourses
 mod ListCuts
 mod LogTextExamples
 mod ObeyedCourses
-mod SmallSendings
+mod OpenedByAlarm
+mod ShownCourses
 mod TimelyOrders
 mod TrailsOfCourses
 mod TwoNodeLog

@@ -1,5 +1,6 @@
 -- The script lines of a frame, told to a course one after another.
-use Rattle.std.proofs.Common.{◌≡◌, ℕ, suc, ◌+◌, ◌*◌, ◌≤◌, List, [], ◌∷◌, ◌++◌, take, drop, filter, fold, Bool, true, false, ◌&&◌, ◌==◌, if◌then◌else◌, Some, refl, sym, ◌∙◌, ap, subst, arith, inl, inr, mul-le-mul_right, eq-eqb, eqb-true, take-append-drop}
+use Rattle.std.proofs.Common.{◌≡◌, ℕ, suc, ◌+◌, ◌*◌, ◌≤◌, List, [], ◌∷◌, ◌++◌, take, drop, filter, fold, Bool, true, false, ◌&&◌, ◌==◌, if◌then◌else◌}
+use Rattle.std.proofs.Common.{Some, refl, sym, ◌∙◌, ap, subst, arith, inl, inr, mul-le-mul_right, eq-eqb, eqb-true, take-append-drop}
 use Rattle.std.specs.Prelude.{slice_get}
 use Rattle.std.proofs.lemmas.Bool.{cases_order, and_parts}
 use Rattle.std.proofs.lemmas.Option.{slice_get_within, get_or_from_slice_get}
@@ -17,7 +18,7 @@ use Rattle.air_log.specs.DeviceStates.{CanBoot}
 use Rattle.air_log.specs.Courses.{CourseState, Shows, IsShown, Goes, IsCut, frame_of}
 use Rattle.air_log.proofs.AlarmRows.{roomy}
 use Rattle.air_log.proofs.KeptPower.{line_power, turned_more, few_before}
-use Rattle.air_log.proofs.CourseSteps.{shows_as}
+use Rattle.air_log.proofs.ShownCourses.{shows_as}
 use Rattle.air_log.proofs.ListCuts.{IsGone, gone_first, gone_more, one_more, none_yet, none_left, filter_more}
 
 -- a tick at which a frame starts is that of one frame
@@ -62,7 +63,8 @@ module _ (clock : ℕ → ℕ) (s : ScenarioParts) (sound : IsSoundScenario s) (
   keyed : (v : ℕ) (l : ScriptLine) → is_own v l ≡ true → frame_of l ≡ f
   keyed v l is = same_frame l.frame f s.profile.frame some_frame (eqb-true (frame_start s l.frame) (frame_start s f) (and_parts _ _ is).1)
 
-  pub none_told : (k : ℕ) (c : CourseState) → IsCut frame_of s.script k f → seen_power c.device.power ≡ turned c.device.setup.id (false, 0) (take k s.script) → IsShown (frame_start s f) c → Told k c c
+  pub none_told : (k : ℕ) (c : CourseState) → IsCut frame_of s.script k f → seen_power c.device.power ≡ turned c.device.setup.id (false, 0) (take k s.script)
+      → IsShown (frame_start s f) c → Told k c c
   none_told k c cut power shown = record {
     cut = gone_first frame_of s.script k f cut;
     power = power;
@@ -82,7 +84,8 @@ module _ (clock : ℕ → ℕ) (s : ScenarioParts) (sound : IsSoundScenario s) (
     splits : s.script ≡ take k s.script ++ l ∷ drop (k + 1) s.script
     splits =
         let below = slice_get_within s.script k l at in
-        sym (take-append-drop k s.script) ∙ ap (λ (ls : List ScriptLine). take k s.script ++ ls) (drop_more s.script k l below ∙ ap (λ (x : ScriptLine). x ∷ drop (k + 1) s.script) (get_or_from_slice_get s.script k l l at))
+        sym (take-append-drop k s.script) ∙ ap (λ (ls : List ScriptLine). take k s.script ++ ls)
+        (drop_more s.script k l below ∙ ap (λ (x : ScriptLine). x ∷ drop (k + 1) s.script) (get_or_from_slice_get s.script k l l at))
 
     pub boots : l.node ≡ now.device.setup.id → l.act ≡ On → CanBoot now.device.power
     boots own on = by now.device.power refl
@@ -93,11 +96,13 @@ module _ (clock : ℕ → ℕ) (s : ScenarioParts) (sound : IsSoundScenario s) (
             few_before s sound (take k s.script) (drop (k + 1) s.script) l splits on b
             (sym (ap seen_power is) ∙ told.power ∙ ap (λ (v : ℕ). turned v (false, 0) (take k s.script)) (sym (own ∙ ap (λ (q : Setup). q.id) told.setup)))
 
-    power_by : (b : Bool) (q : Setup) (d : Device) → seen_power (if b then after_line clock q (frame_start s f) d l else d).power ≡ (if b then turned_by l.act (seen_power d.power) else seen_power d.power)
+    power_by : (b : Bool) (q : Setup) (d : Device) → seen_power (if b then after_line clock q (frame_start s f) d l else d).power
+        ≡ (if b then turned_by l.act (seen_power d.power) else seen_power d.power)
     power_by true q d = line_power clock q (frame_start s f) d l
     power_by false q d = refl
 
-    fold_by : (b c : Bool) (q : Setup) (x : Device) → c ≡ true → fold (after_line clock q (frame_start s f)) x (if b && c then l ∷ [] else []) ≡ (if b then after_line clock q (frame_start s f) x l else x)
+    fold_by : (b c : Bool) (q : Setup) (x : Device) → c ≡ true
+        → fold (after_line clock q (frame_start s f)) x (if b && c then l ∷ [] else []) ≡ (if b then after_line clock q (frame_start s f) x l else x)
     fold_by true true q x is = refl
     fold_by false c q x is = refl
     fold_by true false q x is = cc
@@ -115,21 +120,26 @@ module _ (clock : ℕ → ℕ) (s : ScenarioParts) (sound : IsSoundScenario s) (
           power =
               ap seen_power (power_shown w.setup T last (own_line clock T l w.setup w.device) after)
               ∙ power_by (l.node == w.setup.id) w.setup w.device
-              ∙ ap (λ (b : Boots). if l.node == w.setup.id then turned_by l.act b else b) (sym (ap seen_power (power_shown w.setup T now w.device w.shows)) ∙ told.power)
-              ∙ ap (λ (v : ℕ). if l.node == v then turned_by l.act (turned old.device.setup.id (false, 0) (take k s.script)) else turned old.device.setup.id (false, 0) (take k s.script)) id
+              ∙ ap (λ (b : Boots). if l.node == w.setup.id then turned_by l.act b else b)
+              (sym (ap seen_power (power_shown w.setup T now w.device w.shows)) ∙ told.power)
+              ∙ ap (λ (v : ℕ). if l.node == v then turned_by l.act (turned old.device.setup.id (false, 0) (take k s.script))
+              else turned old.device.setup.id (false, 0) (take k s.script)) id
               ∙ sym (turned_more old.device.setup.id (false, 0) (take k s.script) l)
               ∙ ap (turned old.device.setup.id (false, 0)) more;
           setup = after.setup ∙ sym w.shows.setup ∙ told.setup;
           shown = record { setup = w.setup; device = _; shows = after };
           goes = λ q d shows.
               let so = fold (after_line clock q T) d (filter (is_own q.id) (take k s.script)) in
-              shows_as q T last (own_line clock T l q so) (fold (after_line clock q T) d (filter (is_own q.id) (take (k + 1) s.script))) (goes q so (told.goes q d shows))
+              shows_as q T last (own_line clock T l q so) (fold (after_line clock q T) d (filter (is_own q.id) (take (k + 1) s.script)))
+              (goes q so (told.goes q d shows))
               (sym (ap (fold (after_line clock q T) d) (filter_more frame_of s.script (is_own q.id) k l at)
               ∙ fold-append (after_line clock q T) d (filter (is_own q.id) (take k s.script)) (if is_own q.id l then l ∷ [] else [])
               ∙ fold_by (l.node == q.id) (frame_start s l.frame == T) q so (eq-eqb (frame_start s l.frame) T (ap (frame_start s) same))));
         }
 
-  pub all_told : (k : ℕ) (old now : CourseState) → Told k old now → IsCut frame_of s.script k (f + 1) → Goes (frame_start s f) (λ q d. fold (after_line clock q (frame_start s f)) d (lines_at s q.id (frame_start s f))) old now
+  pub all_told : (k : ℕ) (old now : CourseState) → Told k old now → IsCut frame_of s.script k (f + 1)
+      → Goes (frame_start s f) (λ q d. fold (after_line clock q (frame_start s f)) d (lines_at s q.id (frame_start s f))) old now
   all_told k old now told cut = λ q d shows.
-      shows_as q (frame_start s f) now (fold (after_line clock q (frame_start s f)) d (filter (is_own q.id) (take k s.script))) (fold (after_line clock q (frame_start s f)) d (lines_at s q.id (frame_start s f))) (told.goes q d shows)
+      shows_as q (frame_start s f) now (fold (after_line clock q (frame_start s f)) d (filter (is_own q.id) (take k s.script)))
+      (fold (after_line clock q (frame_start s f)) d (lines_at s q.id (frame_start s f))) (told.goes q d shows)
       (sym (ap (fold (after_line clock q (frame_start s f)) d) (none_left frame_of s.script (is_own q.id) f (keyed q.id) k cut)))

@@ -1,5 +1,6 @@
 -- A list by ascending keys, gone through from one key to the next.
-use Rattle.std.proofs.Common.{◌≡◌, ◌≢◌, ℕ, zero, suc, ◌+◌, ◌<◌, ◌≤◌, List, [], ◌∷◌, ◌++◌, take, drop, length, filter, get_or, Bool, true, false, if◌then◌else◌, nat_lt, Option, Some, None, refl, sym, ap, ◌∙◌, arith, ltb-true}
+use Rattle.std.proofs.Common.{◌≡◌, ◌≢◌, ℕ, zero, suc, ◌+◌, ◌<◌, ◌≤◌, List, [], ◌∷◌, ◌++◌, take, drop, length, filter, get_or, Bool, true}
+use Rattle.std.proofs.Common.{false, if◌then◌else◌, nat_lt, Option, Some, None, refl, sym, ap, ◌∙◌, arith, ltb-true}
 use Rattle.std.specs.Prelude.{slice_get, Contains}
 use Rattle.std.proofs.lemmas.Bool.{ltb-false}
 use Rattle.std.proofs.lemmas.List.{take-append-drop, append-nil, length-drop, get_or-drop, length-take, get_or-take}
@@ -87,7 +88,10 @@ module _ {X : Type 0} where
 
       -- the next one has another key
       pub cut_at : (k t : ℕ) (x : X) → slice_get xs k ≡ Some x → key x ≢ t → IsGone k t → IsCut key xs k (t + 1)
-      cut_at k t x at other gone = record { before = gone.before; behind = λ i y there le. (let later = from_here k x at i y there le in omega (arith, here, later)) }
+      cut_at k t x at other gone = record {
+        before = gone.before;
+        behind = λ i y there le. (let later = from_here k x at i y there le in omega (arith, here, later));
+      }
         where
           here : t < key x
           here = let le = gone.behind k x at (omega arith) in by (nat_lt t (key x)) refl le
@@ -114,14 +118,20 @@ module _ {X : Type 0} where
     -- what has the key t among them
     module _ (test : X → Bool) (t : ℕ) (keyed : (x : X) → test x ≡ true → key x ≡ t) where
       pub none_yet : (k : ℕ) → IsCut key xs k t → filter test (take k xs) ≡ []
-      none_yet k cut = none_passes test (take k xs) (λ x there is. (let w = among_first xs k x there in let early = cut.before w.0 x w.2 w.1 in let same = keyed x is in omega (arith, early, same)))
+      none_yet k cut =
+          none_passes test (take k xs)
+          (λ x there is. (let w = among_first xs k x there in let early = cut.before w.0 x w.2 w.1 in let same = keyed x is in omega (arith, early, same)))
 
       pub none_left : (k : ℕ) → IsCut key xs k (t + 1) → filter test xs ≡ filter test (take k xs)
       none_left k cut =
-          let rest : filter test (drop k xs) ≡ [] = none_passes test (drop k xs) (λ x there is. (let w = behind_first xs k x there in let late = cut.behind w.0 x w.2 w.1 in let same = keyed x is in omega (arith, late, same))) in
-          ap (filter test) (sym (take-append-drop k xs)) ∙ filter-append test (take k xs) (drop k xs) ∙ ap (λ (ys : List X). filter test (take k xs) ++ ys) rest ∙ append-nil (filter test (take k xs))
+          let rest : filter test (drop k xs) ≡ [] =
+          none_passes test (drop k xs) (λ x there
+          is. (let w = behind_first xs k x there in let late = cut.behind w.0 x w.2 w.1 in let same = keyed x is in omega (arith, late, same))) in
+          ap (filter test) (sym (take-append-drop k xs)) ∙ filter-append test (take k xs) (drop k xs) ∙ ap (λ (ys : List X). filter test (take k xs) ++ ys) rest
+          ∙ append-nil (filter test (take k xs))
 
-    pub filter_more : (test : X → Bool) (k : ℕ) (x : X) → slice_get xs k ≡ Some x → filter test (take (k + 1) xs) ≡ filter test (take k xs) ++ (if test x then x ∷ [] else [])
+    pub filter_more : (test : X → Bool) (k : ℕ) (x : X) → slice_get xs k ≡ Some x
+        → filter test (take (k + 1) xs) ≡ filter test (take k xs) ++ (if test x then x ∷ [] else [])
     filter_more test k x at =
         let next : suc k ≡ k + 1 = omega arith in
         ap (filter test) (sym (one_more xs k x at ∙ ap (λ (n : ℕ). take n xs) next)) ∙ filter-append test (take k xs) (x ∷ [])

@@ -1,5 +1,5 @@
 -- The log text, tried on the first entries of a run, and on entries that its order leaves equal.
-use Rattle.std.proofs.Common.{◌≡◌, ℕ, List, [], ◌∷◌, refl, codes}
+use Rattle.std.proofs.Common.{◌≡◌, ℕ, List, [], ◌∷◌, ◌++◌, refl, codes}
 use Rattle.std.specs.Fmt.{digits}
 use Rattle.air_log.specs.LogText.{log_text}
 use Rattle.air_log.specs.declared.entry.Entry.{Entry}
@@ -20,7 +20,9 @@ heard_schedule = Heard (record { rank = 0; node = 2; from = 1; start = 134406400
 abbrev first_entries : List Entry
 first_entries = tuned 0 1 1344000000 1344199168 ∷ heard_schedule ∷ tuned 0 2 0 1344248320 ∷ sent_schedule ∷ tuned 0 1 0 1228800000 ∷ []
 
-first_round : log_text first_entries ≡ codes "tuned 0 1 0 1228800000\ntuned 0 2 0 1344248320\ntuned 0 1 1344000000 1344199168\nsent 0 1 1344064000 1344100864 01000000010000000000\nheard 0 2 1 1344064000 1344100864 01000000010000000000\n"
+first_round : log_text first_entries
+    ≡ codes "tuned 0 1 0 1228800000\ntuned 0 2 0 1344248320\ntuned 0 1 1344000000 1344199168\n"
+    ++ codes "sent 0 1 1344064000 1344100864 01000000010000000000\nheard 0 2 1 1344064000 1344100864 01000000010000000000\n"
 unfolding digits
 first_round = refl
 

@@ -1,5 +1,6 @@
 -- What is set at a node lies ahead, and nothing happens before the next of it.
-use Rattle.std.proofs.Common.{◌≡◌, ℕ, zero, suc, ◌+◌, ◌*◌, ◌<◌, ◌≤◌, List, [], ◌∷◌, Bool, true, false, ◌==◌, ◌&&◌, filter, length, Option, Some, None, Contains, IfSome, ◌⊎◌, inl, inr, refl, arith, eqb-true, mul-le-mul_left, cond}
+use Rattle.std.proofs.Common.{◌≡◌, ℕ, zero, suc, ◌+◌, ◌*◌, ◌<◌, ◌≤◌, List, [], ◌∷◌, Bool, true, false, ◌==◌, ◌&&◌, filter, length, Option}
+use Rattle.std.proofs.Common.{Some, None, Contains, IfSome, ◌⊎◌, inl, inr, refl, arith, eqb-true, mul-le-mul_left, cond}
 use Rattle.std.proofs.lemmas.Bool.{cond_both, eqb-false, ne_eqb, and_parts}
 use Rattle.lwb_base.specs.Profile.{Numbers, IsProfile, airtime}
 use Rattle.lwb_base.specs.declared.event.Event.TheVariants.{Sent}
@@ -35,7 +36,10 @@ Ahead t d = AlarmAhead t d.alarm × StartAhead t d.ordered × EndAhead t d.sendi
 on_ahead : (t rank u : ℕ) (d : Device) (es : List Tuning) → Ahead t d → Ahead t (tunes rank u d es)
 on_ahead t rank u d [] ahead = ahead
 on_ahead t rank u d (e ∷ es) ahead =
-    cond_both ((e.rank == rank) && (e.end == u)) (record d { listening = Some (record { rank = rank; since = e.start }); made = record (d.made) { tuned = es } }) (record d { listening = Some (record { rank = rank; since = u }) }) (Ahead t)
+    cond_both ((e.rank == rank) && (e.end == u)) (record d {
+      listening = Some (record { rank = rank; since = e.start });
+      made = record (d.made) { tuned = es };
+    }) (record d { listening = Some (record { rank = rank; since = u }) }) (Ahead t)
     (λ is. ahead)
     (λ is. ahead)
 
@@ -65,7 +69,10 @@ Sends t d = EndAhead t d.sending
 on_sends : (t rank u : ℕ) (d : Device) (es : List Tuning) → Sends t d → Sends t (tunes rank u d es)
 on_sends t rank u d [] ahead = ahead
 on_sends t rank u d (e ∷ es) ahead =
-    cond_both ((e.rank == rank) && (e.end == u)) (record d { listening = Some (record { rank = rank; since = e.start }); made = record (d.made) { tuned = es } }) (record d { listening = Some (record { rank = rank; since = u }) }) (Sends t)
+    cond_both ((e.rank == rank) && (e.end == u)) (record d {
+      listening = Some (record { rank = rank; since = e.start });
+      made = record (d.made) { tuned = es };
+    }) (record d { listening = Some (record { rank = rank; since = u }) }) (Sends t)
     (λ is. ahead)
     (λ is. ahead)
 
@@ -105,7 +112,8 @@ alarm_over t (Some tick) none ahead = omega (arith, ahead, eqb-false tick t none
 takes_time : (p : Numbers) (n : ℕ) → 1 ≤ p.byte → 1 ≤ airtime p n
 takes_time p n some = let times : (n + 8) * 1 ≤ (n + 8) * p.byte = mul-le-mul_left (n + 8) some in omega (arith, times)
 
-pub begin_over : (s : Setup) (t : ℕ) (d : Device) (o : Option Ordered) → 1 ≤ s.profile.byte → d.ordered ≡ o → AlarmAhead (suc t) d.alarm → StartAhead t o → Sends (suc t) d → Ahead (suc t) (begun_by s t d o)
+pub begin_over : (s : Setup) (t : ℕ) (d : Device) (o : Option Ordered) → 1 ≤ s.profile.byte → d.ordered ≡ o → AlarmAhead (suc t) d.alarm → StartAhead t o
+    → Sends (suc t) d → Ahead (suc t) (begun_by s t d o)
 begin_over s t d None some at alarm start runs = (alarm, rw at tt, runs)
 begin_over s t d (Some o) some at alarm start runs =
     cond_both (o.tick == t) (starts s t o.packet d d.listening d.sending) d (Ahead (suc t))
@@ -180,5 +188,7 @@ quiet_before s v hs a b t d next from below = record {
   start = start_quiet t b d.ordered below next.set.ordered;
 }
 
-pub until_next : (s : ScenarioParts) (v : ℕ) (clock : ℕ → ℕ) (hs : List Reception) (a b : ℕ) → a ≤ b → NextDue s v hs a b (before_tick s v clock hs a) → before_tick s v clock hs b ≡ before_tick s v clock hs a
-until_next s v clock hs a b order next = quiet_ticks s v clock hs a b order (λ t from below. quiet_before s v hs a b t (before_tick s v clock hs a) next from below)
+pub until_next : (s : ScenarioParts) (v : ℕ) (clock : ℕ → ℕ) (hs : List Reception) (a b : ℕ) → a ≤ b → NextDue s v hs a b (before_tick s v clock hs a)
+    → before_tick s v clock hs b ≡ before_tick s v clock hs a
+until_next s v clock hs a b order next =
+    quiet_ticks s v clock hs a b order (λ t from below. quiet_before s v hs a b t (before_tick s v clock hs a) next from below)

@@ -9,7 +9,7 @@ use Rattle.lwb_base.specs.declared.order.Order.{Order}
 use Rattle.air_log.specs.Devices.{obeyed}
 use Rattle.air_log.specs.DeviceStates.{IsTimely}
 use Rattle.air_log.specs.Courses.{CourseState, Goes}
-use Rattle.air_log.proofs.CourseSteps.{goes_as, goes_then}
+use Rattle.air_log.proofs.ShownCourses.{goes_as, goes_then}
 use Rattle.air_log.proofs.Elements.{first_of, none_in}
 
 -- of these orders a front has been obeyed, and the rest is left
@@ -32,12 +32,14 @@ module _ (clock : ℕ → ℕ) (t : ℕ) (all : List Order) where
     front = so.front ++ order ∷ [];
     split = append_assoc so.front (order ∷ []) (drop 1 rest) ∙ ap (λ (l : List Order). so.front ++ l) (sym (first_of rest order is)) ∙ so.split;
     timely = All-tail IsTimely order (drop 1 rest) (subst (λ (l : List Order). All IsTimely l) (first_of rest order is) so.timely);
-    goes = goes_as t (λ q d. obeyed clock q.id t (fold (obeyed clock q.id t) d so.front) order) (λ q d. fold (obeyed clock q.id t) d (so.front ++ order ∷ [])) a c
+    goes =
+        goes_as t (λ q d. obeyed clock q.id t (fold (obeyed clock q.id t) d so.front) order) (λ q d. fold (obeyed clock q.id t) d (so.front ++ order ∷ [])) a c
         (λ q d shows. sym (fold-append (obeyed clock q.id t) d so.front (order ∷ [])))
         (goes_then t (λ q d. fold (obeyed clock q.id t) d so.front) (λ q d. obeyed clock q.id t d order) a b c so.goes goes);
   }
 
-  pub all_obeyed : (rest : List Order) (a b : CourseState) → slice_get rest 0 ≡ None → AreObeyed clock t all rest a b → Goes t (λ q d. fold (obeyed clock q.id t) d all) a b
+  pub all_obeyed : (rest : List Order) (a b : CourseState) → slice_get rest 0 ≡ None → AreObeyed clock t all rest a b
+      → Goes t (λ q d. fold (obeyed clock q.id t) d all) a b
   all_obeyed rest a b is so =
       goes_as t (λ q d. fold (obeyed clock q.id t) d so.front) (λ q d. fold (obeyed clock q.id t) d all) a b
       (λ q d shows. ap (fold (obeyed clock q.id t) d) (sym (append-nil so.front) ∙ ap (λ (l : List Order). so.front ++ l) (sym (none_in rest is)) ∙ so.split))

@@ -63,7 +63,8 @@ own_starts s t packet d (Some l) None is = Contains-push d.made.sent (sending_fr
 
 own_begun : (s : Setup) (t : ℕ) (d : Device) (o : Option Ordered) → SendsOwn d → SendsOwn (begun_by s t d o)
 own_begun s t d None is = is
-own_begun s t d (Some o) is = cond_both (o.tick == t) (starts s t o.packet d d.listening d.sending) d SendsOwn (λ now. own_starts s t o.packet d d.listening d.sending is) (λ other. is)
+own_begun s t d (Some o) is =
+    cond_both (o.tick == t) (starts s t o.packet d d.listening d.sending) d SendsOwn (λ now. own_starts s t o.packet d d.listening d.sending is) (λ other. is)
 
 module _ (s : ScenarioParts) (v : ℕ) (clock : ℕ → ℕ) (hs : List Reception) where
   pub own_before : (t : ℕ) → SendsOwn (before_tick s v clock hs t)

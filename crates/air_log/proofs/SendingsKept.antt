@@ -1,5 +1,6 @@
 -- What a device sends: events, script lines and alarms leave it as it is.
-use Rattle.std.proofs.Common.{◌≡◌, ℕ, zero, suc, ◌+◌, ◌<◌, inl, inr, List, [], ◌∷◌, Bool, true, false, ◌==◌, ◌&&◌, fold, length, Some, None, Option, refl, sym, ◌∙◌, ap, subst, arith}
+use Rattle.std.proofs.Common.{◌≡◌, ℕ, zero, suc, ◌+◌, ◌<◌, inl, inr, List, [], ◌∷◌, Bool, true, false, ◌==◌, ◌&&◌}
+use Rattle.std.proofs.Common.{fold, length, Some, None, Option, refl, sym, ◌∙◌, ap, subst, arith}
 use Rattle.std.proofs.lemmas.Bool.{cond_both, cond-false, eqb-true, eqb-false}
 use Rattle.lwb_base.specs.Profile.{Numbers, IsProfile, airtime}
 use Rattle.lwb_base.specs.declared.event.Event.{Event}
@@ -27,7 +28,8 @@ tuned_sending rank t d (e ∷ es) = cond_both ((e.rank == rank) && (e.end == t))
 pub obeyed_sending : (clock : ℕ → ℕ) (v t : ℕ) (d : Device) (o : Order) → (obeyed clock v t d o).sending ≡ d.sending
 obeyed_sending clock v t d (Listen rank) =
     let x = silenced v t d in
-    cond_both (listens_to rank d.listening) d (tunes rank t x x.made.tuned) (λ (y : Device). y.sending ≡ d.sending) (λ is. refl) (λ is. tuned_sending rank t x x.made.tuned)
+    cond_both (listens_to rank d.listening) d (tunes rank t x x.made.tuned) (λ (y : Device). y.sending ≡ d.sending) (λ is. refl)
+    (λ is. tuned_sending rank t x x.made.tuned)
 obeyed_sending clock v t d Off = refl
 obeyed_sending clock v t d (SendAt local packet) = refl
 obeyed_sending clock v t d (Alarm local) = refl
@@ -55,7 +57,8 @@ module _ (clock : ℕ → ℕ) (s : Setup) (t : ℕ) where
   act_sending frame d (Leave i) (PowerOn n) = refl
   act_sending frame d (Put i payload) (PowerOff boots) = refl
   act_sending frame d (Put i payload) (PowerOn n) =
-      cond_both (refuses i n.core) (dropped s.id frame i d) (with_new_core d n (queues i payload n.core)) (λ (y : Device). y.sending ≡ d.sending) (λ at. refl) (λ at. refl)
+      cond_both (refuses i n.core) (dropped s.id frame i d) (with_new_core d n (queues i payload n.core)) (λ (y : Device). y.sending ≡ d.sending) (λ at. refl)
+      (λ at. refl)
 
   pub line_sending : (d : Device) (line : ScriptLine) → (after_line clock s t d line).sending ≡ d.sending
   line_sending d line = act_sending line.frame d line.act d.power
@@ -83,7 +86,8 @@ pub profile_lasts : (p : Numbers) → IsProfile p → Lasts p
 profile_lasts p (inl is) n = omega (arith, ap (λ (q : Numbers). airtime q n) is)
 profile_lasts p (inr is) n = omega (arith, ap (λ (q : Numbers). airtime q n) is.0)
 
-starts_begins : (s : Setup) → Lasts s.profile → (t : ℕ) (o : Ordered) (d : Device) (l : Option Listening) (x : Option Sending) → d.sending ≡ x → o.tick ≡ t → Begins s t d (starting_by s t (Some o) l x) (starts s t o.packet d l x)
+starts_begins : (s : Setup) → Lasts s.profile → (t : ℕ) (o : Ordered) (d : Device) (l : Option Listening) (x : Option Sending) → d.sending ≡ x → o.tick ≡ t
+    → Begins s t d (starting_by s t (Some o) l x) (starts s t o.packet d l x)
 starts_begins s lasts t o d None None is at = refl
 starts_begins s lasts t o d None (Some x) is at = refl
 starts_begins s lasts t o d (Some l) (Some x) is at = refl
@@ -102,7 +106,8 @@ idle s t o None (Some x) other = refl
 idle s t o (Some l) None other = cond-false (o.tick == t) (sending_from s t o.packet l ∷ []) [] other
 idle s t o (Some l) (Some x) other = refl
 
-begun_begins : (s : Setup) → Lasts s.profile → (t : ℕ) (d : Device) (o : Option Ordered) → Begins s t d (starting_by s t o d.listening d.sending) (begun_by s t d o)
+begun_begins : (s : Setup) → Lasts s.profile → (t : ℕ) (d : Device) (o : Option Ordered)
+    → Begins s t d (starting_by s t o d.listening d.sending) (begun_by s t d o)
 begun_begins s lasts t d None = refl
 begun_begins s lasts t d (Some o) =
     cond_both (o.tick == t) (starts s t o.packet d d.listening d.sending) d (Begins s t d (starting_by s t (Some o) d.listening d.sending))

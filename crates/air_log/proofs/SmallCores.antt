@@ -9,7 +9,8 @@ use Rattle.bus_rules.specs.Plans.{last_slot}
 use Rattle.bus_rules.specs.Tables.{Ascends}
 use Rattle.bus_rules.specs.HostPlans.{host_plan}
 use Rattle.bus_rules.specs.Tuning.{rank_of, next_tune}
-use Rattle.bus_rules.specs.Cores.{Core, Setup, as_host, begins_host, booted, empty_plan, is_fresh, frame_ended, opening_accepted, closing_accepted, schedule_accepted}
+use Rattle.bus_rules.specs.Cores.{Core, Setup, as_host, begins_host, booted, empty_plan, is_fresh}
+use Rattle.bus_rules.specs.Cores.{frame_ended, opening_accepted, closing_accepted, schedule_accepted}
 use Rattle.bus_rules.specs.Slots.{Opened, Message, ScheduleOf, DataOf, RequestOf, hosts_now, opened, host_closes, silent, owner_heard, slot_heard, closed}
 use Rattle.lwb_member.specs.Said.{message_of}
 use Rattle.node_core.specs.Windows.{Window}
@@ -43,19 +44,25 @@ pub opened_small : (s : Setup) (f : ℕ) (part : Part) (c : Core) → s.profile.
 opened_small s f Opening c few small = small
 opened_small s f (DataSlot owner) c few small = small
 opened_small s f (Contention i) c few small = small
-opened_small s f Closing c few small = cond_both (hosts_now f c) (host_closes s f c) (silent c) (λ (o : Opened). IsSmall o.core) (λ is. closes_small s f c few small) (λ is. small)
+opened_small s f Closing c few small =
+    cond_both (hosts_now f c) (host_closes s f c) (silent c) (λ (o : Opened). IsSmall o.core) (λ is. closes_small s f c few small) (λ is. small)
 
 slot_small : (f : ℕ) (part : Part) (heard : Bool) (c : Core) → IsSmall c → IsSmall (slot_heard f part heard c)
 slot_small f Opening heard c small = small
 slot_small f (Contention i) heard c small = small
 slot_small f Closing heard c small = small
-slot_small f (DataSlot owner) heard c small =
-    (small.0, cond_both (hosts_now f c) (owner_heard heard owner c.table) c.table (λ t. Ascends t.entries) (λ is. owner_keeps owner heard c.table small.1) (λ is. small.1))
+slot_small f (DataSlot owner) heard c small = (
+  small.0,
+  cond_both (hosts_now f c) (owner_heard heard owner c.table) c.table (λ t. Ascends t.entries) (λ is. owner_keeps owner heard c.table small.1)
+      (λ is. small.1),
+)
 
 accepted_small : (node f : ℕ) (x : Schedule) (c : Core) → last_slot x.plan ≤ 45 → IsSmall c → IsSmall (schedule_accepted node f x c)
-accepted_small node f x c few small = cond_both (x.gap == 0) (opening_accepted node f x c) (closing_accepted node f x c) IsSmall (λ is. (few, small.1)) (λ is. (few, small.1))
+accepted_small node f x c few small =
+    cond_both (x.gap == 0) (opening_accepted node f x c) (closing_accepted node f x c) IsSmall (λ is. (few, small.1)) (λ is. (few, small.1))
 
-pub closed_small : (s : Setup) (f : ℕ) (part : Part) (initiated : Bool) (c : Core) (m : Option Message) → ((x : Schedule) → m ≡ Some (ScheduleOf x) → last_slot x.plan ≤ 45) → IsSmall c → IsSmall (closed s f part initiated c m).core
+pub closed_small : (s : Setup) (f : ℕ) (part : Part) (initiated : Bool) (c : Core) (m : Option Message)
+    → ((x : Schedule) → m ≡ Some (ScheduleOf x) → last_slot x.plan ≤ 45) → IsSmall c → IsSmall (closed s f part initiated c m).core
 closed_small s f part initiated c None few small = slot_small f part initiated c small
 closed_small s f part initiated c (Some (ScheduleOf x)) few small = accepted_small s.id f x c (few x refl) small
 closed_small s f part initiated c (Some (DataOf d)) few small = slot_small f part true c small

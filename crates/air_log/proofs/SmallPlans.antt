@@ -1,5 +1,6 @@
 -- Plans have few slots and the codes of a table ascend, whatever a node hears.
-use Rattle.std.proofs.Common.{◌≡◌, ℕ, ◌+◌, ◌≤◌, List, [], ◌∷◌, Bool, true, false, ◌==◌, nat_lt, nat_le, cond, if◌then◌else◌, length, length-append, fold, sum_by, option_map, replicate, Option, Some, None, refl, sym, ◌∙◌, ap, subst, arith, eqb-true}
+use Rattle.std.proofs.Common.{◌≡◌, ℕ, ◌+◌, ◌≤◌, List, [], ◌∷◌, Bool, true, false, ◌==◌, nat_lt, nat_le, cond, if◌then◌else◌, length, length-append}
+use Rattle.std.proofs.Common.{fold, sum_by, option_map, replicate, Option, Some, None, refl, sym, ◌∙◌, ap, subst, arith, eqb-true}
 use Rattle.std.specs.Option.{IfSome}
 use Rattle.std.proofs.lemmas.Bool.{cond_both, and_parts, leb-true}
 use Rattle.std.proofs.lemmas.List.{length-replicate, length-take}
@@ -34,7 +35,8 @@ one_at : (x : ℕ) (es : List Entry) → Ascends es → sum_by (λ (e : Entry). 
 one_at x [] up = omega arith
 one_at x (e ∷ es) up = omega (arith, sum_by-cons (λ (e : Entry). cond (x == e.code) 1 0) e es, by_test (one_at x es up.1) (x == e.code) refl)
   where
-    by_test : sum_by (λ (e : Entry). cond (x == e.code) 1 0) es ≤ 1 → (b : Bool) → (x == e.code) ≡ b → cond b 1 0 + sum_by (λ (e : Entry). cond (x == e.code) 1 0) es ≤ 1
+    by_test : sum_by (λ (e : Entry). cond (x == e.code) 1 0) es ≤ 1 → (b : Bool) → (x == e.code) ≡ b
+        → cond b 1 0 + sum_by (λ (e : Entry). cond (x == e.code) 1 0) es ≤ 1
     by_test rest true is = omega (arith, none_at x es (subst (λ (c : ℕ). Above c es) (sym (eqb-true x e.code is)) up.0))
     by_test rest false is = omega (arith, rest)
 
@@ -71,7 +73,8 @@ grant_keeps share = record { code = λ e. refl }
 abbrev AreFew : List ℕ → Table → Type 0
 AreFew owners t = (length owners ≤ 40) × Ascends t.entries
 
-few_by : (share : Entry → ℕ) (gap place : ℕ) (es : List Entry) → Ascends es → sum_by share es ≤ 40 → AreFew (granted_by share gap place es).owners (granted_by share gap place es).table
+few_by : (share : Entry → ℕ) (gap place : ℕ) (es : List Entry) → Ascends es → sum_by share es ≤ 40
+    → AreFew (granted_by share gap place es).owners (granted_by share gap place es).table
 few_by share gap place es up fits = (omega (arith, owned share es, fits), ascends_map (grant share) es (grant_keeps share) up)
 
 given_few : (owes : Entry → ℕ) (t : Table) → length (given owes t) ≤ 40
@@ -79,9 +82,11 @@ given_few owes t = omega (arith, length-take 40 (turns owes (in_turn t.place t.e
 
 few_for : (owes : Entry → ℕ) (gap : ℕ) (t : Table) → Ascends t.entries → AreFew (grants_for owes gap t).owners (grants_for owes gap t).table
 few_for owes gap t up =
-    cond_both (nat_le (sum_by owes t.entries) 40) (granted_by owes gap t.place t.entries) (granted_by (share_in (given owes t)) gap (last_code (given owes t) + 1) t.entries) (λ (g : Grants). AreFew g.owners g.table)
+    cond_both (nat_le (sum_by owes t.entries) 40) (granted_by owes gap t.place t.entries)
+    (granted_by (share_in (given owes t)) gap (last_code (given owes t) + 1) t.entries) (λ (g : Grants). AreFew g.owners g.table)
     (λ fits. few_by owes gap t.place t.entries up (leb-true (sum_by owes t.entries) 40 fits))
-    (λ more. few_by (share_in (given owes t)) gap (last_code (given owes t) + 1) t.entries up (omega (arith, shares (given owes t) t.entries up, given_few owes t)))
+    (λ more. few_by (share_in (given owes t)) gap (last_code (given owes t) + 1) t.entries up
+    (omega (arith, shares (given owes t) t.entries up, given_few owes t)))
 
 few : (seconds frame : ℕ) (t : Table) → Ascends t.entries → AreFew (plan_round seconds frame t).owners (plan_round seconds frame t).table
 unfolding plan_round
@@ -91,7 +96,8 @@ few seconds frame t up = let gap = gap_of seconds frame t.entries in few_for (ow
 after_one : (frame : ℕ) (t : Table) (a : Ask) → Ascends t.entries → Ascends (after_request frame t a).entries
 after_one frame t a up =
     cond_both (is_full a t) t.entries _ Ascends (λ is. up)
-    (λ is. cond_both (a.interval == 0) (without (code_of a) t.entries) (with_entry (new_entry a frame) t.entries) Ascends (λ none. ascends_filter _ t.entries up) (λ some. ascends_with (new_entry a frame) t.entries up))
+    (λ is. cond_both (a.interval == 0) (without (code_of a) t.entries) (with_entry (new_entry a frame) t.entries) Ascends
+    (λ none. ascends_filter _ t.entries up) (λ some. ascends_with (new_entry a frame) t.entries up))
 
 after_answers : (frame : ℕ) (kept : List Ask) (x : Answered) → Ascends x.table.entries → Ascends (fold (answer frame) x kept).table.entries
 after_answers frame [] x up = up
@@ -109,12 +115,14 @@ after_serving frame node boot (i ∷ is) x up =
 
 -- the plan that a host makes
 pub host_plan_few : (p : Numbers) (node boot rank frame : ℕ) (kept : List Ask) (t : Table) (s : Streams) → Ascends t.entries
-    → AreFew (host_plan p node boot rank frame kept t s).plan.owners (host_plan p node boot rank frame kept t s).table × ((host_plan p node boot rank frame kept t s).plan.contend ≡ p.contend)
+    → AreFew (host_plan p node boot rank frame kept t s).plan.owners (host_plan p node boot rank frame kept t s).table
+    × ((host_plan p node boot rank frame kept t s).plan.contend ≡ p.contend)
 unfolding host_plan
 host_plan_few p node boot rank frame kept t s up =
     let first = answered frame kept t in
     let own = served frame node boot first.table s in (
-      few p.seconds frame own.table (after_serving frame node boot (0 ∷ 1 ∷ 2 ∷ 3 ∷ []) (record { table = first.table; streams = s }) (after_answers frame kept (record { table = t; acks = [] }) up)),
+      few p.seconds frame own.table (after_serving frame node boot (0 ∷ 1 ∷ 2 ∷ 3 ∷ []) (record { table = first.table; streams = s })
+          (after_answers frame kept (record { table = t; acks = [] }) up)),
       refl,
     )
 
@@ -125,7 +133,8 @@ seen_keeps c = record { code = λ e. refl }
 missed_sifts : (c : ℕ) → Sifts (missed c)
 missed_sifts c = record {
   code = λ e. cond_both (has_code c e) _ (Some e) (λ (o : Option Entry). IfSome o (λ x. x.code ≡ e.code))
-      (λ is. cond_both (nat_lt (e.unheard + 1) 16) (Some (record e { unheard = e.unheard + 1 })) None (λ (o : Option Entry). IfSome o (λ x. x.code ≡ e.code)) (λ less. refl) (λ goes. tt))
+      (λ is. cond_both (nat_lt (e.unheard + 1) 16) (Some (record e { unheard = e.unheard + 1 })) None (λ (o : Option Entry). IfSome o (λ x. x.code ≡ e.code))
+      (λ less. refl) (λ goes. tt))
       (λ is. refl);
 }
 
@@ -144,7 +153,9 @@ in_slot gap contend slot fits = by_gap (gap == 0) fits
   where
     by_gap : (b : Bool) → (if b then slot == 0 else between 2 (if contend == 0 then 42 else 45) slot) ≡ true → slot ≤ 45
     by_gap true is = omega (arith, eqb-true slot 0 is)
-    by_gap false is = cond_both (contend == 0) 42 45 (λ (most : ℕ). between 2 most slot ≡ true → slot ≤ 45) (λ e least. omega (arith, leb-true slot 42 (and_parts _ _ least).1)) (λ e least. leb-true slot 45 (and_parts _ _ least).1) is
+    by_gap false is =
+        cond_both (contend == 0) 42 45 (λ (most : ℕ). between 2 most slot ≡ true → slot ≤ 45)
+        (λ e least. omega (arith, leb-true slot 42 (and_parts _ _ least).1)) (λ e least. leb-true slot 45 (and_parts _ _ least).1) is
 
 abbrev IsRead : List ℕ → Schedule → Type 0
 IsRead p x = (last_slot x.plan ≤ 45) × (slot_of p ≤ 45)
@@ -179,7 +190,8 @@ read_few p x is = by_data (is_data p) (is_request p) is
     by_option None at is = cc
     by_option (Some y) at is = let same : y ≡ x = cc in said_few p x (at ∙ ap (λ (z : Schedule). Some z) same)
 
-    by_data : (b c : Bool) → (if b then Some (DataOf (data_in p)) else if c then Some (RequestOf (request_in p)) else option_map ScheduleOf (schedule_of p)) ≡ Some (ScheduleOf x) → IsRead p x
+    by_data : (b c : Bool) → (if b then Some (DataOf (data_in p)) else if c then Some (RequestOf (request_in p)) else option_map ScheduleOf (schedule_of p))
+        ≡ Some (ScheduleOf x) → IsRead p x
     by_data true c is = cc
     by_data false true is = cc
     by_data false false is = by_option (schedule_of p) refl is

@@ -1,5 +1,6 @@
 -- What a stable sort leaves is the list by insertion.
-use Rattle.std.proofs.Common.{◌≡◌, ℕ, suc, ◌+◌, Bool, true, false, cond, not, ◌&&◌, if◌then◌else◌, List, [], ◌∷◌, ◌++◌, map, flat_map, refl, sym, ap, subst, ◌∙◌, arith}
+use Rattle.std.proofs.Common.{◌≡◌, ℕ, suc, ◌+◌, Bool, true, false, cond, not, ◌&&◌, if◌then◌else◌, List, []}
+use Rattle.std.proofs.Common.{◌∷◌, ◌++◌, map, flat_map, refl, sym, ap, subst, ◌∙◌, arith}
 use Rattle.std.specs.Bool.{⊤}
 use Rattle.std.specs.Cmp.{IsStrictWeakOrder}
 use Rattle.std.specs.List.{filter, AllByRecursion}
@@ -47,7 +48,8 @@ module _ {X : Type 0} where
   is_none (x ∷ xs) = false
 
   -- two neighbours of which one at most is kept
-  exchanged : (a b : Bool) (x y : X) (xs : List X) → (a ≡ true → b ≡ false) → cond a (y ∷ cond b (x ∷ xs) xs) (cond b (x ∷ xs) xs) ≡ cond b (x ∷ cond a (y ∷ xs) xs) (cond a (y ∷ xs) xs)
+  exchanged : (a b : Bool) (x y : X) (xs : List X) → (a ≡ true → b ≡ false)
+      → cond a (y ∷ cond b (x ∷ xs) xs) (cond b (x ∷ xs) xs) ≡ cond b (x ∷ cond a (y ∷ xs) xs) (cond a (y ∷ xs) xs)
   exchanged true true x y xs h = absurd (true≢false (h refl))
   exchanged true false x y xs h = refl
   exchanged false b x y xs h = refl
@@ -86,7 +88,8 @@ module _ {X : Type 0} (lt : X → X → Bool) (o : IsStrictWeakOrder lt) where
   tied_itself x = not_both (lt x x) (lt x x) (itself x) (itself x)
 
   -- insertion keeps the order
-  placed_all_by : (P : X → Type 0) (x y : X) (ys us : List X) (b : Bool) → P x → P y → AllByRecursion P ys → AllByRecursion P us → AllByRecursion P (if b then y ∷ us else x ∷ y ∷ ys)
+  placed_all_by : (P : X → Type 0) (x y : X) (ys us : List X) (b : Bool) → P x → P y → AllByRecursion P ys → AllByRecursion P us
+      → AllByRecursion P (if b then y ∷ us else x ∷ y ∷ ys)
   placed_all_by P x y ys us true h k all later = (k, later)
   placed_all_by P x y ys us false h k all later = (h, (k, all))
 
@@ -94,7 +97,8 @@ module _ {X : Type 0} (lt : X → X → Bool) (o : IsStrictWeakOrder lt) where
   placed_all P x [] h all = (h, tt)
   placed_all P x (y ∷ ys) h all = placed_all_by P x y ys (placed lt x ys) (lt y x) h all.0 all.1 (placed_all P x ys h all.1)
 
-  placed_rises_by : (x y : X) (ys : List X) (b : Bool) → lt y x ≡ b → Rises (y ∷ ys) → Rises (placed lt x ys) → Rises (if b then y ∷ placed lt x ys else x ∷ y ∷ ys)
+  placed_rises_by : (x y : X) (ys : List X) (b : Bool) → lt y x ≡ b → Rises (y ∷ ys) → Rises (placed lt x ys)
+      → Rises (if b then y ∷ placed lt x ys else x ∷ y ∷ ys)
   placed_rises_by x y ys true is up later = (placed_all (λ z. lt z y ≡ false) x ys (o.one_way y x is) up.0, later)
   placed_rises_by x y ys false is up later = ((is, all_weaker (λ z. lt z y ≡ false) (λ z. lt z x ≡ false) (λ z h. o.chain z y x h is) ys up.0), up)
 
@@ -114,7 +118,8 @@ module _ {X : Type 0} (lt : X → X → Bool) (o : IsStrictWeakOrder lt) where
   placed_ties_by : (z x y : X) (ys : List X) (b : Bool) → lt y x ≡ b → filter (ties lt z) (placed lt x ys) ≡ filter (ties lt z) (x ∷ ys)
       → filter (ties lt z) (if b then y ∷ placed lt x ys else x ∷ y ∷ ys) ≡ filter (ties lt z) (x ∷ y ∷ ys)
   placed_ties_by z x y ys true is later =
-      ap (λ (us : List X). cond (ties lt z y) (y ∷ us) us) later ∙ exchanged (ties lt z y) (ties lt z x) x y (filter (ties lt z) ys) (λ tied. apart x y z is tied (ties lt z x) refl)
+      ap (λ (us : List X). cond (ties lt z y) (y ∷ us) us) later
+      ∙ exchanged (ties lt z y) (ties lt z x) x y (filter (ties lt z) ys) (λ tied. apart x y z is tied (ties lt z x) refl)
   placed_ties_by z x y ys false is later = refl
 
   placed_ties : (z x : X) (ys : List X) → filter (ties lt z) (placed lt x ys) ≡ filter (ties lt z) (x ∷ ys)
@@ -146,7 +151,8 @@ module _ {X : Type 0} (lt : X → X → Bool) (o : IsStrictWeakOrder lt) where
       let below : lt x y ≡ false = least x y (y ∷ ys) (filter (ties lt x) xs) (sym (alike x) ∙ kept x xs) (itself y, vp.0) in
       let above : lt y x ≡ false = least y x (x ∷ xs) (filter (ties lt y) ys) (alike y ∙ kept y ys) (itself x, up.0) in
       let tied : ties lt x y ≡ true = not_both (lt x y) (lt y x) below above in
-      let there : filter (ties lt x) (y ∷ ys) ≡ y ∷ filter (ties lt x) ys = ap (λ (b : Bool). cond b (y ∷ filter (ties lt x) ys) (filter (ties lt x) ys)) tied in
+      let there : filter (ties lt x) (y ∷ ys) ≡ y ∷ filter (ties lt x) ys =
+      ap (λ (b : Bool). cond b (y ∷ filter (ties lt x) ys) (filter (ties lt x) ys)) tied in
       let first : x ≡ y = ap (head_or x) (sym (kept x xs) ∙ alike x ∙ there) in
       let rest : xs ≡ ys = same xs ys up.1 vp.1 (λ z. same_rest (ties lt z x) x (filter (ties lt z) xs) (filter (ties lt z) ys)
       (alike z ∙ ap (λ (w : X). cond (ties lt z w) (w ∷ filter (ties lt z) ys) (filter (ties lt z) ys)) (sym first))) in
@@ -164,4 +170,5 @@ module _ {X : Type 0} (lt : X → X → Bool) (o : IsStrictWeakOrder lt) where
 
   -- lists whose ties stand in one order
   pub same_in_order : (xs ys : List X) → ((z : X) → filter (ties lt z) xs ≡ filter (ties lt z) ys) → in_order lt xs ≡ in_order lt ys
-  same_in_order xs ys alike = same (in_order lt xs) (in_order lt ys) (in_order_rises xs) (in_order_rises ys) (λ z. in_order_ties z xs ∙ alike z ∙ sym (in_order_ties z ys))
+  same_in_order xs ys alike =
+      same (in_order lt xs) (in_order lt ys) (in_order_rises xs) (in_order_rises ys) (λ z. in_order_ties z xs ∙ alike z ∙ sym (in_order_ties z ys))

@@ -15,7 +15,8 @@ use Rattle.bus_rules.specs.Cores.{Core, Setup, frame_ended, begins_host}
 use Rattle.bus_rules.specs.Slots.{Message, ScheduleOf, DataOf, RequestOf}
 use Rattle.bus_rules.specs.Tuning.{rank_of}
 use Rattle.node_core.specs.Nodes.{Node, frame_alarm, closes_at, opens_at, stopped_frame}
-use Rattle.node_core.specs.Rows.{Stepped, row, at_alarm, at_heard, at_sent, scanner_hears, joins, sends, accepted_in, orders_for, waits, zero_for, first_sending, relaying, zero_by, zero_next}
+use Rattle.node_core.specs.Rows.{Stepped, row, at_alarm, at_heard, at_sent, scanner_hears, joins, sends, accepted_in}
+use Rattle.node_core.specs.Rows.{orders_for, waits, zero_for, first_sending, relaying, zero_by, zero_next}
 use Rattle.node_core.specs.declared.stage.Stage.{Stage}
 use Rattle.node_core.specs.declared.stage.Stage.TheVariants.{Idle, Scanning, AwaitFrame, AwaitSlot, InWindow}
 use Rattle.air_log.specs.DeviceStates.{IsTimely}
@@ -39,7 +40,8 @@ by_tune p tune f z small = of tune
     waiting : (due : ℕ) → All IsTimely (waits p due f z)
     waiting due =
         let alarm = if due == f then z else frame_alarm p f in
-        All-cons IsTimely Off (AlarmAt alarm ∷ []) tt (alarm_at alarm (cond_both (due == f) z (frame_alarm p f) (λ (x : ℕ). x < 2 ^ 47) (λ is. small) (λ is. stops _)))
+        All-cons IsTimely Off (AlarmAt alarm ∷ []) tt
+        (alarm_at alarm (cond_both (due == f) z (frame_alarm p f) (λ (x : ℕ). x < 2 ^ 47) (λ is. small) (λ is. stops _)))
 
     of : (tune : Tune) → All IsTimely (orders_for p tune f z)
     of (Scan r waited) = All-cons IsTimely (Listen r) (AlarmAt (frame_alarm p f) ∷ []) tt (alarm_at (frame_alarm p f) (stops _))
@@ -80,7 +82,8 @@ relayed_then p now x Keep small = alarm_at x small
 relayed_then p now x Ignore small = alarm_at x small
 
 module _ (s : Setup) (n : Node) (small : n.zero < 2 ^ 47) where
-  at_frame_end : (core : Core) (f : ℕ) → (zero_for s.profile core.tune (begins_host n.core.tune core.tune) n.zero < 2 ^ 47) × All IsTimely (orders_for s.profile core.tune f (zero_for s.profile core.tune (begins_host n.core.tune core.tune) n.zero))
+  at_frame_end : (core : Core) (f : ℕ) → (zero_for s.profile core.tune (begins_host n.core.tune core.tune) n.zero < 2 ^ 47)
+      × All IsTimely (orders_for s.profile core.tune f (zero_for s.profile core.tune (begins_host n.core.tune core.tune) n.zero))
   at_frame_end core f =
       let zero = begun_zero s.profile core.tune (begins_host n.core.tune core.tune) n.zero small in
       (zero, by_tune s.profile core.tune f _ zero)
@@ -97,7 +100,9 @@ module _ (s : Setup) (n : Node) (small : n.zero < 2 ^ 47) where
       let alarm = if nat_lt j w.last then next else end in
       let zero = closed_zero s.profile n.zero w.reference (accepted_in w) small in (
         cond_both (nat_lt j w.last) _ _ (λ (z : ℕ). z < 2 ^ 47) (λ is. zero) (λ is. next_zero s.profile _ _ zero),
-        All-cons IsTimely Off (AlarmAt alarm ∷ []) tt (alarm_at alarm (cond_both (nat_lt j w.last) next end (λ (x : ℕ). x < 2 ^ 47) (λ is. stops (z + (j + 1) * s.profile.slot)) (λ is. stops (n.frame * s.profile.frame + s.profile.end)))),
+        All-cons IsTimely Off (AlarmAt alarm ∷ []) tt (alarm_at alarm
+            (cond_both (nat_lt j w.last) next end (λ (x : ℕ). x < 2 ^ 47) (λ is. stops (z + (j + 1) * s.profile.slot))
+            (λ is. stops (n.frame * s.profile.frame + s.profile.end)))),
       )
 
   by_schedule : (now : ℕ) (p : List ℕ) (m : Option Message) → now < 2 ^ 47 → IsOfTime (scanner_hears s n now p m)
@@ -128,8 +133,11 @@ module _ (s : Setup) (n : Node) (small : n.zero < 2 ^ 47) where
 
   pub timely : (now : ℕ) (e : Event) → now < 2 ^ 47 → IsOfTime (row s n now e)
   timely now Boot early =
-      let f = stopped_frame ((now + s.profile.lead) / s.profile.frame) in
-      (omega arith, All-cons IsTimely (Listen 0) (AlarmAt (frame_alarm s.profile f) ∷ []) tt (alarm_at (frame_alarm s.profile f) (stops (f * s.profile.frame + s.profile.end))))
+      let f = stopped_frame ((now + s.profile.lead) / s.profile.frame) in (
+        omega arith,
+        All-cons IsTimely (Listen 0) (AlarmAt (frame_alarm s.profile f) ∷ []) tt
+            (alarm_at (frame_alarm s.profile f) (stops (f * s.profile.frame + s.profile.end))),
+      )
   timely now Alarm early = by_alarm n.stage
   timely now (Heard p) early = by_hearing now p n.stage early
   timely now Sent early = by_sending n.stage

@@ -22,7 +22,8 @@ module _ (Q : List Sending → Type 0) where
   by_order : (clock : ℕ → ℕ) (v t : ℕ) (d : Device) (o : Order) → Q d.made.sent → Q (obeyed clock v t d o).made.sent
   by_order clock v t d (Listen rank) all =
       let x = silenced v t d in
-      cond_both (listens_to rank d.listening) d (tunes rank t x x.made.tuned) (λ (y : Device). Q y.made.sent) (λ is. all) (λ is. on_keeps rank t x x.made.tuned all)
+      cond_both (listens_to rank d.listening) d (tunes rank t x x.made.tuned) (λ (y : Device). Q y.made.sent) (λ is. all)
+      (λ is. on_keeps rank t x x.made.tuned all)
   by_order clock v t d Off all = all
   by_order clock v t d (SendAt local packet) all = all
   by_order clock v t d (Alarm local) all = all
@@ -61,7 +62,8 @@ module _ (s : ScenarioParts) (v : ℕ) where
         pairs_push StartsBefore xs x all.1 (λ k y less. (all.0 k y less).before),
       )
 
-  by_start : (t : ℕ) (packet : List ℕ) (d : Device) (l : Option Listening) (y : Option Sending) → Before t d.made.sent → Before (suc t) (starts (setup_of s v) t packet d l y).made.sent
+  by_start : (t : ℕ) (packet : List ℕ) (d : Device) (l : Option Listening) (y : Option Sending) → Before t d.made.sent
+      → Before (suc t) (starts (setup_of s v) t packet d l y).made.sent
   by_start t packet d None y all = later t d.made.sent all
   by_start t packet d (Some l) (Some y) all = later t d.made.sent all
   by_start t packet d (Some l) None all = one_more t packet l d.made.sent all
@@ -69,7 +71,8 @@ module _ (s : ScenarioParts) (v : ℕ) where
   by_begun : (t : ℕ) (d : Device) (o : Option Ordered) → Before t d.made.sent → Before (suc t) (begun_by (setup_of s v) t d o).made.sent
   by_begun t d None all = later t d.made.sent all
   by_begun t d (Some o) all =
-      cond_both (o.tick == t) (starts (setup_of s v) t o.packet d d.listening d.sending) d (λ (x : Device). Before (suc t) x.made.sent) (λ is. by_start t o.packet d d.listening d.sending all) (λ is. later t d.made.sent all)
+      cond_both (o.tick == t) (starts (setup_of s v) t o.packet d d.listening d.sending) d (λ (x : Device). Before (suc t) x.made.sent)
+      (λ is. by_start t o.packet d d.listening d.sending all) (λ is. later t d.made.sent all)
 
   pub at_tick : (clock : ℕ → ℕ) (hs : List Reception) (t : ℕ) → Before t (before_tick s v clock hs t).made.sent
   unfolding before_tick

@@ -1,5 +1,6 @@
 -- The tunings of a trail: none is empty, they do not overlap, and two of one rank do not meet.
-use Rattle.std.proofs.Common.{◌≡◌, ℕ, zero, suc, ◌<◌, ◌≤◌, List, [], ◌∷◌, Bool, true, false, ◌==◌, ◌&&◌, nat_lt, Some, None, Option, refl, sym, ◌∙◌, arith, All, AllPairs, ltb-true, eqb-true, subst}
+use Rattle.std.proofs.Common.{◌≡◌, ℕ, zero, suc, ◌<◌, ◌≤◌, List, [], ◌∷◌, Bool, true, false, ◌==◌, ◌&&◌, nat_lt, Some}
+use Rattle.std.proofs.Common.{None, Option, refl, sym, ◌∙◌, arith, All, AllPairs, ltb-true, eqb-true, subst}
 use Rattle.std.proofs.lemmas.Bool.{cond_both, and_parts, eq-eqb, eqb-false, true≢false}
 use Rattle.std.proofs.lemmas.List.Elements.{All-cons, All-nil}
 use Rattle.std.proofs.lemmas.List.Kept.{AllPairs-cons}
@@ -67,7 +68,8 @@ on_keeps v t rank d (e ∷ es) at all =
 by_order : (clock : ℕ → ℕ) (v t : ℕ) (d : Device) (o : Order) → Tuned v t d → Tuned v t (obeyed clock v t d o)
 by_order clock v t d (Listen rank) all =
     let x = silenced v t d in
-    cond_both (listens_to rank d.listening) d (tunes rank t x x.made.tuned) (Tuned v t) (λ is. all) (λ is. on_keeps v t rank x x.made.tuned refl (silent v t d all))
+    cond_both (listens_to rank d.listening) d (tunes rank t x x.made.tuned) (Tuned v t) (λ is. all)
+    (λ is. on_keeps v t rank x x.made.tuned refl (silent v t d all))
 by_order clock v t d Off all = silent v t d all
 by_order clock v t d (SendAt local packet) all = all
 by_order clock v t d (Alarm local) all = all
@@ -84,12 +86,15 @@ kept clock s t = record {
 }
 
 -- the start of a sending leaves the radio on
-begun_tuned : (s : Setup) (t : ℕ) (P : Option Listening → List Tuning → Type 0) (d : Device) (o : Option Ordered) → P d.listening d.made.tuned → P (begun_by s t d o).listening (begun_by s t d o).made.tuned
+begun_tuned : (s : Setup) (t : ℕ) (P : Option Listening → List Tuning → Type 0) (d : Device) (o : Option Ordered) → P d.listening d.made.tuned
+    → P (begun_by s t d o).listening (begun_by s t d o).made.tuned
 begun_tuned s t P d None all = all
 begun_tuned s t P d (Some o) all =
-    cond_both (o.tick == t) (starts s t o.packet d d.listening d.sending) d (λ (x : Device). P x.listening x.made.tuned) (λ is. starts_tuned d.listening d.sending refl all) (λ is. all)
+    cond_both (o.tick == t) (starts s t o.packet d d.listening d.sending) d (λ (x : Device). P x.listening x.made.tuned)
+    (λ is. starts_tuned d.listening d.sending refl all) (λ is. all)
   where
-    starts_tuned : (l : Option Listening) (y : Option Sending) → d.listening ≡ l → P d.listening d.made.tuned → P (starts s t o.packet d l y).listening (starts s t o.packet d l y).made.tuned
+    starts_tuned : (l : Option Listening) (y : Option Sending) → d.listening ≡ l → P d.listening d.made.tuned
+        → P (starts s t o.packet d l y).listening (starts s t o.packet d l y).made.tuned
     starts_tuned None y is all = all
     starts_tuned (Some l) None is all = all
     starts_tuned (Some l) (Some y) is all = all
@@ -110,7 +115,8 @@ module _ (s : ScenarioParts) (v : ℕ) (clock : ℕ → ℕ) (hs : List Receptio
   each_ended : (t : ℕ) (es : List Tuning) → Ended v t es → All (IsTunedBy v t) es
   each_ended t [] all = All-nil (IsTunedBy v t)
   each_ended t (e ∷ es) all =
-      All-cons (IsTunedBy v t) e es (record { node = all.0; some = all.1; by = all.2 }) (each_ended t es (ended_later v e.start t es (omega (arith, all.1, all.2)) all.4))
+      All-cons (IsTunedBy v t) e es (record { node = all.0; some = all.1; by = all.2 })
+      (each_ended t es (ended_later v e.start t es (omega (arith, all.1, all.2)) all.4))
 
   pub each_tuned : All (IsTunedBy v (run_end s)) (trail s v clock hs).made.tuned
   each_tuned = each_ended (run_end s) (trail s v clock hs).made.tuned in_trail

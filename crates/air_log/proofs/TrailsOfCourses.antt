@@ -1,5 +1,6 @@
 -- The frames of a run, one after another, and what is told at their end.
-use Rattle.std.proofs.Common.{◌≡◌, ℕ, zero, suc, ◌+◌, ◌%◌, ◌^◌, ◌<◌, ◌≤◌, List, [], ◌∷◌, ◌++◌, map, take, drop, fold, Bool, true, false, cond, nat_lt, Option, None, sum_by, count_by, refl, sym, ◌∙◌, ap, subst, arith, lt-ltb, take-append-drop}
+use Rattle.std.proofs.Common.{◌≡◌, ℕ, zero, suc, ◌+◌, ◌%◌, ◌^◌, ◌<◌, ◌≤◌, List, [], ◌∷◌, ◌++◌, map, take, drop, fold, Bool, false, cond}
+use Rattle.std.proofs.Common.{nat_lt, Option, None, sum_by, count_by, refl, sym, ◌∙◌, ap, subst, arith, lt-ltb, take-append-drop}
 use Rattle.std.specs.List.{range_with_len}
 use Rattle.std.proofs.lemmas.Bool.{cond-true}
 use Rattle.std.proofs.lemmas.List.{map-append}
@@ -47,14 +48,17 @@ module _ (clock : ℕ → ℕ) (s : ScenarioParts) (v : ℕ) (hs : List HeardEnt
   range_more a (suc n) = ap (λ (xs : List ℕ). a ∷ xs) (range_more (a + 1) n ∙ ap (λ (k : ℕ). range_with_len (a + 1) n ++ k ∷ []) (omega arith))
 
   range_next : (f : ℕ) → range_with_len 0 (f + 1) ≡ range_with_len 0 f ++ f ∷ []
-  range_next f = let next : f + 1 ≡ suc f = omega arith in ap (range_with_len 0) next ∙ range_more 0 f ∙ ap (λ (k : ℕ). range_with_len 0 f ++ k ∷ []) (omega arith)
+  range_next f = let next : f + 1 ≡ suc f = omega arith in
+      ap (range_with_len 0) next ∙ range_more 0 f ∙ ap (λ (k : ℕ). range_with_len 0 f ++ k ∷ []) (omega arith)
 
-  pub tunes_more : (f : ℕ) (tunes : List (Option Tune)) (t : Option Tune) → tunes ≡ map tune (range_with_len 0 f) → t ≡ tune f → tunes ++ t ∷ [] ≡ map tune (range_with_len 0 (f + 1))
+  pub tunes_more : (f : ℕ) (tunes : List (Option Tune)) (t : Option Tune) → tunes ≡ map tune (range_with_len 0 f) → t ≡ tune f
+      → tunes ++ t ∷ [] ≡ map tune (range_with_len 0 (f + 1))
   tunes_more f tunes t are is =
       ap (λ (xs : List (Option Tune)). xs ++ t ∷ []) are ∙ ap (λ (x : Option Tune). map tune (range_with_len 0 f) ++ x ∷ []) is
       ∙ sym (ap (map tune) (range_next f) ∙ map-append tune (range_with_len 0 f) (f ∷ []))
 
-  pub scanned_more : (f n : ℕ) (t : Option Tune) → n ≡ count_by scans (range_with_len 0 f) → t ≡ tune f → n + cond (scans_with t) 1 0 ≡ count_by scans (range_with_len 0 (f + 1))
+  pub scanned_more : (f n : ℕ) (t : Option Tune) → n ≡ count_by scans (range_with_len 0 f) → t ≡ tune f
+      → n + cond (scans_with t) 1 0 ≡ count_by scans (range_with_len 0 (f + 1))
   scanned_more f n t are is =
       let g : ℕ → ℕ = λ k. cond (scans k) 1 0 in
       let more : count_by scans (range_with_len 0 (f + 1)) ≡ sum_by g (range_with_len 0 f ++ f ∷ []) = ap (count_by scans) (range_next f) in
@@ -87,7 +91,8 @@ module _ (clock : ℕ → ℕ) (s : ScenarioParts) (v : ℕ) (hs : List HeardEnt
   }
 
   pub after_lines_shows : (f told next : ℕ) (tunes : List (Option Tune)) (scanned : ℕ) (c new : CourseState) → IsAtFrame f told next tunes scanned c
-      → Goes (frame_start s f) (λ q d. fold (after_line clock q (frame_start s f)) d (lines_at s q.id (frame_start s f))) c new → Shows (setup_of s v) (frame_start s f) new (at_frame s v clock rs f)
+      → Goes (frame_start s f) (λ q d. fold (after_line clock q (frame_start s f)) d (lines_at s q.id (frame_start s f))) c new
+      → Shows (setup_of s v) (frame_start s f) new (at_frame s v clock rs f)
   after_lines_shows f told next tunes scanned c new at goes = goes (setup_of s v) (before_tick s v clock rs (frame_start s f)) at.shows
 
 module _ (clock : ℕ → ℕ) (s : ScenarioParts) (v : ℕ) (hs : List HeardEntry) (sound : IsSoundScenario s) (drifts : IsClock clock) where
@@ -100,16 +105,21 @@ module _ (clock : ℕ → ℕ) (s : ScenarioParts) (v : ℕ) (hs : List HeardEnt
       omega (arith, up, all, sound.few_boots v)
 
   -- the sum of all windows of a run
-  pub windows_are : (told : ℕ) (c : CourseState) (last : CourseState) → Shows (setup_of s v) (run_end s) c (before_tick s v clock (map reception_in hs) (run_end s)) → seen_power c.device.power ≡ turned v (false, 0) (take told s.script)
-      → Tells (setup_of s v) last (trail s v clock (map reception_in hs)) → (last.windows.earlier + last.windows.last) % 2 ^ 64 ≡ windows_charge s (trail s v clock (map reception_in hs))
+  pub windows_are : (told : ℕ) (c : CourseState) (last : CourseState)
+      → Shows (setup_of s v) (run_end s) c (before_tick s v clock (map reception_in hs) (run_end s))
+      → seen_power c.device.power ≡ turned v (false, 0) (take told s.script)
+      → Tells (setup_of s v) last (trail s v clock (map reception_in hs))
+      → (last.windows.earlier + last.windows.last) % 2 ^ 64 ≡ windows_charge s (trail s v clock (map reception_in hs))
   windows_are told c last shows power tells =
       let seen = ap (λ (b : Bool × ℕ). b.1) (sym (ap (λ (x : Device). seen_power x.power) shows.is) ∙ power) in
       let less = few_boots told in
       charge_is clock s v (map reception_in hs) sound drifts (omega (arith, seen, less)) last.windows tells.counted
 
 -- what is told, part by part
-same_told : (a b : List Sending) (c d : List Tuning) (e f : List Delivery) (g h i j : ℕ) (k l : List (Option Tune)) → b ≡ a → d ≡ c → f ≡ e → h ≡ g → j ≡ i → l ≡ k
-    → ◌≡◌ {A = TrailTold} (record { sent = b; tuned = d; deliveries = f; windows = h; scanned = j; tunes = l }) (record { sent = a; tuned = c; deliveries = e; windows = g; scanned = i; tunes = k })
+same_told : (a b : List Sending) (c d : List Tuning) (e f : List Delivery) (g h i j : ℕ) (k l : List (Option Tune)) → b ≡ a → d ≡ c → f ≡ e → h ≡ g → j ≡ i
+    → l ≡ k
+    → ◌≡◌ {A = TrailTold} (record { sent = b; tuned = d; deliveries = f; windows = h; scanned = j; tunes = l })
+    (record { sent = a; tuned = c; deliveries = e; windows = g; scanned = i; tunes = k })
 same_told a b c d e f g h i j k l p q r s t u =
     ap (λ (x : List Sending). record { sent = x; tuned = d; deliveries = f; windows = h; scanned = j; tunes = l }) p
     ∙ ap (λ (x : List Tuning). record { sent = a; tuned = x; deliveries = f; windows = h; scanned = j; tunes = l }) q
@@ -118,18 +128,30 @@ same_told a b c d e f g h i j k l p q r s t u =
     ∙ ap (λ (x : ℕ). record { sent = a; tuned = c; deliveries = e; windows = g; scanned = x; tunes = l }) t
     ∙ ap (λ (x : List (Option Tune)). record { sent = a; tuned = c; deliveries = e; windows = g; scanned = i; tunes = x }) u
 
-pub told_is : (clock : ℕ → ℕ) (s : ScenarioParts) (v : ℕ) (hs : List HeardEntry) (sound : IsSoundScenario s) (drifts : IsClock clock) (f told next : ℕ) (tunes : List (Option Tune)) (scanned : ℕ) (c : CourseState)
-    → IsAtFrame clock s v hs f told next tunes scanned c → f ≡ s.frames → (t : ℕ) → t ≡ run_end s → (last : CourseState) → ((q : Setup) (d : Device) → Shows q t c d → Tells q last (silenced q.id t d))
-    → (result : TrailTold) → result ≡ record { sent = last.sent; tuned = last.tuned; deliveries = last.deliveries; windows = (last.windows.earlier + last.windows.last) % 2 ^ 64; scanned = scanned; tunes = tunes }
+pub told_is : (clock : ℕ → ℕ) (s : ScenarioParts) (v : ℕ) (hs : List HeardEntry) (sound : IsSoundScenario s) (drifts : IsClock clock) (f told next : ℕ)
+    (tunes : List (Option Tune)) (scanned : ℕ) (c : CourseState)
+    → IsAtFrame clock s v hs f told next tunes scanned c → f ≡ s.frames → (t : ℕ) → t ≡ run_end s → (last : CourseState)
+    → ((q : Setup) (d : Device) → Shows q t c d → Tells q last (silenced q.id t d))
+    → (result : TrailTold) → result ≡ record {
+      sent = last.sent;
+      tuned = last.tuned;
+      deliveries = last.deliveries;
+      windows = (last.windows.earlier + last.windows.last) % 2 ^ 64;
+      scanned = scanned;
+      tunes = tunes;
+    }
     → (taken : List Reception) → map reception_in hs ≡ taken → result ≡ trail_told s v clock taken
 told_is clock s v hs sound drifts f told next tunes scanned c at over t end last closes result is taken heard =
     let rs : List Reception = map reception_in hs in
-    let shows : Shows (setup_of s v) (run_end s) c (before_tick s v clock rs (run_end s)) = subst (λ (u : ℕ). Shows (setup_of s v) u c (before_tick s v clock rs u)) (ap (frame_start s) over) at.shows in
+    let shows : Shows (setup_of s v) (run_end s) c (before_tick s v clock rs (run_end s)) =
+    subst (λ (u : ℕ). Shows (setup_of s v) u c (before_tick s v clock rs u)) (ap (frame_start s) over) at.shows in
     let tells : Tells (setup_of s v) last (trail s v clock rs) =
-    subst (λ (u : ℕ). (q : Setup) (d : Device) → Shows q u c d → Tells q last (silenced q.id u d)) end closes (setup_of s v) (before_tick s v clock rs (run_end s)) shows in
+    subst (λ (u : ℕ). (q : Setup) (d : Device) → Shows q u c d → Tells q last (silenced q.id u d)) end closes (setup_of s v)
+    (before_tick s v clock rs (run_end s)) shows in
     is
     ∙ same_told (trail s v clock rs).made.sent last.sent (trail s v clock rs).made.tuned last.tuned (trail s v clock rs).made.deliveries last.deliveries
-    (windows_charge s (trail s v clock rs)) ((last.windows.earlier + last.windows.last) % 2 ^ 64) (scanned_frames s v clock rs) scanned (map (tune_at s v clock rs) (range_with_len 0 s.frames)) tunes
+    (windows_charge s (trail s v clock rs)) ((last.windows.earlier + last.windows.last) % 2 ^ 64) (scanned_frames s v clock rs) scanned
+    (map (tune_at s v clock rs) (range_with_len 0 s.frames)) tunes
     (sym tells.sent) (sym tells.tuned) (sym tells.deliveries) (windows_are clock s v hs sound drifts told c last shows at.power tells)
     (at.scanned_are ∙ ap (λ (k : ℕ). count_by (λ (n : ℕ). scans_with (tune_at s v clock rs n)) (range_with_len 0 k)) over)
     (at.tunes_are ∙ ap (λ (k : ℕ). map (tune_at s v clock rs) (range_with_len 0 k)) over)

@@ -1,5 +1,6 @@
 -- What a device was tuned to before a tick, and that what happens to it at the tick does not change it.
-use Rattle.std.proofs.Common.{◌≡◌, ℕ, zero, suc, ◌+◌, ◌<◌, ◌≤◌, ◌↔◌, ◌⊎◌, inl, inr, List, [], ◌∷◌, ◌==◌, ◌&&◌, nat_lt, fold, Some, None, Option, refl, sym, ◌∙◌, ap, subst, arith, Contains, IfSome, ltb-true}
+use Rattle.std.proofs.Common.{◌≡◌, ℕ, zero, suc, ◌+◌, ◌<◌, ◌≤◌, ◌↔◌, ◌⊎◌, inl, inr, List, [], ◌∷◌, ◌==◌, ◌&&◌, nat_lt, fold}
+use Rattle.std.proofs.Common.{Some, None, Option, refl, sym, ◌∙◌, ap, subst, arith, Contains, IfSome, ltb-true}
 use Rattle.std.proofs.lemmas.Bool.{cond_both, and_parts, eqb-true, ltb-false}
 use Rattle.lwb_base.specs.declared.event.Event.{Event}
 use Rattle.lwb_base.specs.declared.event.Event.TheVariants.{Boot}
@@ -44,7 +45,8 @@ IsTunedAs t d e = Stays t d.made.tuned d.listening e.made.tuned e.listening
 pub stays_same : (t : ℕ) (es : List Tuning) (l : Option Listening) → AllBy t es l → Stays t es l es l
 stays_same t es l by = record { by = by; same = λ r k early. (λ is. is, λ is. is) }
 
-pub stays_on : (t : ℕ) (es : List Tuning) (l : Option Listening) (fs : List Tuning) (m : Option Listening) (gs : List Tuning) (n : Option Listening) → Stays t es l fs m → Stays t fs m gs n → Stays t es l gs n
+pub stays_on : (t : ℕ) (es : List Tuning) (l : Option Listening) (fs : List Tuning) (m : Option Listening) (gs : List Tuning) (n : Option Listening)
+    → Stays t es l fs m → Stays t fs m gs n → Stays t es l gs n
 stays_on t es l fs m gs n a b = record {
   by = b.by;
   same = λ r k early. (λ is. (a.same r k early).0 ((b.same r k early).0 is), λ is. (b.same r k early).1 ((a.same r k early).1 is));
@@ -112,7 +114,8 @@ module _ (t rank : ℕ) where
     );
   }
 
-  joined : (e : Tuning) (es : List Tuning) → AllBy t (e ∷ es) None → e.rank ≡ rank → e.end ≡ t → Stays t (e ∷ es) None es (Some (record { rank = rank; since = e.start }))
+  joined : (e : Tuning) (es : List Tuning) → AllBy t (e ∷ es) None → e.rank ≡ rank → e.end ≡ t
+      → Stays t (e ∷ es) None es (Some (record { rank = rank; since = e.start }))
   joined e es by of at = record {
     by = record { ended = λ d there. by.ended d (in_tail es e d there); since = (let all = by.ended e (in_head es e) in omega (arith, all.0, all.1)) };
     same = λ r k before. (
@@ -122,7 +125,8 @@ module _ (t rank : ℕ) where
       ],
       λ is. elim is [
         | inl d ↦ elim (in_either es e d.0 d.1) [
-          | inl here ↦ inr (sym of ∙ ap (λ (d : Tuning). d.rank) here ∙ d.2.rank, (let since = d.2.since in omega (arith, since, ap (λ (d : Tuning). d.start) here)))
+          | inl here ↦
+              inr (sym of ∙ ap (λ (d : Tuning). d.rank) here ∙ d.2.rank, (let since = d.2.since in omega (arith, since, ap (λ (d : Tuning). d.start) here)))
           | inr later ↦ inl (d.0, later, d.2)
         ]
         | inr none ↦ absurd none
@@ -130,7 +134,8 @@ module _ (t rank : ℕ) where
     );
   }
 
-  on_stays : (d : Device) (es : List Tuning) → d.made.tuned ≡ es → AllBy t es None → Stays t es None (tunes rank t d es).made.tuned (tunes rank t d es).listening
+  on_stays : (d : Device) (es : List Tuning) → d.made.tuned ≡ es → AllBy t es None
+      → Stays t es None (tunes rank t d es).made.tuned (tunes rank t d es).listening
   on_stays d [] at by = subst (λ (fs : List Tuning). Stays t [] None fs (Some (record { rank = rank; since = t }))) (sym at) (fresh [] by)
   on_stays d (e ∷ es) at by =
       cond_both ((e.rank == rank) && (e.end == t)) _ _ (λ (x : Device). Stays t (e ∷ es) None x.made.tuned x.listening)
@@ -180,7 +185,8 @@ module _ (clock : ℕ → ℕ) (s : Setup) (t : ℕ) (es : List Tuning) (l : Opt
   act_as frame d (Leave i) (PowerOff boots) is = is
   act_as frame d (Leave i) (PowerOn n) is = is
   act_as frame d (Put i payload) (PowerOff boots) is = is
-  act_as frame d (Put i payload) (PowerOn n) is = cond_both (refuses i n.core) (dropped s.id frame i d) (with_new_core d n (queues i payload n.core)) As (λ at. is) (λ at. is)
+  act_as frame d (Put i payload) (PowerOn n) is =
+      cond_both (refuses i n.core) (dropped s.id frame i d) (with_new_core d n (queues i payload n.core)) As (λ at. is) (λ at. is)
 
   pub line_as : (d : Device) (line : ScriptLine) → As d → As (after_line clock s t d line)
   line_as d line is = act_as line.frame d line.act d.power is
@@ -210,15 +216,18 @@ module _ (clock : ℕ → ℕ) (s : Setup) (t : ℕ) (d : Device) (by : HasTuned
   alarmed_stays = alarmed_as clock s t d.made.tuned d.listening d itself
 
 -- the start of a sending leaves the radio as it is
-started_as : (s : Setup) (t : ℕ) (packet : List ℕ) (P : List Tuning → Option Listening → Type 0) (d : Device) (l : Option Listening) (x : Option Sending) → P d.made.tuned d.listening → P (starts s t packet d l x).made.tuned (starts s t packet d l x).listening
+started_as : (s : Setup) (t : ℕ) (packet : List ℕ) (P : List Tuning → Option Listening → Type 0) (d : Device) (l : Option Listening) (x : Option Sending)
+    → P d.made.tuned d.listening → P (starts s t packet d l x).made.tuned (starts s t packet d l x).listening
 started_as s t packet P d None x is = is
 started_as s t packet P d (Some l) None is = is
 started_as s t packet P d (Some l) (Some x) is = is
 
-begun_as : (s : Setup) (t : ℕ) (P : List Tuning → Option Listening → Type 0) (d : Device) (o : Option Ordered) → P d.made.tuned d.listening → P (begun_by s t d o).made.tuned (begun_by s t d o).listening
+begun_as : (s : Setup) (t : ℕ) (P : List Tuning → Option Listening → Type 0) (d : Device) (o : Option Ordered) → P d.made.tuned d.listening
+    → P (begun_by s t d o).made.tuned (begun_by s t d o).listening
 begun_as s t P d None is = is
 begun_as s t P d (Some o) is =
-    cond_both (o.tick == t) (starts s t o.packet d d.listening d.sending) d (λ (x : Device). P x.made.tuned x.listening) (λ at. started_as s t o.packet P d d.listening d.sending is) (λ at. is)
+    cond_both (o.tick == t) (starts s t o.packet d d.listening d.sending) d (λ (x : Device). P x.made.tuned x.listening)
+    (λ at. started_as s t o.packet P d d.listening d.sending is) (λ at. is)
 
 pub begun_stays : (s : Setup) (t : ℕ) (d : Device) → HasTunedBy t d → IsTunedAs t d (begun s t d)
 begun_stays s t d by = begun_as s t (Stays t d.made.tuned d.listening) d d.ordered (stays_same t d.made.tuned d.listening by)
@@ -230,7 +239,9 @@ module _ (s : ScenarioParts) (v : ℕ) (clock : ℕ → ℕ) (hs : List Receptio
   step_by t by =
       let d = before_tick s v clock hs t in
       let x = before_start s v clock hs t d in
-      let within : Stays t d.made.tuned d.listening x.made.tuned x.listening = in_tick (As clock (setup_of s v) t d.made.tuned d.listening) s v clock hs t d (kept clock (setup_of s v) t d.made.tuned d.listening) (stays_same t d.made.tuned d.listening by) in
+      let within : Stays t d.made.tuned d.listening x.made.tuned x.listening =
+      in_tick (As clock (setup_of s v) t d.made.tuned d.listening) s v clock hs t d (kept clock (setup_of s v) t d.made.tuned d.listening)
+      (stays_same t d.made.tuned d.listening by) in
       by_later t (suc t) _ _ (omega arith) (begun_stays (setup_of s v) t x within.by).by
 
   pub tick_by : (t : ℕ) → HasTunedBy t (before_tick s v clock hs t)

@@ -1,5 +1,6 @@
 -- A log of two nodes keeps the law of one flood.
-use Rattle.std.proofs.Common.{◌≡◌, ◌≢◌, ℕ, zero, suc, ◌+◌, ◌^◌, ◌≤◌, List, [], ◌∷◌, Bool, true, not, ◌&&◌, inl, inr, refl, sym, ◌∙◌, ap, subst, arith, eq-eqb, ◌==◌, if◌then◌else◌}
+use Rattle.std.proofs.Common.{◌≡◌, ◌≢◌, ℕ, zero, suc, ◌+◌, ◌^◌, ◌≤◌, List, [], ◌∷◌, Bool, true, not, ◌&&◌, inl}
+use Rattle.std.proofs.Common.{inr, refl, sym, ◌∙◌, ap, subst, arith, eq-eqb, ◌==◌, if◌then◌else◌}
 use Rattle.std.specs.Prelude.{Contains, ◌⊎◌, All, AllPairs}
 use Rattle.std.specs.List.{list_all}
 use Rattle.std.proofs.lemmas.Bool.{or_cases, and_parts, eqb-true, false≢true, both_ways, not-true}
@@ -122,7 +123,8 @@ events_one = record {
     λ there. absurd (two_not_one (ap (λ (h : Hearing). h.node) (one_of hearing (record { node = 1; sending = x }) there))),
   );
   sendings = λ x. (
-    λ there. subst (λ (e : Event). Contains (sendings_of two_node_log) (sending_of e) × ((sending_of e).node ≡ 1)) (one_of (Ended first_sending) (Ended x) there) (first_there, refl),
+    λ there. subst (λ (e : Event). Contains (sendings_of two_node_log) (sending_of e) × ((sending_of e).node ≡ 1))
+        (one_of (Ended first_sending) (Ended x) there) (first_there, refl),
     λ is. sent (λ x. x.node ≡ 1 → Contains (events 1) (Ended x)) (λ node. contains_head (Ended first_sending) []) (λ node. absurd (omega arith)) x is.0 is.1,
   );
   in_order = λ i j d less within. absurd (omega arith);
@@ -144,14 +146,16 @@ events_two = record {
       | inl is ↦ subst (λ (e : Event). Contains (hearings_of two_node_log) (record { node = 2; sending = sending_of e })) is (contains_head hearing [])
       | inr is ↦ absurd (ended_not_heard second_sending x is)
     ],
-    λ there. subst (λ (h : Hearing). Contains (events 2) (Heard h.sending)) (one_of hearing (record { node = 2; sending = x }) there) (contains_head (Heard first_sending) (Ended second_sending ∷ [])),
+    λ there. subst (λ (h : Hearing). Contains (events 2) (Heard h.sending)) (one_of hearing (record { node = 2; sending = x }) there)
+        (contains_head (Heard first_sending) (Ended second_sending ∷ [])),
   );
   sendings = λ x. (
     λ there. elim (one_of_two (Heard first_sending) (Ended second_sending) (Ended x) there) [
       | inl is ↦ absurd (heard_not_ended first_sending x is)
       | inr is ↦ subst (λ (e : Event). Contains (sendings_of two_node_log) (sending_of e) × ((sending_of e).node ≡ 2)) is (second_there, refl)
     ],
-    λ is. sent (λ x. x.node ≡ 2 → Contains (events 2) (Ended x)) (λ node. absurd (omega arith)) (λ node. contains_tail (Heard first_sending) (Ended second_sending ∷ []) (Ended second_sending) (contains_head (Ended second_sending) [])) x is.0 is.1,
+    λ is. sent (λ x. x.node ≡ 2 → Contains (events 2) (Ended x)) (λ node. absurd (omega arith))
+        (λ node. contains_tail (Heard first_sending) (Ended second_sending ∷ []) (Ended second_sending) (contains_head (Ended second_sending) [])) x is.0 is.1,
   );
   in_order = order_two;
 }
@@ -201,8 +205,10 @@ off_then h =
 hears_only : (v : ℕ) (x : Sending) → knows two_nodes.nodes v ≡ true → Hears scene v x → Contains (hearings_of two_node_log) (record { node = v; sending = x })
 hears_only v x here h =
     at_nodes (λ v. Hears scene v x → Contains (hearings_of two_node_log) (record { node = v; sending = x }))
-    (λ h. sent (λ x. Hears scene 1 x → Contains (hearings_of two_node_log) (record { node = 1; sending = x })) (λ g. absurd (own_unheard 1 first_sending first_there refl g)) (λ g. absurd (off_then g)) x h.sent h)
-    (λ h. sent (λ x. Hears scene 2 x → Contains (hearings_of two_node_log) (record { node = 2; sending = x })) (λ g. contains_head hearing []) (λ g. absurd (own_unheard 2 second_sending second_there refl g)) x h.sent h)
+    (λ h. sent (λ x. Hears scene 1 x → Contains (hearings_of two_node_log) (record { node = 1; sending = x }))
+    (λ g. absurd (own_unheard 1 first_sending first_there refl g)) (λ g. absurd (off_then g)) x h.sent h)
+    (λ h. sent (λ x. Hears scene 2 x → Contains (hearings_of two_node_log) (record { node = 2; sending = x })) (λ g. contains_head hearing [])
+    (λ g. absurd (own_unheard 2 second_sending second_there refl g)) x h.sent h)
     v here h
 
 -- who relays
@@ -214,15 +220,21 @@ Relays v x = IsRelay two_nodes (true_time v) (events v) x
 
 by_one : (x : Sending) → x.node ≡ 1 → Relays 1 x → ⊥
 by_one x node is =
-    let occasion : Contains (record { before = first_flood two_nodes x.node; event = Ended first_sending } ∷ []) (record { before = is.flood; event = Heard is.heard }) = is.occasion in
-    ended_not_heard first_sending is.heard (ap (λ (o : Occasion). o.event) (one_of (record { before = first_flood two_nodes x.node; event = Ended first_sending }) (record { before = is.flood; event = Heard is.heard }) occasion))
+    let occasion : Contains (record { before = first_flood two_nodes x.node; event = Ended first_sending } ∷ [])
+    (record { before = is.flood; event = Heard is.heard }) = is.occasion in
+    ended_not_heard first_sending is.heard (ap (λ (o : Occasion). o.event)
+    (one_of (record { before = first_flood two_nodes x.node; event = Ended first_sending })
+    (record { before = is.flood; event = Heard is.heard }) occasion))
 
 by_two : (x : Sending) → x.node ≡ 2 → Lasts x → Relays 2 x → second_sending ≡ x
 by_two x node lasts is =
-    elim (one_of_two (record { before = first_flood two_nodes x.node; event = Heard first_sending }) (record { before = after (first_flood two_nodes x.node) (Heard first_sending); event = Ended second_sending }) (record { before = is.flood; event = Heard is.heard }) is.occasion) [
+    elim (one_of_two (record { before = first_flood two_nodes x.node; event = Heard first_sending })
+    (record { before = after (first_flood two_nodes x.node) (Heard first_sending); event = Ended second_sending })
+    (record { before = is.flood; event = Heard is.heard }) is.occasion) [
       | inl same ↦
           (let first : Occasion = record { before = first_flood two_nodes 2; event = Heard first_sending } in
-          let at : first ≡ record { before = is.flood; event = Heard is.heard } = ap (λ (v : ℕ). record { before = first_flood two_nodes v; event = Heard first_sending }) (sym node) ∙ same in
+          let at : first ≡ record { before = is.flood; event = Heard is.heard } =
+          ap (λ (v : ℕ). record { before = first_flood two_nodes v; event = Heard first_sending }) (sym node) ∙ same in
           let answer : Relay (packet_with 1) ≡ Relay x.packet = ap (λ (o : Occasion). reply_to o.before (sending_of o.event).packet) at ∙ is.answer in
           let end : 1344096768 ≡ is.heard.end = ap (λ (o : Occasion). (sending_of o.event).end) at in
           let start : x.start ≡ 1344109056 = is.start ∙ ap (λ (e : ℕ). due (λ t. t) (e + 12288)) (sym end) ∙ due_then 1344109056 (omega arith) in
@@ -235,7 +247,9 @@ second_relayed : IsRelay two_nodes (true_time 2) (events 2) second_sending
 second_relayed = record {
   heard = first_sending;
   flood = first_flood two_nodes 2;
-  occasion = contains_head (record { before = first_flood two_nodes 2; event = Heard first_sending }) (record { before = after (first_flood two_nodes 2) (Heard first_sending); event = Ended second_sending } ∷ []);
+  occasion =
+      contains_head (record { before = first_flood two_nodes 2; event = Heard first_sending })
+      (record { before = after (first_flood two_nodes 2) (Heard first_sending); event = Ended second_sending } ∷ []);
   answer = refl;
   start = sym (due_then 1344109056 (omega arith));
 }
@@ -252,7 +266,8 @@ two_nodes_keep_the_law = record {
       | inr is ↦ subst (λ (t : Tuning). (knows two_nodes.nodes t.node ≡ true) × (t ≡ tuning_by 1 t.node (events t.node))) is (refl, refl)
     ],
     λ is. subst (λ (t : Tuning). Contains (tunings_of two_node_log) t) (sym is.1)
-        (at_nodes (λ v. Contains (tunings_of two_node_log) (tuning_by 1 v (events v))) (contains_head first_tuning (second_tuning ∷ [])) (contains_tail first_tuning (second_tuning ∷ []) second_tuning (contains_head second_tuning [])) t.node is.0),
+        (at_nodes (λ v. Contains (tunings_of two_node_log) (tuning_by 1 v (events v))) (contains_head first_tuning (second_tuning ∷ []))
+        (contains_tail first_tuning (second_tuning ∷ []) second_tuning (contains_head second_tuning [])) t.node is.0),
   );
   begun = λ x. (
     λ is. sent (λ x. counter_of x.packet ≡ 0 → x ≡ first_sending) (λ at. refl) (λ at. absurd (omega arith)) x is.0 is.1,
@@ -260,7 +275,8 @@ two_nodes_keep_the_law = record {
   );
   lasts = sent (λ x. Lasts x) refl refl;
   hears = λ v x. (
-    λ there. subst (λ (g : Hearing). (knows two_nodes.nodes g.node ≡ true) × Hears scene g.node g.sending) (one_of hearing (record { node = v; sending = x }) there) (refl, hears_first),
+    λ there. subst (λ (g : Hearing). (knows two_nodes.nodes g.node ≡ true) × Hears scene g.node g.sending)
+        (one_of hearing (record { node = v; sending = x }) there) (refl, hears_first),
     λ is. hears_only v x is.0 is.1,
   );
   relayed = λ x here lasts is. at_nodes (λ v. x.node ≡ v → Relays v x → Contains (sendings_of two_node_log) x)

@@ -102,7 +102,8 @@ sending_end x = x.end
 
 -- the least of what is set at a device, the end of the next hearing and another tick
 abbrev pub least_due : DeviceState → Option HeardEntry → ℕ → ℕ
-least_due d h until = least_of (least_of (least_of (least_of until d.alarm) (option_map tick_of d.ordered)) (option_map sending_end d.sending)) (option_map end_of h)
+least_due d h until =
+    least_of (least_of (least_of (least_of until d.alarm) (option_map tick_of d.ordered)) (option_map sending_end d.sending)) (option_map end_of h)
 
 -- what comes before the alarms of a tick, after its script lines, and with its alarms and its start
 abbrev pub before_alarms_in : (ℕ → ℕ) → Setup → ℕ → List Reception → Device → Device

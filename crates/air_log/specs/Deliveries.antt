@@ -10,7 +10,8 @@ use Rattle.air_log.specs.LogText.{in_order}
 
 -- by frame, rank, slot and node
 abbrev pub comes_before : Delivery → Delivery → Bool
-comes_before a b = is_lt (ordering_then (ordering_then (ordering_then (nat_cmp a.frame b.frame) (nat_cmp a.rank b.rank)) (nat_cmp a.slot b.slot)) (nat_cmp a.node b.node))
+comes_before a b =
+    is_lt (ordering_then (ordering_then (ordering_then (nat_cmp a.frame b.frame) (nat_cmp a.rank b.rank)) (nat_cmp a.slot b.slot)) (nat_cmp a.node b.node))
 
 -- what a node of the scenario delivers by its trail
 abbrev pub delivered_at : ScenarioParts → (ℕ → ℕ → ℕ) → List Entry → NodeLine → List Delivery

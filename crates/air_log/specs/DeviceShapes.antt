@@ -12,7 +12,8 @@ abbrev pub power_of : Bool → ℕ → Node → Power
 power_of false boots n = PowerOff boots
 power_of true boots n = PowerOn n
 
-pub record IsDevice (node : ℕ) (profile : Numbers) (core : NodeState) (on : Bool) (boots : ℕ) (closed : Option TunedEntry) (listening : Option Listening) : Type 0 where
+pub record IsDevice (node : ℕ) (profile : Numbers) (core : NodeState) (on : Bool) (boots : ℕ) (closed : Option TunedEntry)
+    (listening : Option Listening) : Type 0 where
   pub id : node ≡ core.setup.id
   pub numbers : profile ≡ core.setup.profile
   pub boot : on ≡ true → core.node.core.boot ≡ boots

@@ -34,7 +34,8 @@ drop_by l (Put i payload) power = if loses i (seen power) then Some (record { fr
 -- what these lines lose, where the others stand above them
 abbrev pub drops_below : ScenarioParts → (ℕ → ℕ → ℕ) → List Entry → List ScriptLine → List ScriptLine → List DropLine
 drops_below s clocks air above [] = []
-drops_below s clocks air above (l ∷ ls) = option_to_list (drop_by l l.act (before_line s clocks air above l).power) ++ drops_below s clocks air (above ++ l ∷ []) ls
+drops_below s clocks air above (l ∷ ls) =
+    option_to_list (drop_by l l.act (before_line s clocks air above l).power) ++ drops_below s clocks air (above ++ l ∷ []) ls
 
 -- in the order of the text
 abbrev pub drops_of : ScenarioParts → (ℕ → ℕ → ℕ) → List Entry → List DropLine

@@ -9,7 +9,10 @@ use Rattle.air_log.specs.Charges.{windows_charge, scanned_frames}
 
 -- what the windows of its trail count, and the frames at whose start it scans
 abbrev pub charge_in : ScenarioParts → (ℕ → ℕ → ℕ) → List Entry → NodeLine → NodeCharge
-charge_in s clocks air n = record { windows = windows_charge s (trail_in s clocks air n.node); scanned = scanned_frames s n.node (clocks n.node) (heard_by air n.node) }
+charge_in s clocks air n = record {
+  windows = windows_charge s (trail_in s clocks air n.node);
+  scanned = scanned_frames s n.node (clocks n.node) (heard_by air n.node);
+}
 
 -- by ascending ids
 abbrev pub charges_in : ScenarioParts → (ℕ → ℕ → ℕ) → List Entry → List NodeCharge

@@ -74,7 +74,12 @@ sent_with Sent (Some x) = Some x.packet
 
 -- a window opens
 abbrev pub opened_sum : Bool → WindowSum → WindowSum
-opened_sum by_alarm x = record x { earlier = (x.earlier + x.last) % 2 ^ 64; last = if by_alarm then counted x.profile None else 0; by_alarm = by_alarm; sent = 0 }
+opened_sum by_alarm x = record x {
+  earlier = (x.earlier + x.last) % 2 ^ 64;
+  last = if by_alarm then counted x.profile None else 0;
+  by_alarm = by_alarm;
+  sent = 0;
+}
 
 -- a packet was sent in the last window
 abbrev pub only_if : Bool → List ℕ → Option (List ℕ)

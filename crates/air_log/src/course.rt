@@ -45,7 +45,13 @@ impl Model for Course {
 
     ghost Value = { CourseState };
 
-    ghost view = { λ c. record { device = c.device; sent = map sending_of c.sent.items; tuned = reverse (map tuning_of c.tuned.items); deliveries = c.deliveries.items; windows = c.windows } };
+    ghost view = { λ c. record {
+      device = c.device;
+      sent = map sending_of c.sent.items;
+      tuned = reverse (map tuning_of c.tuned.items);
+      deliveries = c.deliveries.items;
+      windows = c.windows;
+    } };
 }
 
 impl Course {
@@ -134,7 +140,8 @@ impl Course {
     pub(crate) fn alarm<C: DriftClock>(&mut self, clock: &C, t: u64) -> Result<(), Memory>
         requires ends { IsShownEnding (C.readings clock.now) t (λ q d. d) self.old }
         requires early { t ≤ 2 ^ 45 }
-        ensures { OnOk result ((q : Setup) (d : DeviceOf) → Shows q t self.old d → IsAlarmRun (C.readings clock.now) q t d (alarmed (C.readings clock.now) q t d) → Shows q t self.new (alarmed (C.readings clock.now) q t d)) }
+        ensures { OnOk result ((q : Setup) (d : DeviceOf) → Shows q t self.old d
+            → IsAlarmRun (C.readings clock.now) q t d (alarmed (C.readings clock.now) q t d) → Shows q t self.new (alarmed (C.readings clock.now) q t d)) }
     {
         // There are fewer of them than this.
         for _ in 0..u64::MAX {

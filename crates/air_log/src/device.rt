@@ -82,7 +82,17 @@ impl Model for Device {
 
     ghost Value = { DeviceState };
 
-    ghost view = { λ d. record { setup = d.core.setup; core = d.core.node; power = power_of d.on d.boots d.core.node; listening = d.listening; closed = d.closed; alarm = d.alarm; ordered = d.ordered; sending = d.sending; delivery = d.core.delivery } };
+    ghost view = { λ d. record {
+      setup = d.core.setup;
+      core = d.core.node;
+      power = power_of d.on d.boots d.core.node;
+      listening = d.listening;
+      closed = d.closed;
+      alarm = d.alarm;
+      ordered = d.ordered;
+      sending = d.sending;
+      delivery = d.core.delivery;
+    } };
 
     ghost invariant = { λ d. IsDevice d.node d.profile d.core d.on d.boots d.closed d.listening };
 }
@@ -99,7 +109,8 @@ impl Device {
     ) -> Result<Device, Memory>
         requires hosts { (1 ≤ length hosts.now) × (length hosts.now ≤ 4) }
         requires sends { (1 ≤ n) × (n ≤ 4) }
-        ensures setup { IfOk result (λ d. d.setup ≡ record { profile = profile.now; id = node; own = own_rank node hosts.now; ranks = length hosts.now; sends = n }) }
+        ensures setup { IfOk result
+            (λ d. d.setup ≡ record { profile = profile.now; id = node; own = own_rank node hosts.now; ranks = length hosts.now; sends = n }) }
         ensures rest { IfOk result (λ d. whole d nothing_made ≡ at_rest) }
         ensures delivery { IfOk result (λ d. d.delivery ≡ None) }
         ensures core { IfOk result (λ d. d.core ≡ rebooted 1) }
@@ -209,11 +220,11 @@ impl Device {
         tick
     }
 
-    /// The radio goes on at the channel of a rank at tick t, unless it is. A tuning that does not go on any more is handed
-    /// out.
+    /// The radio goes on at a rank's channel at tick t, unless it is. A tuning that does not go on any more is handed out.
     pub fn listen(&mut self, rank: Rank, t: u64) -> Option<TunedEntry>
         requires time { HappenedBy t self.old }
-        ensures whole { (clock : ℕ → ℕ) (made : Made) → EndedBefore t made.tuned → obeyed clock self.old.setup.id t (whole self.old made) (Listen rank) ≡ whole self.new (with_tuned result made) }
+        ensures whole { (clock : ℕ → ℕ) (made : Made) → EndedBefore t made.tuned
+            → obeyed clock self.old.setup.id t (whole self.old made) (Listen rank) ≡ whole self.new (with_tuned result made) }
         ensures before { IfSome result (λ e. e.end < t) }
         ensures own { IfSome result (λ e. e.node ≡ self.old.setup.id) }
         ensures time { HappenedBy t self.new }

@@ -16,7 +16,9 @@ impl Device {
     /// Power comes on. True exactly where it was off; then the node is to be told of its boot.
     pub fn switch_on(&mut self) -> bool
         requires { CanBoot self.old.power }
-        ensures whole { (clock : ℕ → ℕ) (t frame : ℕ) (made : Made) → after_act clock self.old.setup t frame (whole self.old made) On self.old.power ≡ (if result then event clock self.old.setup t Boot None (whole self.new made) else whole self.new made) }
+        ensures whole { (clock : ℕ → ℕ) (t frame : ℕ) (made : Made)
+            → after_act clock self.old.setup t frame (whole self.old made) On self.old.power
+            ≡ (if result then event clock self.old.setup t Boot None (whole self.new made) else whole self.new made) }
         ensures after { self.new ≡ (if result then record self.old { core = self.new.core; power = self.new.power; delivery = None } else self.old) }
         ensures time { (now : ℕ) → HappenedBy now self.old → HappenedBy now self.new }
     {
@@ -32,7 +34,8 @@ impl Device {
     /// Power goes off at tick t, and with it the radio, the alarm and what is ordered; a sending that runs goes on. A tuning
     /// that does not go on any more is handed out.
     pub fn switch_off(&mut self, t: u64) -> Option<TunedEntry>
-        ensures whole { (clock : ℕ → ℕ) (frame : ℕ) (made : Made) → after_act clock self.old.setup t frame (whole self.old made) Off self.old.power ≡ whole self.new (with_tuned result made) }
+        ensures whole { (clock : ℕ → ℕ) (frame : ℕ) (made : Made)
+            → after_act clock self.old.setup t frame (whole self.old made) Off self.old.power ≡ whole self.new (with_tuned result made) }
         ensures before { IfSome result (λ e. e.end < t) }
         ensures own { IfSome result (λ e. e.node ≡ self.old.setup.id) }
         ensures time { HappenedBy t self.old → HappenedBy t self.new }
@@ -51,7 +54,8 @@ impl Device {
     pub fn declare(&mut self, stream: u8, interval: u8)
         requires stream { stream ≤ 3 }
         requires interval { (1 ≤ interval) × (interval ≤ 120) }
-        ensures whole { (clock : ℕ → ℕ) (t frame : ℕ) (made : Made) → after_act clock self.old.setup t frame (whole self.old made) (Declare stream interval) self.old.power ≡ whole self.new made }
+        ensures whole { (clock : ℕ → ℕ) (t frame : ℕ) (made : Made)
+            → after_act clock self.old.setup t frame (whole self.old made) (Declare stream interval) self.old.power ≡ whole self.new made }
         ensures time { (now : ℕ) → HappenedBy now self.old → HappenedBy now self.new }
         ensures node { IsSameNode self.old self.new }
     {
@@ -63,7 +67,8 @@ impl Device {
     /// A stream, 0 to 3, wishes nothing more.
     pub fn leave(&mut self, stream: u8)
         requires { stream ≤ 3 }
-        ensures whole { (clock : ℕ → ℕ) (t frame : ℕ) (made : Made) → after_act clock self.old.setup t frame (whole self.old made) (Leave stream) self.old.power ≡ whole self.new made }
+        ensures whole { (clock : ℕ → ℕ) (t frame : ℕ) (made : Made)
+            → after_act clock self.old.setup t frame (whole self.old made) (Leave stream) self.old.power ≡ whole self.new made }
         ensures time { (now : ℕ) → HappenedBy now self.old → HappenedBy now self.new }
         ensures node { IsSameNode self.old self.new }
     {
@@ -76,7 +81,9 @@ impl Device {
     pub fn put(&mut self, stream: u8, payload: &Payload) -> bool
         requires stream { stream ≤ 3 }
         requires payload { length payload.now ≤ self.old.setup.profile.payload_max }
-        ensures whole { (clock : ℕ → ℕ) (t frame : ℕ) (made : Made) → after_act clock self.old.setup t frame (whole self.old made) (PutAct stream payload.now) self.old.power ≡ whole self.new (with_drop result (record { frame = frame; node = self.old.setup.id; stream = stream }) made) }
+        ensures whole { (clock : ℕ → ℕ) (t frame : ℕ) (made : Made)
+            → after_act clock self.old.setup t frame (whole self.old made) (PutAct stream payload.now) self.old.power
+            ≡ whole self.new (with_drop result (record { frame = frame; node = self.old.setup.id; stream = stream }) made) }
         ensures time { (now : ℕ) → HappenedBy now self.old → HappenedBy now self.new }
         ensures node { IsSameNode self.old self.new }
     {

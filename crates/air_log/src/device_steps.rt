@@ -28,7 +28,11 @@ impl Device {
         ensures after { self.new ≡ after_row self.old (row_of (C.readings clock.now) t event.now self.old) }
         ensures orders { Gives (R.told radio.old) (R.told radio.new) (orders_by (row_of (C.readings clock.now) t event.now self.old)) }
         ensures timely { All IsTimely (orders_by (row_of (C.readings clock.now) t event.now self.old)) }
-        ensures whole { (made : Made) (ended : Option Sending) → event_at (C.readings clock.now) self.old.setup t event.now ended (whole self.old made) ≡ fold (obeyed (C.readings clock.now) self.old.setup.id t) (whole self.new (made_by t event.now ended self.old.power (row_of (C.readings clock.now) t event.now self.old) made)) (orders_by (row_of (C.readings clock.now) t event.now self.old)) }
+        ensures whole { (made : Made) (ended : Option Sending)
+            → event_at (C.readings clock.now) self.old.setup t event.now ended (whole self.old made)
+            ≡ fold (obeyed (C.readings clock.now) self.old.setup.id t)
+            (whole self.new (made_by t event.now ended self.old.power (row_of (C.readings clock.now) t event.now self.old) made))
+            (orders_by (row_of (C.readings clock.now) t event.now self.old)) }
         ensures time { (now : ℕ) → HappenedBy now self.old → HappenedBy now self.new }
     {
         if self.on {
@@ -101,7 +105,8 @@ impl Device {
     pub fn end_sending(&mut self, t: u64) -> Option<Sending>
         ensures ended { result ≡ ending_at t self.old.sending }
         ensures after { self.new ≡ record self.old { sending = if is_some result then None else self.old.sending } }
-        ensures whole { (clock : ℕ → ℕ) (made : Made) → ended clock self.old.setup t (whole self.old made) ≡ told_of clock self.old.setup t result (whole self.new made) }
+        ensures whole { (clock : ℕ → ℕ) (made : Made)
+            → ended clock self.old.setup t (whole self.old made) ≡ told_of clock self.old.setup t result (whole self.new made) }
     {
         match &self.sending {
             Some(x) if x.end == t => self.sending.take(),

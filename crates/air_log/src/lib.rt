@@ -9,6 +9,7 @@ mod device_script;
 mod device_steps;
 mod entry;
 pub mod flood_law;
+mod hearings;
 mod line_writers;
 mod printing;
 mod trail;

@@ -28,7 +28,14 @@ impl Model for Trail {
 
     ghost Value = { TrailTold };
 
-    ghost view = { λ t. record { sent = map sending_of t.sent.items; tuned = reverse (map tuning_of t.tuned.items); deliveries = t.deliveries.items; windows = t.windows; scanned = t.scanned; tunes = t.tunes.items } };
+    ghost view = { λ t. record {
+      sent = map sending_of t.sent.items;
+      tuned = reverse (map tuning_of t.tuned.items);
+      deliveries = t.deliveries.items;
+      windows = t.windows;
+      scanned = t.scanned;
+      tunes = t.tunes.items;
+    } };
 }
 
 impl Trail {

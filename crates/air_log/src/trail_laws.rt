@@ -8,7 +8,8 @@ ghost use Rattle.air_log.specs.AlarmRuns.{IsAlarmRun};
 ghost use Rattle.air_log.specs.Trails.{Reception, hears, heard, setup_of, run_end, before_alarms, before_start, before_tick, trail};
 ghost use Rattle.air_log.specs.QuietTicks.{IsQuiet, ends_before};
 ghost use Rattle.air_log.specs.Ahead.{IsAhead, NextDue};
-ghost use Rattle.air_log.specs.FirstRound.{IsWorked, first_round, first_round_log, heard_by_host, heard_by_other, sent_by_host, sent_by_other, tuned_by_host, tuned_by_other};
+ghost use Rattle.air_log.specs.FirstRound.{IsWorked, first_round, first_round_log, heard_by_host};
+ghost use Rattle.air_log.specs.FirstRound.{heard_by_other, sent_by_host, sent_by_other, tuned_by_host, tuned_by_other};
 ghost use Rattle.air_log.specs.TwoNodeLog.{true_time};
 ghost use Rattle.bus_rules.specs.declared.tune.Tune.TheVariants.{Hold, Host};
 ghost use Rattle.air_log.specs.declared.entry.Entry.{Entry};
@@ -49,7 +50,8 @@ pub fn hearings_in_turn_are_taken_as_they_stand()
 pub fn alarms_of_a_tick_end()
     ensures end { (s : ScenarioParts) (v : ℕ) (clock : ℕ → ℕ) (hs : List Reception) (t : ℕ)
         → IsSoundScenario s → IsClock clock → t ≤ run_end s
-        → IsAlarmRun clock (setup_of s v) t (before_alarms s v clock hs t (before_tick s v clock hs t)) (before_start s v clock hs t (before_tick s v clock hs t)) }
+        → IsAlarmRun clock (setup_of s v) t (before_alarms s v clock hs t (before_tick s v clock hs t))
+        (before_start s v clock hs t (before_tick s v clock hs t)) }
     ensures agree { (clock : ℕ → ℕ) (s : Setup) (t : ℕ) (d e f : Device)
         → IsAlarmRun clock s t d e → IsAlarmRun clock s t d f → e ≡ f }
 {}

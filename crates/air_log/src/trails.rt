@@ -1,7 +1,7 @@
 //! The trail of a node over the entries of a log.
 
-ghost use Rattle.std.specs.Prelude.{◌≡◌, ◌≤◌, ◌<◌, ◌+◌, ◌%◌, ◌^◌, ℕ, true, false, Some, None, OnOk, IfOk, List, map, take, fold, slice_get, min, ◌==◌, if◌then◌else◌, [], ◌∷◌, ◌++◌, option_to_list};
-ghost use Rattle.std.specs.Option.{option_map};
+ghost use Rattle.std.specs.Prelude.{◌≡◌, ◌≤◌, ◌<◌, ◌+◌, ◌%◌, ◌^◌, ℕ, true, false, Some, None, OnOk, IfOk, List, map, take};
+ghost use Rattle.std.specs.Prelude.{fold, slice_get, min, ◌==◌, if◌then◌else◌, [], ◌∷◌, ◌++◌};
 ghost use Rattle.bus_rules.specs.Cores.{Setup};
 ghost use Rattle.scenario_text.specs.ScenarioFacts.{IsSoundScenario, IsAct, turned};
 ghost use Rattle.scenario_text.specs.declared.script.Act.TheVariants.{On as OnOf};
@@ -9,13 +9,15 @@ ghost use Rattle.air_log.specs.DeviceStates.{CanBoot};
 ghost use Rattle.air_log.specs.Charges.{scans_with};
 ghost use Rattle.air_log.specs.Devices.{Device as DeviceOf, seen_power};
 ghost use Rattle.air_log.specs.ScriptedDevices.{after_line};
-ghost use Rattle.air_log.specs.Lawful.{heard_by, hearings_by};
+ghost use Rattle.air_log.specs.Lawful.{heard_by};
 ghost use Rattle.air_log.specs.Trails.{Reception, setup_of, frame_start, tune_of, lines_at, heard as heard_at, at_frame, before_tick};
 ghost use Rattle.air_log.specs.TrailsTold.{trail_told};
-ghost use Rattle.air_log.specs.Courses.{Shows, IsShown, Goes, IsShownEnding, IsCut, Ascends, AlarmsEnd, frame_of, end_of, reception_in, hearing_of, before_alarms_in, after_lines, hearing_with, least_of, least_due};
+ghost use Rattle.air_log.specs.Courses.{Shows, IsShown, Goes, IsShownEnding, IsCut, Ascends, AlarmsEnd, frame_of, end_of};
+ghost use Rattle.air_log.specs.Courses.{reception_in, before_alarms_in, after_lines, least_of, least_due};
 
 use crate::course::Course;
-use crate::{Air, Entry, HeardEntry, Trail};
+use crate::hearings::heard_by;
+use crate::{Air, HeardEntry, Trail};
 use bus_rules::Tune;
 use lwb_base::{Event, Memory, NodeId};
 use scenario_text::{Scenario, ScriptLine};
@@ -75,7 +77,14 @@ impl Course {
 
     // What it tells with these tunes, once it has come to its end.
     fn told(self, scanned: u32, tunes: Vec<Option<Tune>>) -> Trail
-        ensures { result ≡ record { sent = self.sent; tuned = self.tuned; deliveries = self.deliveries; windows = (self.windows.earlier + self.windows.last) % 2 ^ 64; scanned = scanned; tunes = tunes.items } }
+        ensures { result ≡ record {
+          sent = self.sent;
+          tuned = self.tuned;
+          deliveries = self.deliveries;
+          windows = (self.windows.earlier + self.windows.last) % 2 ^ 64;
+          scanned = scanned;
+          tunes = tunes.items;
+        } }
     {
         let windows = self.windows.total();
         Trail {
@@ -105,7 +114,8 @@ impl Course {
         requires power { seen_power self.old.device.power ≡ turned self.old.device.setup.id (false, 0) (take first s.now.script) }
         ensures cut { IfOk result (λ told. IsCut frame_of s.now.script told (frame + 1)) }
         ensures power { IfOk result (λ told. seen_power self.new.device.power ≡ turned self.old.device.setup.id (false, 0) (take told s.now.script)) }
-        ensures goes { OnOk result (Goes (frame_start s.now frame) (λ q d. fold (after_line (C.readings clock.now) q (frame_start s.now frame)) d (lines_at s.now q.id (frame_start s.now frame))) self.old self.new) }
+        ensures goes { OnOk result (Goes (frame_start s.now frame)
+            (λ q d. fold (after_line (C.readings clock.now) q (frame_start s.now frame)) d (lines_at s.now q.id (frame_start s.now frame))) self.old self.new) }
     {
         let t = u64::from(frame) * s.profile().frame();
         let mut told = first;
@@ -147,11 +157,14 @@ impl Course {
         requires frame { frame < s.now.frames }
         requires ascends { Ascends end_of heard.now }
         requires cut { IsCut end_of heard.now first (frame_start s.now frame) }
-        requires shown { (v : ℕ) × Shows (setup_of s.now v) (frame_start s.now frame) self.old (at_frame s.now v (C.readings clock.now) (map reception_in heard.now) frame) }
+        requires shown { (v : ℕ)
+            × Shows (setup_of s.now v) (frame_start s.now frame) self.old (at_frame s.now v (C.readings clock.now) (map reception_in heard.now) frame) }
         ensures cut { IfOk result (λ k. IsCut end_of heard.now k (frame_start s.now (frame + 1))) }
         ensures power { OnOk result (seen_power self.new.device.power ≡ seen_power self.old.device.power) }
-        ensures shows { (v : ℕ) → Shows (setup_of s.now v) (frame_start s.now frame) self.old (at_frame s.now v (C.readings clock.now) (map reception_in heard.now) frame)
-            → OnOk result (Shows (setup_of s.now v) (frame_start s.now (frame + 1)) self.new (before_tick s.now v (C.readings clock.now) (map reception_in heard.now) (frame_start s.now (frame + 1)))) }
+        ensures shows { (v : ℕ)
+            → Shows (setup_of s.now v) (frame_start s.now frame) self.old (at_frame s.now v (C.readings clock.now) (map reception_in heard.now) frame)
+            → OnOk result (Shows (setup_of s.now v) (frame_start s.now (frame + 1)) self.new
+            (before_tick s.now v (C.readings clock.now) (map reception_in heard.now) (frame_start s.now (frame + 1)))) }
     {
         let length = s.profile().frame();
         let mut t = u64::from(frame) * length;
@@ -177,7 +190,8 @@ impl Course {
         requires cut { IsCut end_of heard.now first t }
         requires ends { IsShownEnding (C.readings clock.now) t (λ q d. before_alarms_in (C.readings clock.now) q t (map reception_in heard.now) d) self.old }
         ensures cut { IfOk result (λ k. IsCut end_of heard.now k (t + 1)) }
-        ensures goes { OnOk result ((q : Setup) (d : DeviceOf) → Shows q t self.old d → AlarmsEnd (C.readings clock.now) q t (before_alarms_in (C.readings clock.now) q t (map reception_in heard.now) d)
+        ensures goes { OnOk result ((q : Setup) (d : DeviceOf) → Shows q t self.old d
+            → AlarmsEnd (C.readings clock.now) q t (before_alarms_in (C.readings clock.now) q t (map reception_in heard.now) d)
             → Shows q t self.new (after_lines (C.readings clock.now) q t (map reception_in heard.now) d)) }
     {
         let next = self.hear(clock, heard, t, first)?;
@@ -240,64 +254,5 @@ fn earlier(due: u64, tick: Option<u64>) -> u64
     match tick {
         Some(tick) => due.min(tick),
         None => due,
-    }
-}
-
-// The hearings of a node, by end, then sender, then place in the air.
-fn heard_by(alloc: Global, entries: &[Entry], node: NodeId) -> Result<Vec<HeardEntry>, Memory>
-    ensures heard { IfOk result (λ hs. map reception_in hs.items ≡ heard_by entries.now node) }
-    ensures ascends { IfOk result (λ hs. Ascends end_of hs.items) }
-{
-    let mut heard = hearings_by(alloc, entries, node)?;
-    heard.sort_by_key(|hearing| place(hearing))?;
-    Ok(heard)
-}
-
-// What the order goes by.
-fn place(hearing: &HeardEntry) -> (u64, u8)
-    ensures { result ≡ (hearing.now.end, hearing.now.from) }
-{
-    (hearing.end, hearing.from.number())
-}
-
-fn hearings_by(alloc: Global, entries: &[Entry], node: NodeId) -> Result<Vec<HeardEntry>, Memory>
-    ensures { IfOk result (λ hs. map hearing_of hs.items ≡ hearings_by entries.now node) }
-{
-    let mut heard = Vec::new(alloc);
-    for entry in entries {
-        let hearing = hearing_by(entry, node);
-        push_some(&mut heard, hearing)?;
-    }
-    Ok(heard)
-}
-
-fn push_some(heard: &mut Vec<HeardEntry>, hearing: Option<HeardEntry>) -> Result<(), Memory>
-    ensures { OnOk result (heard.new.items ≡ heard.old.items ++ option_to_list hearing) }
-{
-    if let Some(hearing) = hearing {
-        heard.push(hearing)?;
-    }
-    Ok(())
-}
-
-// The hearing that an entry says, if it is of this node.
-fn hearing_by(entry: &Entry, node: NodeId) -> Option<HeardEntry>
-    ensures { option_map hearing_of result ≡ hearing_with entry.now node }
-{
-    match entry {
-        Entry::Heard(hearing) => {
-            if hearing.node != node {
-                return None;
-            }
-            Some(HeardEntry {
-                rank: hearing.rank,
-                node: hearing.node,
-                from: hearing.from,
-                start: hearing.start,
-                end: hearing.end,
-                packet: hearing.packet.copy(),
-            })
-        }
-        Entry::Sent(_) | Entry::Tuned(_) => None,
     }
 }

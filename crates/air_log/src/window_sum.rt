@@ -5,6 +5,7 @@ ghost use Rattle.lwb_base.specs.Profile.{IsProfile};
 ghost use Rattle.air_log.specs.Charges.{counted};
 ghost use Rattle.air_log.specs.WindowSums.{opened_sum, sent_sum, noted};
 
+use bus_rules::until_last_sending;
 use lwb_base::{Packet, Profile};
 use std::marker::Model;
 
@@ -90,18 +91,9 @@ impl WindowSum {
         if !self.by_alarm {
             self.last = 0;
         } else if self.sent == self.sends {
-            self.last = until_sent(&self.profile, packet);
+            self.last = until_last_sending(&self.profile, packet.counter(), packet.length());
         } else {
             self.last = self.profile.close();
         }
     }
-}
-
-// From the opening of a window to the end of a sending in it, by its step.
-fn until_sent(profile: &Profile, packet: &Packet) -> u64
-    ensures value { result ≡ counted profile.now (Some packet.now) }
-    ensures small { result ≤ 2 ^ 28 }
-{
-    let steps = u64::from(packet.counter()) + 1;
-    profile.listen() + steps * profile.step(packet.length()) - profile.turn()
 }

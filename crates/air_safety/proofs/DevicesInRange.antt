@@ -1,5 +1,6 @@
 -- What is done to a device in a tick keeps it in its ranges.
-use Rattle.std.proofs.Common.{◌≡◌, ℕ, zero, suc, ◌+◌, ◌≤◌, List, [], ◌∷◌, filter, fold, Bool, true, false, ◌&&◌, ◌==◌, if◌then◌else◌, Some, None, Option, IfSome, refl, sym, subst, arith}
+use Rattle.std.proofs.Common.{◌≡◌, ℕ, zero, suc, ◌+◌, ◌≤◌, List, [], ◌∷◌, filter, fold, Bool, true, false, ◌&&◌, ◌==◌}
+use Rattle.std.proofs.Common.{if◌then◌else◌, Some, None, Option, IfSome, refl, sym, subst, arith}
 use Rattle.std.specs.Prelude.{All}
 use Rattle.std.specs.List.{AllByRecursion}
 use Rattle.std.proofs.lemmas.Bool.{cond_both, eqb-true}
@@ -22,7 +23,8 @@ use Rattle.node_core.specs.declared.stage.Stage.TheVariants.{Idle, Scanning, Awa
 use Rattle.node_core.specs.Nodes.{Node, rebooted}
 use Rattle.node_core.specs.Rows.{Stepped, row}
 use Rattle.node_core.specs.Rows.{node_after, orders_by}
-use Rattle.air_log.specs.Devices.{Device, Power, PowerOff, PowerOn, Listening, Ordered, obeyed, moved, stepped, event, event_by, silenced, tunes, listens_to, seen_power}
+use Rattle.air_log.specs.Devices.{Device, Power, PowerOff, PowerOn, Listening, Ordered, obeyed, moved}
+use Rattle.air_log.specs.Devices.{stepped, event, event_by, silenced, tunes, listens_to, seen_power}
 use Rattle.air_log.specs.ScriptedDevices.{after_act, after_line, dropped, with_new_core}
 use Rattle.air_log.specs.Trails.{Reception, ending_at, hears, heard, ended_by, ended, is_due, alarms, alarmed, one_alarm, begun, begun_by, starts, sending_from}
 use Rattle.air_log.proofs.KeptPower.{line_power, boots_up}
@@ -60,7 +62,15 @@ stage_stays s f c x Idle at = tt
 stage_stays s f c x Scanning at = at
 stage_stays s f c x AwaitFrame at = tt
 stage_stays s f c x (AwaitSlot j) at = at
-stage_stays s f c x (InWindow j w) at = record { slot = at.slot; last = at.last; next = at.next; flood = at.flood; own = at.own; goes_on = at.goes_on; hosted = at.hosted }
+stage_stays s f c x (InWindow j w) at = record {
+  slot = at.slot;
+  last = at.last;
+  next = at.next;
+  flood = at.flood;
+  own = at.own;
+  goes_on = at.goes_on;
+  hosted = at.hosted;
+}
 
 module _ (s : Setup) (set : IsSetup s) (Q H : List ℕ → Type 0) (rules : AreRules s Q H) (clock : ℕ → ℕ) (t : ℕ) where
   -- orders
@@ -99,7 +109,8 @@ module _ (s : Setup) (set : IsSetup s) (Q H : List ℕ → Type 0) (rules : AreR
   node_is n None is step = (is, tt)
   node_is n (Some r) is step = step
 
-  by_power : (e : Event) (x : Option Sending) (d : Device) (p : Power) → d.power ≡ p → IsBrought H e → IsRanged Q s d → IsRanged Q s (event_by clock s t e x d p)
+  by_power : (e : Event) (x : Option Sending) (d : Device) (p : Power) → d.power ≡ p → IsBrought H e → IsRanged Q s d
+      → IsRanged Q s (event_by clock s t e x d p)
   by_power e x d (PowerOff boots) at brought is = is
   by_power e x d (PowerOn n) at brought is =
       let node : IsNode s n = subst (IsPower s) at is.power in
@@ -154,9 +165,11 @@ module _ (s : Setup) (set : IsSetup s) (Q H : List ℕ → Type 0) (rules : AreR
   lines_are [] d all few is = is
   lines_are (l ∷ ls) d all few is =
       let b = seen_power d.power in
-      let next : (turned s.id (turned_by l.act b) ls).1 ≤ 200 = subst (λ (own : Bool). (turned s.id (if own then turned_by l.act b else b) ls).1 ≤ 200) all.0.0 few in
+      let next : (turned s.id (turned_by l.act b) ls).1 ≤ 200 =
+      subst (λ (own : Bool). (turned s.id (if own then turned_by l.act b else b) ls).1 ≤ 200) all.0.0 few in
       let now : (turned_by l.act b).1 ≤ 200 = omega (arith, boots_up s.id (turned_by l.act b) ls, next) in
-      lines_are ls (after_line clock s t d l) all.1 (subst (λ (c : Bool × ℕ). (turned s.id c ls).1 ≤ 200) (sym (line_power clock s t d l)) next) (act_is l.frame d l.act d.power refl all.0.1 now is)
+      lines_are ls (after_line clock s t d l) all.1 (subst (λ (c : Bool × ℕ). (turned s.id c ls).1 ≤ 200) (sym (line_power clock s t d l)) next)
+      (act_is l.frame d l.act d.power refl all.0.1 now is)
 
   -- hearings
   abbrev IsShort : Reception → Type 0
@@ -188,7 +201,8 @@ module _ (s : Setup) (set : IsSetup s) (Q H : List ℕ → Type 0) (rules : AreR
   alarms_are true zero d is = is
   alarms_are true (suc more) d is =
       let after = one_alarm clock s t d in
-      alarms_are (is_due t after.alarm) more after (event_is AlarmEvent None (record d { alarm = None }) tt (record { power = is.power; ordered = is.ordered; sending = is.sending; sent = is.sent }))
+      alarms_are (is_due t after.alarm) more after
+      (event_is AlarmEvent None (record d { alarm = None }) tt (record { power = is.power; ordered = is.ordered; sending = is.sending; sent = is.sent }))
 
   pub alarmed_is : (d : Device) → IsRanged Q s d → IsRanged Q s (alarmed clock s t d)
   alarmed_is d is = alarms_are (is_due t d.alarm) (clock t + 300) d is
@@ -198,7 +212,12 @@ module _ (s : Setup) (set : IsSetup s) (Q H : List ℕ → Type 0) (rules : AreR
   starts_is q d None x spoken is = record { power = is.power; ordered = tt; sending = is.sending; sent = is.sent }
   starts_is q d (Some l) (Some x) spoken is = record { power = is.power; ordered = tt; sending = is.sending; sent = is.sent }
   starts_is q d (Some l) None spoken is =
-      record { power = is.power; ordered = tt; sending = spoken; sent = All-push (λ (x : Sending). Q x.packet) d.made.sent (sending_from s t q l) is.sent spoken }
+      record {
+        power = is.power;
+        ordered = tt;
+        sending = spoken;
+        sent = All-push (λ (x : Sending). Q x.packet) d.made.sent (sending_from s t q l) is.sent spoken;
+      }
 
   begun_of : (d : Device) (o : Option Ordered) → d.ordered ≡ o → IsRanged Q s d → IsRanged Q s (begun_by s t d o)
   begun_of d None at is = is

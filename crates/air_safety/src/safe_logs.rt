@@ -9,7 +9,8 @@ ghost use Rattle.air_log.specs.Safe.{Safe};
 ghost use Rattle.air_log.specs.TwoNodeLog.{true_time};
 ghost use Rattle.air_log.specs.FirstRound.{first_round, first_round_log};
 ghost use Rattle.air_safety.specs.BrokenClauses.{BreaksOnly, InFrame, Apart, Alike, OneBegins, Silent};
-ghost use Rattle.air_safety.specs.UnsafeLogs.{ends_late, slots_meet, steps_meet, starts_apart, other_bytes, two_begin, not_the_host, no_power, switched_off, unheard, not_the_owner, not_due, not_opened, gone_off};
+ghost use Rattle.air_safety.specs.UnsafeLogs.{ends_late, slots_meet, steps_meet, starts_apart, other_bytes, two_begin};
+ghost use Rattle.air_safety.specs.UnsafeLogs.{not_the_host, no_power, switched_off, unheard, not_the_owner, not_due, not_opened, gone_off};
 
 /// Lawful logs are heedful: that is what safety stands on.
 pub fn lawful_logs_are_heedful()

@@ -1,6 +1,6 @@
 -- One frame more of a run.
 use Rattle.std.proofs.Common.{◌≡◌, ◌<◌, ◌≤◌, ◌+◌, ◌*◌, ◌++◌, [], ℕ, suc, List, All, inl, inr, if◌then◌else◌, length, map}
-use Rattle.std.proofs.Common.{get_or, take, count_by, sum_by, subst, refl, sym, ◌∙◌, ap, arith, add-one}
+use Rattle.std.proofs.Common.{get_or, take, sum_by, subst, refl, sym, ◌∙◌, ap, arith, add-one}
 use Rattle.std.specs.List.{range_with_len}
 use Rattle.std.proofs.lemmas.Bool.{cases_lt}
 use Rattle.std.proofs.lemmas.List.{get_or-map, length-map, take_all}

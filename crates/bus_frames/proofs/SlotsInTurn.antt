@@ -1,5 +1,5 @@
 -- The slots of a round, one after another.
-use Rattle.std.proofs.Common.{◌≡◌, ◌≤◌, ◌<◌, ◌+◌, ◌++◌, ◌∷◌, ◌==◌, [], ℕ, zero, List, Bool, true, false, if◌then◌else◌, length, map, flat_map}
+use Rattle.std.proofs.Common.{◌≡◌, ◌≤◌, ◌<◌, ◌+◌, ◌++◌, ◌∷◌, ◌==◌, [], ℕ, List, Bool, true, false, if◌then◌else◌, length, map, flat_map}
 use Rattle.std.proofs.Common.{get_or, sum_by, refl, sym, ◌∙◌, ap, arith, add-zero, append-nil, mul-le-mul_right}
 use Rattle.std.specs.List.{range_with_len}
 use Rattle.std.proofs.lemmas.List.Concat.{flat_map-append}

@@ -33,7 +33,8 @@ pub fn end_all(nodes: &mut [BusNode], frame: u32)
 pub fn count_scans(costs: &mut [Cost], nodes: &[BusNode])
     requires nodes { length nodes.now ≡ length costs.old }
     requires few { All (λ c. c.scanned ≤ 4096) costs.old }
-    ensures { (s : ScenarioParts) (ranks : ℕ → ℕ) (states : ℕ → State) (cost : ℕ → CostOf) → nodes.now ≡ nodes_with s ranks states → costs.old ≡ map cost (ids s.nodes)
+    ensures { (s : ScenarioParts) (ranks : ℕ → ℕ) (states : ℕ → State) (cost : ℕ → CostOf) → nodes.now ≡ nodes_with s ranks states
+        → costs.old ≡ map cost (ids s.nodes)
         → costs.new ≡ map (λ v. with_scan (states v) (cost v)) (ids s.nodes) }
 {
     let mut place = 0;

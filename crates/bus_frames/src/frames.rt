@@ -51,7 +51,8 @@ fn begin_rounds(net: &mut Network)
     requires each { length net.old.nodes ≡ length net.old.costs }
     requires few { All (λ c. c.scanned ≤ 4096) net.old.costs }
     ensures nodes { net.new.nodes ≡ map begun net.old.nodes }
-    ensures costs { (s : ScenarioParts) (ranks : ℕ → ℕ) (states : ℕ → State) (cost : ℕ → CostOf) → net.old.nodes ≡ nodes_with s ranks states → net.old.costs ≡ map cost (ids s.nodes)
+    ensures costs { (s : ScenarioParts) (ranks : ℕ → ℕ) (states : ℕ → State) (cost : ℕ → CostOf) → net.old.nodes ≡ nodes_with s ranks states
+        → net.old.costs ≡ map cost (ids s.nodes)
         → net.new.costs ≡ map (λ v. with_scan (states v) (cost v)) (ids s.nodes) }
     ensures same { length net.new.costs ≡ length net.old.costs }
     ensures rest { (net.new.ids ≡ net.old.ids) × (net.new.deliveries ≡ net.old.deliveries) }

@@ -29,7 +29,8 @@ pub fn run_rounds(alloc: Global, net: &mut Network, s: &Scenario, frame: u32) ->
     ensures deliveries { OnOk result ((start : ℕ → State) → AreRanked s.now start → net.old.nodes ≡ nodes_with s.now (ranks_in start) start
         → net.new.deliveries ≡ net.old.deliveries ++ frame_deliveries s.now frame start) }
     ensures costs { OnOk result ((start : ℕ → State) (cost : ℕ → CostOf) → AreRanked s.now start → net.old.nodes ≡ nodes_with s.now (ranks_in start) start
-        → net.old.costs ≡ map cost (ids s.now.nodes) → net.new.costs ≡ map (λ v. with_round s.now (ranks_in start v) frame start v (cost v)) (ids s.now.nodes)) }
+        → net.old.costs ≡ map cost (ids s.now.nodes)
+        → net.new.costs ≡ map (λ v. with_round s.now (ranks_in start v) frame start v (cost v)) (ids s.now.nodes)) }
 {
     let ranks = hosts_of(s);
     for rank in 0..ranks {
@@ -68,7 +69,8 @@ fn run_round(
         → net.new.nodes ≡ nodes_in s.now rank start (round s.now rank frame start) others) }
     ensures deliveries { OnOk result ((start others : ℕ → State) → net.old.nodes ≡ nodes_in s.now rank start start others
         → net.new.deliveries ≡ net.old.deliveries ++ round_deliveries s.now rank frame start) }
-    ensures costs { OnOk result ((start others : ℕ → State) (cost : ℕ → CostOf) → net.old.nodes ≡ nodes_in s.now rank start start others → net.old.costs ≡ map cost (ids s.now.nodes)
+    ensures costs { OnOk result
+        ((start others : ℕ → State) (cost : ℕ → CostOf) → net.old.nodes ≡ nodes_in s.now rank start start others → net.old.costs ≡ map cost (ids s.now.nodes)
         → net.new.costs ≡ map (λ v. if ranks_in start v == rank then with_round s.now rank frame start v (cost v) else cost v) (ids s.now.nodes)) }
 {
     let parts = parts_of_round(alloc, &net.nodes, rank, frame)?;
@@ -94,9 +96,11 @@ fn run_slots(
         → net.new.nodes ≡ nodes_in s.now rank start (before_slot s.now rank frame p start (last_slot p + 1)) others) }
     ensures deliveries { OnOk result ((p : Plan) (start others : ℕ → State) → parts.now ≡ parts_of p → net.old.nodes ≡ nodes_in s.now rank start start others
         → net.new.deliveries ≡ net.old.deliveries ++ flat_map (slot_deliveries s.now rank frame p start) (slots_of p)) }
-    ensures costs { OnOk result ((p : Plan) (start others : ℕ → State) (cost : ℕ → CostOf) → parts.now ≡ parts_of p → net.old.nodes ≡ nodes_in s.now rank start start others
+    ensures costs { OnOk result
+        ((p : Plan) (start others : ℕ → State) (cost : ℕ → CostOf) → parts.now ≡ parts_of p → net.old.nodes ≡ nodes_in s.now rank start start others
         → net.old.costs ≡ map cost (ids s.now.nodes)
-        → net.new.costs ≡ map (λ v. if ranks_in start v == rank then with_slots s.now rank frame p start (last_slot p + 1) v (cost v) else cost v) (ids s.now.nodes)) }
+        → net.new.costs
+        ≡ map (λ v. if ranks_in start v == rank then with_slots s.now rank frame p start (last_slot p + 1) v (cost v) else cost v) (ids s.now.nodes)) }
 {
     for (slot, part) in parts.iter().enumerate() {
         net.run_slot(s, rank, frame, slot as u8, part)?;

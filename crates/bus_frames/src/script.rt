@@ -1,6 +1,7 @@
 //! What the script has for a frame.
 
-ghost use Rattle.std.specs.Prelude.{◌≡◌, ◌≤◌, ◌<◌, ◌+◌, ◌++◌, ℕ, Some, [], IfOk, OnOk, length, option_to_list, slice_index, slice_index_or, slice_set, take, true};
+ghost use Rattle.std.specs.Prelude.{◌≡◌, ◌≤◌, ◌<◌, ◌+◌, ◌++◌, ℕ, Some, [], IfOk, OnOk, length};
+ghost use Rattle.std.specs.Prelude.{option_to_list, slice_index, slice_index_or, slice_set, take, true};
 ghost use Rattle.std.specs.List.{AllPairs};
 ghost use Rattle.bus_rules.specs.States.{State};
 ghost use Rattle.scenario_text.specs.ScenarioFacts.{IsAct};
@@ -72,7 +73,8 @@ fn tell_line(net: &mut Network, line: &ScriptLine, drops: &mut Vec<DropLine>) ->
 
 // The packet of a line is lost, or not.
 fn push_lost(drops: &mut Vec<DropLine>, line: &ScriptLine, is_lost: bool) -> Result<(), Memory>
-    ensures { OnOk result ((x : State) → is_lost ≡ loses_by line.now.act x → drops.new.items ≡ drops.old.items ++ option_to_list (lost_by line.now line.now.act x)) }
+    ensures { OnOk result
+        ((x : State) → is_lost ≡ loses_by line.now.act x → drops.new.items ≡ drops.old.items ++ option_to_list (lost_by line.now line.now.act x)) }
 {
     match &line.act {
         Act::Put(stream, _) if is_lost => {

@@ -1,7 +1,9 @@
 -- First hearings of a flood by steps.
-use Rattle.std.proofs.Common.{◌≡◌, ℕ, zero, suc, ◌↔◌, Bool, false, ◌+◌, ◌<◌, true, not, ◌&&◌, ◌||◌, if◌then◌else◌, inl, inr, Option, Some, None, refl, sym, ◌∙◌, ap, subst, arith, nat_lt, ◌==◌}
+use Rattle.std.proofs.Common.{◌≡◌, ℕ, zero, suc, ◌↔◌, Bool, false, ◌+◌, ◌<◌, true, not, ◌&&◌, ◌||◌, if◌then◌else◌, inl}
+use Rattle.std.proofs.Common.{inr, Option, Some, None, refl, sym, ◌∙◌, ap, subst, arith, nat_lt, ◌==◌}
 use Rattle.std.proofs.lemmas.Bool.{cases_lt, and_parts, eqb-true, ltb-true}
-use Rattle.bus_model.specs.Flooding.{Setting, moment, has, candidates, named, pick, agrees, may_hear, takes, hears, first_heard, Hears, Accepts, accepted, STEPS}
+use Rattle.bus_model.specs.Flooding.{Setting, moment, has, candidates, named, pick, agrees, may_hear}
+use Rattle.bus_model.specs.Flooding.{takes, hears, first_heard, Hears, Accepts, accepted, STEPS}
 use Rattle.bus_model.proofs.Options.{inspect, only_from, from_filter, heard_parts, sends_parts, not_both, named_parts}
 
 -- what is kept by step n is the first hearing
@@ -28,15 +30,18 @@ module _ (s : Setting) where
 
   pub none_yet : (n v : ℕ) → (moment s n).heard v ≡ None → (i : ℕ) → i < n → (p : ℕ) → Hears s v i p → ⊥
   none_yet zero v is i less p heard = omega arith
-  none_yet (suc n) v is i less p heard = by_cases ((moment s n).heard v) (hears s (moment s n) n v) (λ at_old before. none_yet n v at_old i before p heard) refl refl (sym (kept_as n v) ∙ is)
+  none_yet (suc n) v is i less p heard =
+      by_cases ((moment s n).heard v) (hears s (moment s n) n v) (λ at_old before. none_yet n v at_old i before p heard) refl refl (sym (kept_as n v) ∙ is)
     where
-      by_cases : (old : Option (ℕ × ℕ)) (now : Option ℕ) → ((moment s n).heard v ≡ None → i < n → ⊥) → (moment s n).heard v ≡ old → hears s (moment s n) n v ≡ now → first_heard old n now ≡ None → ⊥
+      by_cases : (old : Option (ℕ × ℕ)) (now : Option ℕ) → ((moment s n).heard v ≡ None → i < n → ⊥) → (moment s n).heard v ≡ old
+          → hears s (moment s n) n v ≡ now → first_heard old n now ≡ None → ⊥
       by_cases (Some h) now below at_old at_now is = absurd (cc)
       by_cases None (Some o) below at_old at_now is = absurd (cc)
       by_cases None None below at_old at_now is =
           elim (cases_lt i n) [
             | inl before ↦ below at_old before
-            | inr more ↦ (let same : i ≡ n = omega arith in not_both (hears s (moment s n) n v) p at_now (subst (λ (j : ℕ). hears s (moment s j) j v ≡ Some p) same heard))
+            | inr more ↦ (let same : i ≡ n = omega arith in
+                not_both (hears s (moment s n) n v) p at_now (subst (λ (j : ℕ). hears s (moment s j) j v ≡ Some p) same heard))
           ]
 
   pub first_hearing : (n v : ℕ) (h : ℕ × ℕ) → (moment s n).heard v ≡ Some h → FirstHearing s n v h
@@ -49,11 +54,13 @@ module _ (s : Setting) where
       more : (g : ℕ × ℕ) → FirstHearing s n v g → FirstHearing s (suc n) v g
       more g first = (let less = first.before in record { hears = first.hears; before = omega arith; none = first.none })
 
-      by_cases : (old : Option (ℕ × ℕ)) (now : Option ℕ) → ((moment s n).heard v ≡ Some h → FirstHearing s n v h) → (moment s n).heard v ≡ old → hears s (moment s n) n v ≡ now → first_heard old n now ≡ Some h → FirstHearing s (suc n) v h
+      by_cases : (old : Option (ℕ × ℕ)) (now : Option ℕ) → ((moment s n).heard v ≡ Some h → FirstHearing s n v h) → (moment s n).heard v ≡ old
+          → hears s (moment s n) n v ≡ now → first_heard old n now ≡ Some h → FirstHearing s (suc n) v h
       by_cases (Some g) now below at_old at_now is = more h (below (at_old ∙ is))
       by_cases None None below at_old at_now is = absurd (cc)
       by_cases None (Some o) below at_old at_now is =
-          subst (λ (g : ℕ × ℕ). FirstHearing s (suc n) v g) (pair_same (o, n) h is) (record { hears = at_now; before = omega arith; none = λ i less p heard. none_yet n v at_old i less p heard })
+          subst (λ (g : ℕ × ℕ). FirstHearing s (suc n) v g) (pair_same (o, n) h is)
+          (record { hears = at_now; before = omega arith; none = λ i less p heard. none_yet n v at_old i less p heard })
 
   agrees_with : (k v o : ℕ) (h : ℕ × ℕ) → Hears s v k o → (moment s k).heard v ≡ Some h → h.0 ≡ o
   agrees_with k v o h is at =
@@ -107,7 +114,8 @@ module _ (s : Setting) where
   pub accepted_first : (v o k : ℕ) → ◌≡◌ {A = Option (ℕ × ℕ)} (accepted s v) (Some (o, k)) ↔ Accepts s v o k
   accepted_first v o k = (to (has s.initiators v) refl, from)
     where
-      keeps : (b : Bool) → has s.initiators v ≡ b → ◌≡◌ {A = Option (ℕ × ℕ)} (if b then None else (moment s STEPS).heard v) (Some (o, k)) → (has s.initiators v ≡ false) × (◌≡◌ {A = Option (ℕ × ℕ)} ((moment s STEPS).heard v) (Some (o, k)))
+      keeps : (b : Bool) → has s.initiators v ≡ b → ◌≡◌ {A = Option (ℕ × ℕ)} (if b then None else (moment s STEPS).heard v) (Some (o, k))
+          → (has s.initiators v ≡ false) × (◌≡◌ {A = Option (ℕ × ℕ)} ((moment s STEPS).heard v) (Some (o, k)))
       keeps true at is = absurd (nothing is)
         where
           nothing : ◌≡◌ {A = Option (ℕ × ℕ)} None (Some (o, k)) → ⊥

@@ -1,5 +1,6 @@
 -- With one initiator a node accepts in the step of the shortest relay path to it.
-use Rattle.std.proofs.Common.{◌≡◌, ℕ, zero, suc, ◌<◌, ◌≤◌, ◌↔◌, List, [], ◌∷◌, true, false, inl, inr, Option, Some, None, refl, sym, ◌∙◌, ap, subst, arith, length}
+use Rattle.std.proofs.Common.{◌≡◌, ℕ, zero, suc, ◌<◌, ◌≤◌, ◌↔◌, List, [], ◌∷◌, true, false, inl, inr}
+use Rattle.std.proofs.Common.{Option, Some, None, refl, sym, ◌∙◌, ap, subst, arith, length}
 use Rattle.std.proofs.lemmas.Bool.{or_from, ne_eqb}
 use Rattle.bus_model.specs.Flooding.{Setting, moment, has, Hears, Accepts, STEPS}
 use Rattle.bus_model.proofs.OneInitiator.{Reached, last, sender, hears_reached, has_one, IsFirst}
@@ -12,7 +13,8 @@ module _ (s : Setting) (start : ℕ) where
   path_reached [] v is = is
   path_reached (u ∷ us) v (path, sends, passes, quiet, few) = (u, path_reached us u path, sends, passes, quiet, few)
 
-  longer : (k v u : ℕ) → HasPath s start k u → (moment s k).sends u ≡ Some start → s.passes k u v ≡ true → (moment s k).sends v ≡ None → (moment s k).times v < s.limit → HasPath s start (suc k) v
+  longer : (k v u : ℕ) → HasPath s start k u → (moment s k).sends u ≡ Some start → s.passes k u v ≡ true → (moment s k).sends v ≡ None
+      → (moment s k).times v < s.limit → HasPath s start (suc k) v
   longer k v u path sends passes quiet few = by_size (length path.nodes) refl
     where
       by_size : (n : ℕ) → length path.nodes ≡ n → HasPath s start (suc k) v
@@ -83,8 +85,15 @@ module _ (s : Setting) (start : ℕ) where
               | inr some ↦
                   (let h = some.0 in
                   let first = first_hearing s (suc k) v h some.1 in
-                  let one : h.0 ≡ start = subst_first h some.1 in
-                  (h.1, record { here = there; listens = listens v other; hears = first.hears ∙ ap (λ (p : ℕ). Some p) one; first = λ i less. first.none i less start }))
+                  let one : h.0 ≡ start = subst_first h some.1 in (
+                    h.1,
+                    record {
+                      here = there;
+                      listens = listens v other;
+                      hears = first.hears ∙ ap (λ (p : ℕ). Some p) one;
+                      first = λ i less. first.none i less start;
+                    },
+                  ))
             ]
           where
             subst_first : (h : ℕ × ℕ) → (moment s (suc k)).heard v ≡ Some h → h.0 ≡ start

@@ -1,5 +1,6 @@
 -- The numbers of a stream: those that wait ascend and are below the next. What is done to streams keeps that.
-use Rattle.std.proofs.Common.{◌≡◌, ℕ, zero, suc, ◌+◌, ◌≤◌, List, [], ◌∷◌, ◌++◌, ◌-◌, ◌%◌, ◌^◌, Bool, true, false, ◌==◌, is_none, if◌then◌else◌, Some, fold, map, arith, slice_get, drop, subst}
+use Rattle.std.proofs.Common.{◌≡◌, ℕ, zero, suc, ◌+◌, ◌≤◌, List, [], ◌∷◌, ◌++◌, ◌-◌, ◌%◌, ◌^◌, Bool, true, false, ◌==◌}
+use Rattle.std.proofs.Common.{is_none, if◌then◌else◌, Some, fold, map, arith, slice_get, drop, subst}
 use Rattle.std.specs.List.{slice_index_or}
 use Rattle.std.specs.Prelude.{slice_set}
 use Rattle.std.proofs.lemmas.Bool.{cond_both}
@@ -7,7 +8,9 @@ use Rattle.lwb_base.specs.Messages.{Ask, Schedule, node_of, stream_of}
 use Rattle.lwb_base.specs.Profile.{Numbers}
 use Rattle.bus_rules.specs.Tables.{Table}
 use Rattle.bus_rules.specs.HostPlans.{Served, serve, answered, host_plan}
-use Rattle.bus_rules.specs.Streams.{Waiting, Stream, Streams, no_stream, stream_at, with_stream, queued, refuses, put_to, put, declared, left, taken, without_first, unbound, heard_host, is_host, names, acknowledged, owns, forgets, forgotten, agrees, with_agreed, after_contention, tries_after, due, schedule_heard, first_waiting, cleared, granted, named_in, wishes, emptied}
+use Rattle.bus_rules.specs.Streams.{Waiting, Stream, Streams, no_stream, stream_at, with_stream, queued, refuses, put_to, put, declared, left, taken}
+use Rattle.bus_rules.specs.Streams.{without_first, unbound, heard_host, is_host, names, acknowledged, owns, forgets, forgotten, agrees, with_agreed}
+use Rattle.bus_rules.specs.Streams.{after_contention, tries_after, due, schedule_heard, first_waiting, cleared, granted, named_in, wishes, emptied}
 
 -- from a number on, ascending, and below the next
 abbrev pub Rises : ℕ → List Waiting → ℕ → Type 0

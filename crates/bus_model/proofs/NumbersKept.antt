@@ -13,7 +13,8 @@ use Rattle.bus_rules.specs.Slots.{Message, ScheduleOf, DataOf, RequestOf, opened
 use Rattle.bus_rules.specs.States.{State, StateOff, StateOn, at_core, refuses, queues, puts, switched_on, switched_off}
 use Rattle.bus_rules.specs.Streams.{stream_at, taken, after_contention}
 use Rattle.bus_model.specs.ScriptedStates.{after_act, after_line, scripted, lines_of, ended, setup_in}
-use Rattle.bus_model.proofs.NumberedStreams.{IsNumbered, KeepsAll, declared_keeps, left_keeps, put_keeps, taken_keeps, unbound_keeps, contention_keeps, heard_keeps, plan_keeps, cleared_is_numbered}
+use Rattle.bus_model.proofs.NumberedStreams.{IsNumbered, KeepsAll, declared_keeps, left_keeps, put_keeps, taken_keeps}
+use Rattle.bus_model.proofs.NumberedStreams.{unbound_keeps, contention_keeps, heard_keeps, plan_keeps, cleared_is_numbered}
 
 -- of boot b, the numbers of stream i are from low on; a later boot has others
 abbrev pub IsPast : ℕ → ℕ → ℕ → State → Type 0

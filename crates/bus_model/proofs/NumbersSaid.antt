@@ -1,5 +1,6 @@
 -- What is said in data slots: its number is from the bound on, and later numbers of its boot are above it.
-use Rattle.std.proofs.Common.{◌≡◌, ℕ, zero, suc, ◌+◌, ◌<◌, ◌≤◌, Bool, true, false, ◌==◌, if◌then◌else◌, is_some, Option, Some, None, option_map, inl, inr, refl, ap, sym, subst, arith}
+use Rattle.std.proofs.Common.{◌≡◌, ℕ, zero, suc, ◌+◌, ◌<◌, ◌≤◌, Bool, true, false, ◌==◌, if◌then◌else◌, is_some}
+use Rattle.std.proofs.Common.{Option, Some, None, option_map, inl, inr, refl, ap, sym, subst, arith}
 use Rattle.std.proofs.lemmas.Bool.{false≢true, cases_lt}
 use Rattle.std.specs.Prelude.{◌⊎◌}
 use Rattle.lwb_base.specs.Messages.{Plan, node_of, stream_of}

@@ -1,6 +1,8 @@
 -- A flood with one initiator: each origin is that one, and who hears is reached by a path.
-use Rattle.std.proofs.Common.{◌≡◌, ℕ, zero, suc, ◌+◌, ◌<◌, List, [], ◌∷◌, Bool, true, false, not, ◌&&◌, ◌||◌, if◌then◌else◌, inl, inr, ⊎_elim, eq-eqb, Option, Some, None, is_some, is_none, refl, sym, ◌∙◌, ap, subst, filter_map, ◌==◌, nat_lt}
-use Rattle.std.proofs.lemmas.Bool.{cases_eq, or_right, or_left, or_from, not_from_false, ne_eqb, cond_both, or_cases, eqb-true, and_parts, and_from, false≢true, ltb-true, lt-ltb}
+use Rattle.std.proofs.Common.{◌≡◌, ℕ, zero, suc, ◌+◌, ◌<◌, List, [], ◌∷◌, Bool, true, false, not, ◌&&◌, ◌||◌, if◌then◌else◌, inl, inr, ⊎_elim}
+use Rattle.std.proofs.Common.{eq-eqb, Option, Some, None, is_some, is_none, refl, sym, ◌∙◌, ap, subst, filter_map, ◌==◌, nat_lt}
+use Rattle.std.proofs.lemmas.Bool.{cases_eq, or_right, or_left, or_from, not_from_false, ne_eqb, cond_both}
+use Rattle.std.proofs.lemmas.Bool.{or_cases, eqb-true, and_parts, and_from, false≢true, ltb-true, lt-ltb}
 use Rattle.std.specs.List.{list_any, list_all, cons_option}
 use Rattle.std.specs.Option.{option_and_then}
 use Rattle.bus_model.specs.Flooding.{Setting, Moment, STEPS, has, only_one, named, pick, agrees, may_hear, hears, first_heard, moment, Hears}
@@ -37,19 +39,22 @@ some_of start b = if b then Some start else None
 
 abbrev one_more : ℕ → Option ℕ → Bool → Option ℕ → List ℕ → Bool → Type 0
 one_more start other p w os b =
-    (list_all (λ x. x == start) (cons_option (if p then w else None) os) ≡ true) × (only_one (cons_option (if p then w else None) os) other ≡ some_of start (p && is_some w || b))
+    (list_all (λ x. x == start) (cons_option (if p then w else None) os) ≡ true)
+    × (only_one (cons_option (if p then w else None) os) other ≡ some_of start (p && is_some w || b))
 
 at_start : (start : ℕ) (other : Option ℕ) (os : List ℕ) (b : Bool) → list_all (λ x. x == start) os ≡ true → one_more start other true (Some start) os b
 at_start start other os b all = (rw (eq-eqb start start refl) all, rw all refl)
 
-adds_one : (start : ℕ) (other : Option ℕ) (p : Bool) (w : Option ℕ) (os : List ℕ) (b : Bool) → IsOrigin start w → list_all (λ x. x == start) os ≡ true → only_one os other ≡ some_of start b
+adds_one : (start : ℕ) (other : Option ℕ) (p : Bool) (w : Option ℕ) (os : List ℕ) (b : Bool) → IsOrigin start w → list_all (λ x. x == start) os ≡ true
+    → only_one os other ≡ some_of start b
     → one_more start other p w os b
 adds_one start other false w os b is all only = (all, only)
 adds_one start other true None os b is all only = (all, only)
 adds_one start other true (Some o) os b is all only = subst (λ (x : ℕ). one_more start other true (Some x) os b) (sym is) (at_start start other os b all)
 
 pub picked : (start : ℕ) (sends : ℕ → Option ℕ) → ((v : ℕ) → IsOrigin start (sends v)) → (passes : ℕ → Bool) (other : Option ℕ) (us : List ℕ)
-    → (list_all (λ x. x == start) (from_all sends passes us) ≡ true) × (only_one (from_all sends passes us) other ≡ some_of start (list_any (λ u. passes u && is_some (sends u)) us))
+    → (list_all (λ x. x == start) (from_all sends passes us) ≡ true)
+    × (only_one (from_all sends passes us) other ≡ some_of start (list_any (λ u. passes u && is_some (sends u)) us))
 picked start sends one passes other [] = (refl, refl)
 picked start sends one passes other (u ∷ us) =
     let rest = picked start sends one passes other us in
@@ -57,7 +62,11 @@ picked start sends one passes other (u ∷ us) =
 
 -- the origin is the node itself or another
 own : (start v : ℕ) → ((not ((start == v) || false)) || (v == start)) ≡ true
-own start v = elim (cases_eq v start) [ inl is ↦ or_right _ _ (eq-eqb v start is) | inr other ↦ or_left _ _ (not_from_false _ (or_from _ _ (ne_eqb start v (λ e. other (sym e))) refl)) ]
+own start v =
+    elim (cases_eq v start) [
+      | inl is ↦ or_right _ _ (eq-eqb v start is)
+      | inr other ↦ or_left _ _ (not_from_false _ (or_from _ _ (ne_eqb start v (λ e. other (sym e))) refl))
+    ]
 
 agreed : (start : ℕ) (h : Option (ℕ × ℕ)) → IsFirst start h → agrees h start ≡ true
 agreed start None is = refl
@@ -70,7 +79,8 @@ heard_by start true f g got false is p q = rw is refl
 heard_by start true f g got true is p q = rw (is, p, q) refl
 
 -- with one initiator v hears exactly where it may and something reaches it
-pub hears-one : (s : Setting) (start : ℕ) (m : Moment) (k v : ℕ) → s.initiators ≡ start ∷ [] → HasOne start m → hears s m k v ≡ some_of start (may_hear s m v && reaches s m k v)
+pub hears-one : (s : Setting) (start : ℕ) (m : Moment) (k v : ℕ) → s.initiators ≡ start ∷ [] → HasOne start m
+    → hears s m k v ≡ some_of start (may_hear s m v && reaches s m k v)
 hears-one s start m k v is one =
     heard_by start (may_hear s m v) (λ o. not (has s.initiators v) || (v == o)) (λ o. agrees (m.heard v) o) (pick s m k v) (reaches s m k v)
     (picked start m.sends one.sends (λ u. s.passes k u v) (named s m k v) s.everyone).1
@@ -87,7 +97,9 @@ first_of_one start k None None is one = tt
 first_of_one start k None (Some o) is one = one
 
 began : (start v : ℕ) → IsOrigin start (if (start == v) || false then Some v else None)
-began start v = cond_both ((start == v) || false) (Some v) None (IsOrigin start) (λ is. ⊎_elim (λ same. sym (eqb-true start v same)) (λ no. absurd (false≢true no)) (or_cases _ _ is)) (λ not. tt)
+began start v =
+    cond_both ((start == v) || false) (Some v) None (IsOrigin start)
+    (λ is. ⊎_elim (λ same. sym (eqb-true start v same)) (λ no. absurd (false≢true no)) (or_cases _ _ is)) (λ not. tt)
 
 -- at each moment
 pub has_one : (s : Setting) (start k : ℕ) → s.initiators ≡ start ∷ [] → HasOne start (moment s k)
@@ -96,7 +108,10 @@ has_one s start zero is = record { sends = λ v. rw is (began start v); heard = 
 has_one s start (suc k) is =
     let one = has_one s start k is in
     let here : (v : ℕ) → IsOrigin start (hears s (moment s k) k v) = λ v. origin_of start _ _ (hears-one s start (moment s k) k v is one) in
-    record { sends = λ v. cond_both (nat_lt (k + 1) STEPS) _ _ (IsOrigin start) (λ is. here v) (λ not. tt); heard = λ v. first_of_one start k _ _ (one.heard v) (here v) }
+    record {
+      sends = λ v. cond_both (nat_lt (k + 1) STEPS) _ _ (IsOrigin start) (λ is. here v) (λ not. tt);
+      heard = λ v. first_of_one start k _ _ (one.heard v) (here v);
+    }
 
 pub witness : (p : ℕ → Bool) (us : List ℕ) → list_any p us ≡ true → (u : ℕ) × (has us u ≡ true) × (p u ≡ true)
 witness p [] is = absurd (false≢true is)
@@ -136,7 +151,8 @@ if_some true v start is = cc
 
 module _ (s : Setting) (start : ℕ) (alone : s.initiators ≡ start ∷ []) where
   -- where v hears, another node sends over a link that passes
-  pub last : (k v : ℕ) → Hears s v k start → (u : ℕ) × ((moment s k).sends u ≡ Some start) × (s.passes k u v ≡ true) × ((moment s k).sends v ≡ None) × ((moment s k).times v < s.limit) × (has s.everyone v ≡ true)
+  pub last : (k v : ℕ) → Hears s v k start → (u : ℕ) × ((moment s k).sends u ≡ Some start) × (s.passes k u v ≡ true) × ((moment s k).sends v ≡ None)
+      × ((moment s k).times v < s.limit) × (has s.everyone v ≡ true)
   last k v hears =
       let m = moment s k in
       let one = has_one s start k alone in
@@ -162,5 +178,6 @@ module _ (s : Setting) (start : ℕ) (alone : s.initiators ≡ start ∷ []) whe
       let m = moment s k in
       let may : may_hear s m v ≡ true = and_from _ _ (and_from _ _ there (rw quiet refl)) (lt-ltb _ _ few) in
       let some : is_some (m.sends u) ≡ true = rw sends refl in
-      let reached : reaches s m k v ≡ true = any_of (λ x. s.passes k x v && is_some (m.sends x)) s.everyone u (takes_part here k u sends) (and_from _ _ passes some) in
+      let reached : reaches s m k v ≡ true =
+      any_of (λ x. s.passes k x v && is_some (m.sends x)) s.everyone u (takes_part here k u sends) (and_from _ _ passes some) in
       hears-one s start m k v alone (has_one s start k alone) ∙ rw (may, reached) refl

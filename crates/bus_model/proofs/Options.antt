@@ -1,5 +1,6 @@
 -- Options and lists of origins: the only one of several, and what a filter gives.
-use Rattle.std.proofs.Common.{◌≡◌, ℕ, List, [], ◌∷◌, Bool, true, false, if◌then◌else◌, inl, inr, eq-eqb, Option, Some, None, is_none, refl, sym, ◌∙◌, ap, filter_map, ◌==◌}
+use Rattle.std.proofs.Common.{◌≡◌, ℕ, List, [], ◌∷◌, Bool, true, false, if◌then◌else◌, inl, inr, eq-eqb}
+use Rattle.std.proofs.Common.{Option, Some, None, is_none, refl, sym, ◌∙◌, ap, filter_map, ◌==◌}
 use Rattle.std.specs.Prelude.{◌⊎◌}
 use Rattle.std.specs.List.{list_all, cons_option}
 use Rattle.std.specs.Option.{option_and_then}
@@ -22,7 +23,8 @@ are_all o [] all = refl
 are_all o (x ∷ os) all =
     and_from (x == o) _ (eq-eqb x o (all x (or_left _ _ (eq-eqb x x refl)))) (are_all o os (λ p there. all p (or_right (x == p) _ there)))
 
-pub only_when : (cs : List ℕ) (other : Option ℕ) (o : ℕ) → has cs o ≡ true → (((p : ℕ) → has cs p ≡ true → p ≡ o) ⊎ (other ≡ Some o)) → only_one cs other ≡ Some o
+pub only_when : (cs : List ℕ) (other : Option ℕ) (o : ℕ) → has cs o ≡ true → (((p : ℕ) → has cs p ≡ true → p ≡ o) ⊎ (other ≡ Some o))
+    → only_one cs other ≡ Some o
 only_when [] other o there why = absurd (false≢true there)
 only_when (x ∷ os) other o there (inl all) =
     let is : x ≡ o = all x (or_left _ _ (eq-eqb x x refl)) in
@@ -30,14 +32,16 @@ only_when (x ∷ os) other o there (inl all) =
     cond-true (list_all (λ y. y == x) os) (Some x) other same ∙ ap (λ (y : ℕ). Some y) is
 only_when (x ∷ os) other o there (inr is) =
     elim (cases_Bool (list_all (λ y. y == x) os)) [
-      | inl same ↦ cond-true (list_all (λ y. y == x) os) (Some x) other same ∙ ap (λ (y : ℕ). Some y) (sym (elim (or_cases (x == o) _ there) [ inl at ↦ sym (eqb-true x o at) | inr later ↦ all_are x os same o later ]))
+      | inl same ↦ cond-true (list_all (λ y. y == x) os) (Some x) other same
+          ∙ ap (λ (y : ℕ). Some y) (sym (elim (or_cases (x == o) _ there) [ inl at ↦ sym (eqb-true x o at) | inr later ↦ all_are x os same o later ]))
       | inr differ ↦ cond-false (list_all (λ y. y == x) os) (Some x) other differ ∙ is
     ]
 
 pub some_injective : (x y : ℕ) → Some x ≡ Some y → x ≡ y
 some_injective x y is = cc
 
-pub only_from : (cs : List ℕ) (other : Option ℕ) (o : ℕ) → only_one cs other ≡ Some o → ((has cs o ≡ true) × ((p : ℕ) → has cs p ≡ true → p ≡ o)) ⊎ (other ≡ Some o)
+pub only_from : (cs : List ℕ) (other : Option ℕ) (o : ℕ) → only_one cs other ≡ Some o
+    → ((has cs o ≡ true) × ((p : ℕ) → has cs p ≡ true → p ≡ o)) ⊎ (other ≡ Some o)
 only_from [] other o is = absurd (none_some o is)
   where
     none_some : (o : ℕ) → None ≡ Some o → ⊥
@@ -46,7 +50,10 @@ only_from (x ∷ os) other o is =
     elim (cases_Bool (list_all (λ y. y == x) os)) [
       | inl same ↦
           (let at : x ≡ o = some_injective x o (sym (cond-true (list_all (λ y. y == x) os) (Some x) other same) ∙ is) in
-          inl (or_left (x == o) _ (eq-eqb x o at), λ p there. elim (or_cases (x == p) _ there) [ inl here ↦ sym (eqb-true x p here) ∙ at | inr later ↦ all_are x os same p later ∙ at ]))
+          inl (
+            or_left (x == o) _ (eq-eqb x o at),
+            λ p there. elim (or_cases (x == p) _ there) [ inl here ↦ sym (eqb-true x p here) ∙ at | inr later ↦ all_are x os same p later ∙ at ],
+          ))
       | inr differ ↦ inr (sym (cond-false (list_all (λ y. y == x) os) (Some x) other differ) ∙ is)
     ]
 
@@ -80,7 +87,8 @@ module _ (f : ℕ → Option ℕ) where
       ]
 
 -- what is heard by steps
-pub heard_parts : (may : Bool) (c : ℕ → Bool) (got : Option ℕ) (o : ℕ) → (if may then option_and_then (λ p. if c p then Some p else None) got else None) ≡ Some o → (may ≡ true) × (got ≡ Some o) × (c o ≡ true)
+pub heard_parts : (may : Bool) (c : ℕ → Bool) (got : Option ℕ) (o : ℕ)
+    → (if may then option_and_then (λ p. if c p then Some p else None) got else None) ≡ Some o → (may ≡ true) × (got ≡ Some o) × (c o ≡ true)
 heard_parts false c got o is = absurd (cc)
 heard_parts true c None o is = absurd (cc)
 heard_parts true c (Some p) o is = by_cases (c p) refl is

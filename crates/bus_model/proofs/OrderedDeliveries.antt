@@ -1,5 +1,6 @@
 -- Each stream is delivered in order, and no packet twice: what is delivered later was said later, by a greater number.
-use Rattle.std.proofs.Common.{◌≡◌, ℕ, zero, suc, ◌+◌, ◌<◌, ◌≤◌, [], Bool, true, false, ◌==◌, nat_le, nat_lt, if◌then◌else◌, Option, Some, None, option_map, option_and_then, inl, inr, refl, ap, sym, ◌∙◌, subst, arith, length, slice_index}
+use Rattle.std.proofs.Common.{◌≡◌, ℕ, zero, suc, ◌+◌, ◌<◌, ◌≤◌, [], Bool, true, false, ◌==◌, nat_le, nat_lt, if◌then◌else◌, Option, Some, None}
+use Rattle.std.proofs.Common.{option_map, option_and_then, inl, inr, refl, ap, sym, ◌∙◌, subst, arith, length, slice_index}
 use Rattle.std.specs.List.{AllByRecursion}
 use Rattle.std.specs.Option.{option_map_or}
 use Rattle.std.specs.Prelude.{◌⊎◌, ◌-◌, flat_map}
@@ -18,9 +19,11 @@ use Rattle.bus_rules.specs.States.{State, StateOff, StateOn}
 use Rattle.bus_model.specs.FloodOfText.{ids}
 use Rattle.bus_model.specs.Flooding.{accepted}
 use Rattle.bus_model.specs.ScriptedStates.{scripted}
-use Rattle.bus_model.specs.Rounds.{Slot, slot_of, said_in, accepted_at, closed_by, before_slot, after_round, round, rounds, rank_in, round_plan, slots_of, delivered_at, slot_deliveries, round_deliveries}
+use Rattle.bus_model.specs.Rounds.{Slot, slot_of, said_in, accepted_at, closed_by, before_slot, after_round, round, rounds}
+use Rattle.bus_model.specs.Rounds.{rank_in, round_plan, slots_of, delivered_at, slot_deliveries, round_deliveries}
 use Rattle.bus_model.specs.Bus.{before_frame, state_at, frames_of, ranks_of, bus_deliveries, InOrder, Ordered}
-use Rattle.bus_model.proofs.ListsInTurn.{InTurn, in_turn_pairs, pairs_in_turn, each_more, pieces_in_turn, each_of_pieces, given_in_turn, each_given, range_in_turn}
+use Rattle.bus_model.proofs.ListsInTurn.{InTurn, in_turn_pairs, pairs_in_turn, each_more, pieces_in_turn}
+use Rattle.bus_model.proofs.ListsInTurn.{each_of_pieces, given_in_turn, each_given, range_in_turn}
 use Rattle.bus_model.proofs.NumbersKept.{IsPast, IsWell, Keeps, keeps_same, keeps_both, script_keeps, ended_keeps}
 use Rattle.bus_model.proofs.NumbersSaid.{Says, says, slots_keep, number_from, above_then}
 use Rattle.bus_model.proofs.OtherRanks.{IsElsewhere, slots_elsewhere, not_member}

@@ -1,5 +1,6 @@
 -- Where the links among those that take part pass in all steps, a flood reaches each node in the step of its distance.
-use Rattle.std.proofs.Common.{◌≡◌, ℕ, zero, suc, ◌+◌, ◌<◌, ◌≤◌, ◌↔◌, List, [], ◌∷◌, Bool, true, false, ◌&&◌, ◌==◌, nat_lt, if◌then◌else◌, inl, inr, eq-eqb, Option, Some, None, refl, sym, ◌∙◌, ap, subst, arith}
+use Rattle.std.proofs.Common.{◌≡◌, ℕ, zero, suc, ◌+◌, ◌<◌, ◌≤◌, ◌↔◌, List, [], ◌∷◌, Bool, true, false, ◌&&◌, ◌==◌, nat_lt}
+use Rattle.std.proofs.Common.{if◌then◌else◌, inl, inr, eq-eqb, Option, Some, None, refl, sym, ◌∙◌, ap, subst, arith}
 use Rattle.std.proofs.lemmas.Bool.{and_parts, and_from, eqb-true, false≢true, or_from, or_left, ne_eqb, cases_lt, lt-ltb, cond-true}
 use Rattle.std.specs.Prelude.{◌⊎◌}
 use Rattle.bus_model.specs.Distances.{walks, IsDistance}

@@ -1,5 +1,6 @@
 -- In a data slot members deliver what relay paths bring to them.
-use Rattle.std.proofs.Common.{◌≡◌, ◌≢◌, ℕ, zero, suc, ◌<◌, List, [], ◌∷◌, Bool, true, false, if◌then◌else◌, ◌==◌, inl, inr, Option, None, filter, filter_map, refl, sym, ◌∙◌, ap, subst, arith, length, All, AllPairs}
+use Rattle.std.proofs.Common.{◌≡◌, ◌≢◌, ℕ, zero, suc, ◌<◌, List, [], ◌∷◌, Bool, true, false, if◌then◌else◌, ◌==◌, inl, inr, Option}
+use Rattle.std.proofs.Common.{None, filter, filter_map, refl, sym, ◌∙◌, ap, subst, arith, length, All, AllPairs}
 use Rattle.std.specs.Prelude.{◌⊎◌}
 use Rattle.std.proofs.lemmas.Bool.{cases_Bool, or_cases, or_right, or_left, eqb-true, false≢true, cond_both, cond-true, cond-false}
 use Rattle.std.proofs.lemmas.List.Kept.{AllPairs-filter}

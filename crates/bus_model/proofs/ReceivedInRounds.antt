@@ -1,5 +1,6 @@
 -- The data slots of rounds: members deliver what relay paths bring to them, and nobody else delivers.
-use Rattle.std.proofs.Common.{◌≡◌, ◌≢◌, ℕ, ◌<◌, ◌↔◌, List, [], ◌∷◌, Bool, true, false, if◌then◌else◌, ◌==◌, inl, inr, Option, Some, None, is_some, filter, option_map, option_and_then, refl, sym, ◌∙◌, ap, subst, AllPairs, eq-eqb, get_or, length, arith}
+use Rattle.std.proofs.Common.{◌≡◌, ◌≢◌, ℕ, ◌<◌, ◌↔◌, List, [], ◌∷◌, Bool, true, false, if◌then◌else◌, ◌==◌, inl, inr, Option, Some, None, is_some}
+use Rattle.std.proofs.Common.{filter, option_map, option_and_then, refl, sym, ◌∙◌, ap, subst, AllPairs, eq-eqb, get_or, length, arith}
 use Rattle.std.specs.Prelude.{◌⊎◌}
 use Rattle.std.proofs.lemmas.Bool.{eqb-true, false≢true, or_left, cond-false}
 use Rattle.lwb_base.specs.Messages.{Plan, node_of, stream_of}

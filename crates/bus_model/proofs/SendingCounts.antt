@@ -21,9 +21,31 @@ module _ (s : Setting) (v : ℕ) where
 
   pub times_counted : (moment s STEPS).times v ≡ count_by sends_in steps
   times_counted =
-      omega (arith, none_yet, one_more 0, one_more 1, one_more 2, one_more 3, one_more 4, one_more 5, one_more 6, one_more 7, one_more 8, one_more 9, one_more 10, one_more 11)
+      omega (
+        arith,
+        none_yet,
+        one_more 0,
+        one_more 1,
+        one_more 2,
+        one_more 3,
+        one_more 4,
+        one_more 5,
+        one_more 6,
+        one_more 7,
+        one_more 8,
+        one_more 9,
+        one_more 10,
+        one_more 11,
+      )
 
-pub all_sendings : (s : Setting) (nodes : List ℕ) → sent_so_far (moment s STEPS) nodes ≡ sum_by (λ v. count_by (λ k. is_some ((moment s k).sends v)) steps) nodes
+pub all_sendings : (s : Setting) (nodes : List ℕ)
+    → sent_so_far (moment s STEPS) nodes ≡ sum_by (λ v. count_by (λ k. is_some ((moment s k).sends v)) steps) nodes
 all_sendings s [] = refl
 all_sendings s (v ∷ nodes) =
-    omega (arith, sum_by-cons (moment s STEPS).times v nodes, sum_by-cons (λ (u : ℕ). count_by (sends_in s u) steps) v nodes, times_counted s v, all_sendings s nodes)
+    omega (
+      arith,
+      sum_by-cons (moment s STEPS).times v nodes,
+      sum_by-cons (λ (u : ℕ). count_by (sends_in s u) steps) v nodes,
+      times_counted s v,
+      all_sendings s nodes,
+    )

@@ -1,10 +1,12 @@
 -- One flood by steps: who sends and who hears in each of them.
 -- An origin is an initiator, named by its node. What its message says does not matter here: whoever uses a flood keeps the message of each origin.
-use Rattle.std.specs.Prelude.{◌≡◌, ◌<◌, ℕ, zero, suc, ◌+◌, List, [], ◌∷◌, Bool, true, false, not, ◌&&◌, ◌||◌, ◌==◌, nat_lt, if◌then◌else◌, is_none, is_some, Some, None, filter_map, option_and_then, count_by, sum_by}
+use Rattle.std.specs.Prelude.{◌≡◌, ◌<◌, ℕ, zero, suc, ◌+◌, List, [], ◌∷◌, Bool, true, false, not, ◌&&◌, ◌||◌, ◌==◌, nat_lt}
+use Rattle.std.specs.Prelude.{if◌then◌else◌, is_none, is_some, Some, None, filter_map, option_and_then, count_by, sum_by}
 use Rattle.std.specs.declared.option.Option.{Option}
 use Rattle.std.specs.List.{list_any, list_all}
 
--- the most sendings of a node; whether the link from u to v passes in step k (k, u, v); whom the capture line of step k at v names; the initiators; all that take part, initiators and listeners
+-- the most sendings of a node; whether the link from u to v passes in step k (k, u, v); whom the capture line of step k at v names; the
+-- initiators; all that take part, initiators and listeners
 pub record Setting : Type 0 where
   pub limit : ℕ
   pub passes : ℕ → ℕ → ℕ → Bool

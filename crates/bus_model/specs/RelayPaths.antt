@@ -2,7 +2,8 @@
 use Rattle.std.specs.Prelude.{◌≡◌, ℕ, ◌<◌, ◌≤◌, List, [], ◌∷◌, length, true, Some, None}
 use Rattle.bus_model.specs.Flooding.{Setting, moment, STEPS}
 
--- the nodes of a path, the last one first: each but the last sends in the step of its place, over a link that passes to the next, which does not send then and has sent in fewer steps before than the limit
+-- the nodes of a path, the last one first: each but the last sends in the step of its place, over a link that passes to the next, which
+-- does not send then and has sent in fewer steps before than the limit
 abbrev pub IsPath : Setting → ℕ → List ℕ → Type 0
 IsPath s start [] = ⊥
 IsPath s start (v ∷ []) = v ≡ start

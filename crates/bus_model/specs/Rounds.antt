@@ -1,5 +1,6 @@
 -- The round of a rank in a frame, slot by slot: windows open, the flood runs, windows close.
-use Rattle.std.specs.Prelude.{ℕ, zero, suc, ◌+◌, List, [], Bool, true, false, ◌&&◌, if◌then◌else◌, is_some, Some, None, filter, filter_map, find, flat_map, option_map, option_and_then}
+use Rattle.std.specs.Prelude.{ℕ, zero, suc, ◌+◌, List, [], Bool, true, false, ◌&&◌, if◌then◌else◌, is_some, Some}
+use Rattle.std.specs.Prelude.{None, filter, filter_map, find, flat_map, option_map, option_and_then}
 use Rattle.std.specs.declared.option.Option.{Option}
 use Rattle.std.specs.Option.{option_or, option_map_or}
 use Rattle.std.specs.List.{range_with_len}

@@ -7,7 +7,8 @@ use Rattle.bus_rules.specs.declared.tune.Tune.TheVariants.{Scan, Host}
 use Rattle.bus_rules.specs.Tables.{Entry, Table, new_entry, is_full, after_request}
 use Rattle.bus_rules.specs.Granting.{owed, total, turns, plan_round}
 
-tunes : (next_tune (Scan 0 4) 4 false (Some 0) 1 ≡ Host 0 5) × (next_tune (Scan 0 4) 4 false None 1 ≡ Scan 0 5) × (next_tune (Scan 1 11) 33 false None 2 ≡ Scan 0 0)
+tunes : (next_tune (Scan 0 4) 4 false (Some 0) 1 ≡ Host 0 5) × (next_tune (Scan 0 4) 4 false None 1 ≡ Scan 0 5)
+    × (next_tune (Scan 1 11) 33 false None 2 ≡ Scan 0 0)
 tunes = (refl, refl, refl)
 
 owed_four : owed 4 13 5 4 4 ≡ 4
@@ -15,7 +16,9 @@ owed_four = refl
 
 -- owner 8 at interval 1 and owner 12 at interval 40, both accepted in frame 0
 entries : List Entry
-entries = record { code = 8; boot = 1; interval = 1; accepted = 0; granted = 0; unheard = 0 } ∷ record { code = 12; boot = 1; interval = 40; accepted = 0; granted = 0; unheard = 0 } ∷ []
+entries =
+    record { code = 8; boot = 1; interval = 1; accepted = 0; granted = 0; unheard = 0 }
+    ∷ record { code = 12; boot = 1; interval = 40; accepted = 0; granted = 0; unheard = 0 } ∷ []
 
 table : Table
 table = record { entries = entries; place = 0 }
@@ -32,7 +35,8 @@ turned = (refl, refl, refl)
 sixteen : Streams
 sixteen = fold (λ s i. put 0 (i ∷ []) s) (declared 0 4 cleared) (range_with_len 0 16)
 
-full_queue : (drops sixteen 0 ≡ true) × (first_waiting sixteen 0 ≡ Some (record { seq = 0; payload = 0 ∷ [] })) × (drops (taken 0 sixteen) 0 ≡ false) × ((stream_at (taken 0 sixteen) 0).next ≡ 16)
+full_queue : (drops sixteen 0 ≡ true) × (first_waiting sixteen 0 ≡ Some (record { seq = 0; payload = 0 ∷ [] })) × (drops (taken 0 sixteen) 0 ≡ false)
+    × ((stream_at (taken 0 sixteen) 0).next ≡ 16)
 unfolding sixteen
 full_queue = (refl, refl, refl, refl)
 
@@ -40,7 +44,8 @@ full_queue = (refl, refl, refl, refl)
 crowded : Table
 crowded = record { entries = map (λ i. new_entry (record { node = 10 + i; boot = 1; stream = 0; interval = 4 }) 0) (range_with_len 0 32); place = 0 }
 
-request_full : (is_full (record { node = 2; boot = 1; stream = 0; interval = 4 }) crowded ≡ true) × (is_full (record { node = 2; boot = 1; stream = 0; interval = 0 }) crowded ≡ false)
+request_full : (is_full (record { node = 2; boot = 1; stream = 0; interval = 4 }) crowded ≡ true)
+    × (is_full (record { node = 2; boot = 1; stream = 0; interval = 0 }) crowded ≡ false)
     × (length (after_request 5 crowded (record { node = 2; boot = 1; stream = 0; interval = 0 })).entries ≡ 32)
 unfolding crowded
 request_full = (refl, refl, refl)

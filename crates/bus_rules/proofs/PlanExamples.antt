@@ -16,7 +16,8 @@ third interval = record { node = 3; boot = 1; stream = 0; interval = interval }
 
 -- the first host accepts a request in frame 5, in either profile
 one_request : ((host_plan one 1 1 0 5 (second 4 ∷ []) no_table cleared).gap ≡ 4)
-    × ((host_plan one 1 1 0 5 (second 4 ∷ []) no_table cleared).plan ≡ record { rank = 0; boot = 1; contend = 0; acks = second 4 ∷ []; owners = 8 ∷ 8 ∷ 8 ∷ 8 ∷ [] })
+    × ((host_plan one 1 1 0 5 (second 4 ∷ []) no_table cleared).plan
+    ≡ record { rank = 0; boot = 1; contend = 0; acks = second 4 ∷ []; owners = 8 ∷ 8 ∷ 8 ∷ 8 ∷ [] })
 unfolding second host_plan plan_round
 one_request = (refl, refl)
 

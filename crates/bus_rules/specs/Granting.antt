@@ -1,5 +1,6 @@
 -- What is owed to the streams of a table, and what a host grants of it for one round.
-use Rattle.std.specs.Prelude.{ℕ, zero, suc, ◌+◌, ◌-◌, ◌*◌, ◌/◌, List, [], ◌++◌, ◌==◌, nat_lt, nat_le, if◌then◌else◌, map, length, take, filter, flat_map, replicate, sum_by, count_by, slice_index}
+use Rattle.std.specs.Prelude.{ℕ, zero, suc, ◌+◌, ◌-◌, ◌*◌, ◌/◌, List, [], ◌++◌, ◌==◌, nat_lt, nat_le, if◌then◌else◌, map}
+use Rattle.std.specs.Prelude.{length, take, filter, flat_map, replicate, sum_by, count_by, slice_index}
 use Rattle.bus_rules.specs.Tables.{Entry, Table, code_in}
 
 -- the slots that have come due since the stream was accepted, less those granted. - stops at 0

@@ -1,5 +1,6 @@
 -- One slot of a round at one node: what is done where its window opens, and where it closes.
-use Rattle.std.specs.Prelude.{ℕ, ◌+◌, ◌-◌, List, [], ◌∷◌, ◌++◌, Bool, true, false, ◌&&◌, ◌==◌, nat_lt, nat_le, if◌then◌else◌, Some, None, slice_index, length, option_map}
+use Rattle.std.specs.Prelude.{ℕ, ◌+◌, ◌-◌, List, [], ◌∷◌, ◌++◌, Bool, true, false, ◌&&◌, ◌==◌, nat_lt, nat_le}
+use Rattle.std.specs.Prelude.{if◌then◌else◌, Some, None, slice_index, length, option_map}
 use Rattle.std.specs.declared.option.Option.{Option}
 use Rattle.lwb_base.specs.Profile.{Numbers}
 use Rattle.lwb_base.specs.Messages.{Ask, Plan, Schedule, node_of, stream_of, length_of}
@@ -118,11 +119,24 @@ abbrev pub closed : Setup → ℕ → Part → Bool → Core → Option Message 
 closed s f part initiated c None = record { core = slot_heard f part initiated c; delivered = None }
 closed s f part initiated c (Some (ScheduleOf x)) = record { core = schedule_accepted s.id f x c; delivered = None }
 closed s f part initiated c (Some (DataOf d)) = record { core = slot_heard f part true c; delivered = Some d }
-closed s f part initiated c (Some (RequestOf a)) = record { core = record c { kept = if hosts_now f c && nat_lt (length c.kept) (most_kept s.profile) then c.kept ++ a ∷ [] else c.kept }; delivered = None }
+closed s f part initiated c (Some (RequestOf a)) = record {
+  core = record c { kept = if hosts_now f c && nat_lt (length c.kept) (most_kept s.profile) then c.kept ++ a ∷ [] else c.kept };
+  delivered = None;
+}
 
 -- what this node delivers of the data that it accepted in slot j of the round of this frame and rank
 abbrev pub delivery_of : ℕ → ℕ → ℕ → ℕ → Data → Delivery
-delivery_of node frame rank j d = record { frame = frame; rank = rank; slot = j; node = node; from = d.node; boot = d.boot; stream = d.stream; seq = d.seq; payload = d.payload }
+delivery_of node frame rank j d = record {
+  frame = frame;
+  rank = rank;
+  slot = j;
+  node = node;
+  from = d.node;
+  boot = d.boot;
+  stream = d.stream;
+  seq = d.seq;
+  payload = d.payload;
+}
 
 -- a slot in which the host says its schedule
 abbrev pub is_schedule_part : Part → Bool

@@ -1,5 +1,6 @@
 -- The streams of a node: wishes, queues, the contention rule, and what an accepted schedule does.
-use Rattle.std.specs.Prelude.{ℕ, ◌+◌, ◌-◌, ◌^◌, ◌%◌, List, [], ◌∷◌, ◌++◌, Bool, false, not, ◌&&◌, ◌||◌, ◌==◌, nat_lt, if◌then◌else◌, is_none, Some, None, map, length, drop, min, find, slice_get, slice_set, fold}
+use Rattle.std.specs.Prelude.{ℕ, ◌+◌, ◌-◌, ◌^◌, ◌%◌, List, [], ◌∷◌, ◌++◌, Bool, false, not, ◌&&◌, ◌||◌, ◌==◌, nat_lt}
+use Rattle.std.specs.Prelude.{if◌then◌else◌, is_none, Some, None, map, length, drop, min, find, slice_get, slice_set, fold}
 use Rattle.std.specs.declared.option.Option.{Option}
 use Rattle.std.specs.List.{slice_index_or}
 use Rattle.lwb_base.specs.Messages.{Ask, Schedule, node_of, stream_of}

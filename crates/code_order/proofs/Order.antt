@@ -1,5 +1,6 @@
 -- Items whose codes ascend, and one that is put among them.
-use Rattle.std.proofs.Common.{◌≡◌, ◌≢◌, ℕ, zero, suc, ◌+◌, ◌<◌, ◌≤◌, List, [], ◌∷◌, Bool, true, false, ◌==◌, nat_lt, ◌||◌, cond, if◌then◌else◌, is_some, length, get_or, set, Option, Some, None, refl, sym, ◌∙◌, ap, subst, arith, eq-eqb, one-add}
+use Rattle.std.proofs.Common.{◌≡◌, ◌≢◌, ℕ, zero, suc, ◌+◌, ◌<◌, ◌≤◌, List, [], ◌∷◌, Bool, true, false, ◌==◌, nat_lt, ◌||◌, cond, if◌then◌else◌}
+use Rattle.std.proofs.Common.{is_some, length, get_or, set, Option, Some, None, refl, sym, ◌∙◌, ap, subst, arith, eq-eqb, one-add}
 use Rattle.std.specs.List.{slice_get, prefix_len, insert}
 use Rattle.std.proofs.lemmas.Bool.{ne_eqb, lt-ltb, le-ltb, ltb-true, ltb-false, eqb-true, eqb-false}
 use Rattle.std.proofs.lemmas.Option.{slice_get_read, slice_get_past}
@@ -46,14 +47,16 @@ module _ {A : Type 0} (code : A → ℕ) where
       let apart : code x ≢ c = other x refl in
       rw (ne_eqb (code x) c apart) (none_above c xs (above_more c (code x) xs from above))
 
-  pub none_of_below : (c : ℕ) (xs : List A) → Ascends code xs → ((y : A) → slice_get xs (prefix_len (is_below code c) xs) ≡ Some y → code y ≢ c) → item_of code xs c ≡ None
+  pub none_of_below : (c : ℕ) (xs : List A) → Ascends code xs → ((y : A) → slice_get xs (prefix_len (is_below code c) xs) ≡ Some y → code y ≢ c)
+      → item_of code xs c ≡ None
   none_of_below c [] up other = refl
   none_of_below c (x ∷ xs) up other = none_by_test c x xs (prefix_len (is_below code c) xs) (nat_lt (code x) c) refl up.0 (none_of_below c xs up.1) other
 
   -- where an item of this code stands
   pub item_at : (c : ℕ) (xs : List A) (n : ℕ) (x : A) → Ascends code xs → slice_get xs n ≡ Some x → code x ≡ c → item_of code xs c ≡ Some x
   item_at c [] n x up at is = cc
-  item_at c (y ∷ xs) zero x up at is = let same : y ≡ x = cc in let here : code y ≡ c = ap code same ∙ is in rw (eq-eqb (code y) c here) (ap (λ (z : A). Some z) same)
+  item_at c (y ∷ xs) zero x up at is = let same : y ≡ x = cc in let here : code y ≡ c = ap code same ∙ is in
+      rw (eq-eqb (code y) c here) (ap (λ (z : A). Some z) same)
   item_at c (y ∷ xs) (suc n) x up at is =
       let above = above_get (code y) xs n x up.0 at in
       let apart : code y ≢ c = omega arith in
@@ -67,7 +70,8 @@ module _ {A : Type 0} (code : A → ℕ) where
       by_test false is none = (eqb-false (code x) c is, none)
 
   -- what stands at a place has another code, or nothing stands there
-  pub other_there : (c : ℕ) (xs : List A) (p n : ℕ) (y : A) → n ≡ p → n < length xs → y ≡ get_or xs n y → code y ≢ c → (x : A) → slice_get xs p ≡ Some x → code x ≢ c
+  pub other_there : (c : ℕ) (xs : List A) (p n : ℕ) (y : A) → n ≡ p → n < length xs → y ≡ get_or xs n y → code y ≢ c → (x : A) → slice_get xs p ≡ Some x
+      → code x ≢ c
   other_there c xs p n y is within read other x at =
       let there : slice_get xs n ≡ Some y = slice_get_read xs (length xs) n y refl within read in
       let same : y ≡ x = cc (ap (slice_get xs) is) in
@@ -79,19 +83,23 @@ module _ {A : Type 0} (code : A → ℕ) where
       cc (ap (slice_get xs) is)
 
   -- an item in its place
-  above_tests : (a x : A) (c : ℕ) (xs with : List A) (same first : Bool) → c < code a → c < code x → Above code c xs → Above code c with → Above code c (cond same (a ∷ xs) (cond first (a ∷ x ∷ xs) (x ∷ with)))
+  above_tests : (a x : A) (c : ℕ) (xs with : List A) (same first : Bool) → c < code a → c < code x → Above code c xs → Above code c with
+      → Above code c (cond same (a ∷ xs) (cond first (a ∷ x ∷ xs) (x ∷ with)))
   above_tests a x c xs with true first less here above rest = (less, above)
   above_tests a x c xs with false true less here above rest = (less, (here, above))
   above_tests a x c xs with false false less here above rest = (here, rest)
 
   above_placed : (a : A) (c : ℕ) (xs : List A) → c < code a → Above code c xs → Above code c (placed code a xs)
   above_placed a c [] less above = (less, tt)
-  above_placed a c (x ∷ xs) less above = above_tests a x c xs (placed code a xs) (code a == code x) (nat_lt (code a) (code x)) less above.0 above.1 (above_placed a c xs less above.1)
+  above_placed a c (x ∷ xs) less above =
+      above_tests a x c xs (placed code a xs) (code a == code x) (nat_lt (code a) (code x)) less above.0 above.1 (above_placed a c xs less above.1)
 
-  ascends_tests : (a x : A) (xs with : List A) (same first : Bool) → (code a == code x) ≡ same → nat_lt (code a) (code x) ≡ first → Above code (code x) xs → Ascends code xs → (code x < code a → Above code (code x) with) → Ascends code with
+  ascends_tests : (a x : A) (xs with : List A) (same first : Bool) → (code a == code x) ≡ same → nat_lt (code a) (code x) ≡ first → Above code (code x) xs
+      → Ascends code xs → (code x < code a → Above code (code x) with) → Ascends code with
       → Ascends code (cond same (a ∷ xs) (cond first (a ∷ x ∷ xs) (x ∷ with)))
   ascends_tests a x xs with true first is less above up later rest = (subst (λ (c : ℕ). Above code c xs) (sym (eqb-true (code a) (code x) is)) above, up)
-  ascends_tests a x xs with false true is less above up later rest = let below = ltb-true (code a) (code x) less in ((below, above_more (code a) (code x) xs (omega arith) above), (above, up))
+  ascends_tests a x xs with false true is less above up later rest = let below = ltb-true (code a) (code x) less in
+      ((below, above_more (code a) (code x) xs (omega arith) above), (above, up))
   ascends_tests a x xs with false false is less above up later rest =
       let apart = eqb-false (code a) (code x) is in
       let from = ltb-false (code a) (code x) less in
@@ -100,7 +108,8 @@ module _ {A : Type 0} (code : A → ℕ) where
   pub ascends_placed : (a : A) (xs : List A) → Ascends code xs → Ascends code (placed code a xs)
   ascends_placed a [] up = (tt, tt)
   ascends_placed a (x ∷ xs) up =
-      ascends_tests a x xs (placed code a xs) (code a == code x) (nat_lt (code a) (code x)) refl refl up.0 up.1 (λ less. above_placed a (code x) xs less up.0) (ascends_placed a xs up.1)
+      ascends_tests a x xs (placed code a xs) (code a == code x) (nat_lt (code a) (code x)) refl refl up.0 up.1 (λ less. above_placed a (code x) xs less up.0)
+      (ascends_placed a xs up.1)
 
   pub replaced_is : (a : A) (xs : List A) (n : ℕ) (x : A) → Ascends code xs → slice_get xs n ≡ Some x → code x ≡ code a → placed code a xs ≡ set xs n a
   replaced_is a [] n x up at is = cc
@@ -131,11 +140,13 @@ module _ {A : Type 0} (code : A → ℕ) where
       insert_by_test a y xs (prefix_len (is_below code (code a)) xs) (nat_lt (code y) (code a)) refl apart.0 (inserted_is a xs apart.1)
 
   -- as many as have a lesser code, counted from both sides
-  pub below_is : (c : ℕ) (xs : List A) (n : ℕ) → n ≤ length xs → ((k : ℕ) (d : A) → k < n → code (get_or xs k d) < c) → ((k : ℕ) (d : A) → n ≤ k → k < length xs → c ≤ code (get_or xs k d))
+  pub below_is : (c : ℕ) (xs : List A) (n : ℕ) → n ≤ length xs → ((k : ℕ) (d : A) → k < n → code (get_or xs k d) < c)
+      → ((k : ℕ) (d : A) → n ≤ k → k < length xs → c ≤ code (get_or xs k d))
       → n ≡ prefix_len (is_below code c) xs
   below_is c [] n le below from = omega arith
   below_is c (x ∷ xs) n le below from =
-      sym (prefix_len_is (is_below code c) (x ∷ xs) n x le (λ k less. lt-ltb (code (get_or (x ∷ xs) k x)) c (below k x less)) (λ less. le-ltb (code (get_or (x ∷ xs) n x)) c (from n x (omega arith) less)))
+      sym (prefix_len_is (is_below code c) (x ∷ xs) n x le (λ k less. lt-ltb (code (get_or (x ∷ xs) k x)) c (below k x less))
+      (λ less. le-ltb (code (get_or (x ∷ xs) n x)) c (from n x (omega arith) less)))
 
   -- what is found at a place
   pub found_there : (c : ℕ) (xs : List A) (n : ℕ) (x : A) → Ascends code xs → n < length xs → x ≡ get_or xs n x → code x ≡ c → IsAt code xs c n
@@ -164,10 +175,12 @@ module _ {A : Type 0} (code : A → ℕ) (xs list : List A) (a : A) (c n : ℕ) 
   added_at : (out : List A) → IsGap code list c n → out ≡ insert xs n a → out ≡ placed code a xs
   added_at out gap is = let here = gap_there gap in is ∙ ap (λ (p : ℕ). insert xs p a) here.place ∙ sym (inserted_is code a xs here.missing)
 
-  pub added : (most : ℕ) (out : List A) → IsGap code list c n → length xs < most → out ≡ insert xs n a → out ≡ (if finds_room code most xs (code a) then placed code a xs else xs)
+  pub added : (most : ℕ) (out : List A) → IsGap code list c n → length xs < most → out ≡ insert xs n a
+      → out ≡ (if finds_room code most xs (code a) then placed code a xs else xs)
   added most out gap room is =
       added_at out gap is
-      ∙ sym (ap (λ (o : Option A). if is_some o || nat_lt (length xs) most then placed code a xs else xs) (gap_there gap).missing ∙ ap (λ (b : Bool). if b then placed code a xs else xs) (lt-ltb (length xs) most room))
+      ∙ sym (ap (λ (o : Option A). if is_some o || nat_lt (length xs) most then placed code a xs else xs) (gap_there gap).missing
+      ∙ ap (λ (b : Bool). if b then placed code a xs else xs) (lt-ltb (length xs) most room))
 
   pub added_ascends : (out : List A) → IsGap code list c n → out ≡ insert xs n a → Ascends code out
   added_ascends out gap is = subst (Ascends code) (sym (added_at out gap is)) (ascends_placed code a xs up)

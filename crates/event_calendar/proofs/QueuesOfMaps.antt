@@ -1,5 +1,6 @@
 -- The queues of a map follow its changes.
-use Rattle.std.proofs.Common.{◌≡◌, ◌≢◌, ◌⊎◌, ℕ, ◌+◌, ◌*◌, ◌<◌, List, ◌∷◌, cond, is_some, length, replicate, count_by, Contains, None, Some, sym, ◌∙◌, ap, subst, inl, inr, mul-zero, arith}
+use Rattle.std.proofs.Common.{◌≡◌, ◌≢◌, ◌⊎◌, ℕ, ◌+◌, ◌*◌, ◌<◌, List, ◌∷◌, cond, is_some, length, replicate, count_by}
+use Rattle.std.proofs.Common.{Contains, None, Some, sym, ◌∙◌, ap, subst, inl, inr, mul-zero, arith}
 use Rattle.std.specs.declared.option.Option.{Option}
 use Rattle.std.proofs.Math.ListN.{length-set, length-replicate}
 use Rattle.std.proofs.lemmas.Bool.{cases_eq}

@@ -30,14 +30,16 @@ set_same p k is = subst (λ (i : ℕ). slice_set p 2 i ≡ p) is (set-get_or p 2
 
 pub long_data : (p : List ℕ) → is_data p ≡ true → 2 < length p
 long_data p is =
-    let a = and_parts _ _ is in let b = and_parts _ _ a.0 in let c = and_parts _ _ b.0 in let d = and_parts _ _ c.0 in let e = and_parts _ _ d.0 in let f = and_parts _ _ e.0 in let g = and_parts _ _ f.0 in
+    let a = and_parts _ _ is in let b = and_parts _ _ a.0 in let c = and_parts _ _ b.0 in let d = and_parts _ _ c.0 in
+    let e = and_parts _ _ d.0 in let f = and_parts _ _ e.0 in let g = and_parts _ _ f.0 in
     let h = and_parts _ _ g.0 in
     let size : 8 ≤ length p = leb-true 8 (length p) h.0 in
     omega arith
 
 pub long_request : (p : List ℕ) → is_request p ≡ true → 2 < length p
 long_request p is =
-    let a = and_parts _ _ is in let b = and_parts _ _ a.0 in let c = and_parts _ _ b.0 in let d = and_parts _ _ c.0 in let e = and_parts _ _ d.0 in let f = and_parts _ _ e.0 in
+    let a = and_parts _ _ is in let b = and_parts _ _ a.0 in let c = and_parts _ _ b.0 in let d = and_parts _ _ c.0 in
+    let e = and_parts _ _ d.0 in let f = and_parts _ _ e.0 in
     let g = and_parts _ _ f.0 in
     let size : length p ≡ 7 = eqb-true (length p) 7 g.0 in
     omega arith

@@ -1,5 +1,6 @@
 -- A spelling stays one with any counter from 0 to 11: its kind and body say the rest.
-use Rattle.std.proofs.Common.{◌≡◌, ℕ, ◌≤◌, List, [], ◌∷◌, Bool, true, false, ◌&&◌, ◌==◌, nat_le, length, slice_index, slice_set, is_some, Some, None, Option, bytes_eq, refl, sym, ◌∙◌, ap, subst, arith}
+use Rattle.std.proofs.Common.{◌≡◌, ℕ, ◌≤◌, List, [], ◌∷◌, Bool, true, false, ◌&&◌, ◌==◌, nat_le, length, slice_index}
+use Rattle.std.proofs.Common.{slice_set, is_some, Some, None, Option, bytes_eq, refl, sym, ◌∙◌, ap, subst, arith}
 use Rattle.std.proofs.lemmas.Bool.{and_parts, and_from, and_right, false_from_ne_true, leb-true, le-leb, eqb-true, eq-eqb, false≢true}
 use Rattle.lwb_base.specs.Messages.{Schedule}
 use Rattle.lwb_packets.specs.Body.{body}
@@ -48,7 +49,18 @@ module _ (a b c : ℕ) (rest : List ℕ) where
           record {
             count = parts.count;
             again = λ d low.
-                let range = range_from s b d (record { count = low; place = parts.place; rank = parts.rank; boot = parts.boot; gap = parts.gap; contend = parts.contend; few = parts.few; acks = parts.acks; ordered = parts.ordered; owners = parts.owners }) in
+                let range = range_from s b d (record {
+                  count = low;
+                  place = parts.place;
+                  rank = parts.rank;
+                  boot = parts.boot;
+                  gap = parts.gap;
+                  contend = parts.contend;
+                  few = parts.few;
+                  acks = parts.acks;
+                  ordered = parts.ordered;
+                  owners = parts.owners;
+                }) in
                 let bytes = and_from _ _ kind.0 (and_from _ _ (eq-eqb b b refl) (and_from _ _ (eq-eqb d d refl) tail)) in
                 ap is_some (read_as (a ∷ b ∷ d ∷ rest) s (and_from _ _ range bytes));
           }
@@ -68,7 +80,8 @@ by_counter kind a b c d rest is = by_range (nat_le d 11) refl
   where
     by_range : (within : Bool) → nat_le d 11 ≡ within → is_spelling kind (a ∷ b ∷ d ∷ rest) ≡ within
     by_range true inside = again a b c rest kind d is (leb-true d 11 inside)
-    by_range false past = false_from_ne_true (is_spelling kind (a ∷ b ∷ d ∷ rest)) (λ spelled. false≢true (sym past ∙ le-leb d 11 (low a b d rest kind spelled)))
+    by_range false past = false_from_ne_true (is_spelling kind (a ∷ b ∷ d ∷ rest))
+        (λ spelled. false≢true (sym past ∙ le-leb d 11 (low a b d rest kind spelled)))
 
 -- no spelling ends before its counter
 long : (kind : Kind) (p : List ℕ) → is_spelling kind p ≡ true → 3 ≤ length p
@@ -84,7 +97,8 @@ long kinds.Payload p is = let size = and_parts _ _ (first_of_eight (between 8 10
 long kinds.Request p is = omega (arith, eqb-true (length p) 7 (first_of_eight (length p == 7) _ _ _ _ _ _ _ is))
 
 -- a packet with the body of a spelling is one exactly where its counter is in range
-same_spelling : (kind : Kind) (first p : List ℕ) → is_spelling kind first ≡ true → bytes_eq (body first) (body p) ≡ true → is_spelling kind p ≡ nat_le (counter_of p) 11
+same_spelling : (kind : Kind) (first p : List ℕ) → is_spelling kind first ≡ true → bytes_eq (body first) (body p) ≡ true
+    → is_spelling kind p ≡ nat_le (counter_of p) 11
 same_spelling kind [] p is same = absurd (omega (arith, long kind [] is))
 same_spelling kind (a ∷ []) p is same = absurd (omega (arith, long kind (a ∷ []) is))
 same_spelling kind (a ∷ b ∷ []) p is same = absurd (omega (arith, long kind (a ∷ b ∷ []) is))

@@ -1,5 +1,6 @@
 -- A packet of any kind is one with each counter up to 11.
-use Rattle.std.proofs.Common.{◌≡◌, ℕ, ◌+◌, ◌*◌, ◌≤◌, List, Bool, true, ◌&&◌, sym, ◌∙◌, ap, subst, arith, length, drop, Option, Some, None, is_some, refl, ◌==◌, nat_le}
+use Rattle.std.proofs.Common.{◌≡◌, ℕ, ◌+◌, ◌*◌, ◌≤◌, List, Bool, true, ◌&&◌, sym, ◌∙◌, ap, subst, arith}
+use Rattle.std.proofs.Common.{length, drop, Option, Some, None, is_some, refl, ◌==◌, nat_le}
 use Rattle.std.specs.Prelude.{slice_index, slice_set}
 use Rattle.std.proofs.lemmas.Bool.{and_parts, le-leb, false≢true}
 use Rattle.std.proofs.lemmas.List.{get_or-set_same, get_or-set_other, length-set, drop-set-lt}
@@ -22,7 +23,9 @@ data_number p is =
     (and_parts _ _ d.0).1
 
 with_number : List ℕ → Bool → Bool
-with_number p x = between 8 104 (length p) && (slice_index p 0 == 2) && between 1 40 (slice_index p 1) && x && between 1 200 (slice_index p 3) && between 1 200 (slice_index p 4) && nat_le (slice_index p 5) 3 && nat_le (256 * slice_index p 6 + slice_index p 7) 65534
+with_number p x = between 8 104 (length p) && (slice_index p 0 == 2) && between 1 40 (slice_index p 1) && x
+    && between 1 200 (slice_index p 3) && between 1 200 (slice_index p 4) && nat_le (slice_index p 5) 3
+    && nat_le (256 * slice_index p 6 + slice_index p 7) 65534
 
 other_byte : (p : List ℕ) (k i : ℕ) → (i ≡ 2 → ⊥) → slice_index (slice_set p 2 k) i ≡ slice_index p i
 other_byte p k i other = get_or-set_other p 2 i k 0 other
@@ -45,7 +48,8 @@ data_again p k is few =
     (ap (with_number p) (le-leb k 11 few ∙ sym (data_number p is)) ∙ is)
 
 request_with : List ℕ → Bool → Bool
-request_with p x = (length p == 7) && (slice_index p 0 == 3) && between 1 44 (slice_index p 1) && x && between 1 200 (slice_index p 3) && between 1 200 (slice_index p 4) && nat_le (slice_index p 5) 3 && nat_le (slice_index p 6) 120
+request_with p x = (length p == 7) && (slice_index p 0 == 3) && between 1 44 (slice_index p 1) && x && between 1 200 (slice_index p 3)
+    && between 1 200 (slice_index p 4) && nat_le (slice_index p 5) 3 && nat_le (slice_index p 6) 120
 
 request_number : (p : List ℕ) → is_request p ≡ true → nat_le (slice_index p 2) 11 ≡ true
 request_number p is =

@@ -1,5 +1,6 @@
 -- What holds of a flood after any list of calls.
-use Rattle.std.proofs.Common.{◌≡◌, ℕ, ◌+◌, ◌≤◌, ◌↔◌, ◌==◌, List, [], ◌∷◌, Bool, true, false, if◌then◌else◌, nat_lt, Option, Some, None, option_map, inl, inr, refl, sym, ◌∙◌, ap, arith}
+use Rattle.std.proofs.Common.{◌≡◌, ℕ, ◌+◌, ◌≤◌, ◌↔◌, ◌==◌, List, [], ◌∷◌, Bool, true, false, if◌then◌else◌, nat_lt}
+use Rattle.std.proofs.Common.{Option, Some, None, option_map, inl, inr, refl, sym, ◌∙◌, ap, arith}
 use Rattle.std.proofs.lemmas.Bool.Decides.{nat_tests}
 use Rattle.std.proofs.lemmas.Bool.{cond_both, cases_eq, eq-eqb, ne_eqb}
 use Rattle.glossy_relay.specs.FloodState.{FloodState}
@@ -11,7 +12,8 @@ use Rattle.glossy_relay.specs.Runs.{Call, Heard, Sent, after_all, IsAllowed, ord
 abbrev used : FloodState → ℕ
 used s = s.sent + (if s.waiting then 1 else 0)
 
-heard_used : (s : FloodState) (p : List ℕ) → used s ≤ s.limit → (used (after_heard s p) ≡ used s + orders_one s (Heard p)) × (used (after_heard s p) ≤ s.limit) × ((after_heard s p).limit ≡ s.limit)
+heard_used : (s : FloodState) (p : List ℕ) → used s ≤ s.limit → (used (after_heard s p) ≡ used s + orders_one s (Heard p))
+    × (used (after_heard s p) ≤ s.limit) × ((after_heard s p).limit ≡ s.limit)
 heard_used s p within = grind (arith, nat_tests)
 
 sent_used : (s : FloodState) → s.waiting ≡ true → used (after_sent s) ≡ used s
@@ -76,13 +78,16 @@ found (Heard p ∷ calls) s none =
     by_fit : (b : Bool) (s : FloodState) (p : List ℕ) (calls : List Call)
         → ((t : FloodState) → t.first ≡ Some p → (after_all t calls).first ≡ Some p)
         → ((t : FloodState) → t.first ≡ None → (after_all t calls).first ≡ first_fitting t calls) → s.first ≡ None
-        → (let t : FloodState = if b then record s { waiting = nat_lt (counter_of p) 11; first = first_of s.first p } else s in (after_all t calls).first ≡ (if b then Some p else first_fitting t calls))
-    by_fit true s p calls stays more none = stays (record s { waiting = nat_lt (counter_of p) 11; first = first_of s.first p }) (ap (λ (o : Option (List ℕ)). first_of o p) none)
+        → (let t : FloodState = if b then record s { waiting = nat_lt (counter_of p) 11; first = first_of s.first p } else s in
+        (after_all t calls).first ≡ (if b then Some p else first_fitting t calls))
+    by_fit true s p calls stays more none = stays (record s { waiting = nat_lt (counter_of p) 11; first = first_of s.first p })
+        (ap (λ (o : Option (List ℕ)). first_of o p) none)
     by_fit false s p calls stays more none = more s none
 found (Sent ∷ calls) s none = found calls (after_sent s) none
 
 -- a flood that began here accepts nothing, and a listener what it carries
-pub accepts : (s t : FloodState) → t.initiated ≡ s.initiated → s.initiated ≡ false → accepted_of t ≡ option_map {U = List ℕ × ℕ} (λ p. (p, counter_of p)) t.first
+pub accepts : (s t : FloodState) → t.initiated ≡ s.initiated → s.initiated ≡ false
+    → accepted_of t ≡ option_map {U = List ℕ × ℕ} (λ p. (p, counter_of p)) t.first
 accepts s t like is = rw (like ∙ is) refl
 
 pub accepts_none : (s t : FloodState) → t.initiated ≡ s.initiated → s.initiated ≡ true → accepted_of t ≡ None

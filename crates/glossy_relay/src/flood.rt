@@ -52,7 +52,15 @@ impl Model for Flood {
 
     ghost Value = { FloodState };
 
-    ghost view = { λ s. record { kind = s.kind; slot = s.slot; limit = s.limit; sent = s.sent; waiting = s.waiting; initiated = s.initiated; first = s.first } };
+    ghost view = { λ s. record {
+      kind = s.kind;
+      slot = s.slot;
+      limit = s.limit;
+      sent = s.sent;
+      waiting = s.waiting;
+      initiated = s.initiated;
+      first = s.first;
+    } };
 
     ghost invariant = { λ s. (s.limit ≤ 4) × (s.sent ≤ s.limit) × (s.waiting ≡ true → s.sent < s.limit)
         × IfSome s.first (λ p. is_spelling s.kind p ≡ true) };

@@ -24,13 +24,15 @@ pub fn orders_at_most_its_limit()
 
 /// The end of a sending turns the radio off exactly where it is the n-th, however the flood is called.
 pub fn turns_off_after_its_last_sending()
-    ensures listening { (kind : Kind) (slot n : ℕ) (calls : List Call) → after_ending (after_all (listening kind slot n) calls) ≡ Off ↔ (endings calls + 1 ≡ n) }
+    ensures listening { (kind : Kind) (slot n : ℕ) (calls : List Call) → after_ending (after_all (listening kind slot n) calls) ≡ Off
+        ↔ (endings calls + 1 ≡ n) }
     ensures initiating { (p : List ℕ) (n : ℕ) (calls : List Call) → after_ending (after_all (initiating p n) calls) ≡ Off ↔ (endings calls + 1 ≡ n) }
 {}
 
 /// What a listener has accepted is the first packet that fitted, with its counter; what began here accepts nothing.
 pub fn accepts_the_first_that_fits()
     ensures listening { (kind : Kind) (slot n : ℕ) (calls : List Call)
-        → accepted_of (after_all (listening kind slot n) calls) ≡ option_map {U = List ℕ × ℕ} (λ p. (p, counter_of p)) (first_fitting (listening kind slot n) calls) }
+        → accepted_of (after_all (listening kind slot n) calls)
+        ≡ option_map {U = List ℕ × ℕ} (λ p. (p, counter_of p)) (first_fitting (listening kind slot n) calls) }
     ensures initiating { (p : List ℕ) (n : ℕ) (calls : List Call) → accepted_of (after_all (initiating p n) calls) ≡ None }
 {}

@@ -1,5 +1,6 @@
 -- From the list of what is owed to the table's own rule.
-use Rattle.std.proofs.Common.{◌≡◌, ℕ, zero, suc, ◌+◌, ◌-◌, ◌*◌, ◌^◌, ◌<◌, ◌≤◌, List, [], ◌∷◌, ◌++◌, Bool, true, false, nat_lt, nat_le, cond, is_some, get_or, take, map, filter, replicate, Option, Some, ⊎_elim, refl, sym, ◌∙◌, ap, subst, arith}
+use Rattle.std.proofs.Common.{◌≡◌, ℕ, zero, suc, ◌+◌, ◌-◌, ◌*◌, ◌^◌, ◌<◌, ◌≤◌, List, [], ◌∷◌, ◌++◌, Bool, true, false, nat_lt, nat_le, cond}
+use Rattle.std.proofs.Common.{is_some, get_or, take, map, filter, replicate, Option, Some, ⊎_elim, refl, sym, ◌∙◌, ap, subst, arith}
 use Rattle.std.specs.List.{sum_by, All, slice_get}
 use Rattle.std.specs.Option.{IfSome}
 use Rattle.std.proofs.Math.Nat.{mul-le-mul, div-le_self}
@@ -19,7 +20,8 @@ filter-map : {X Y : Type 0} (g : X → Y) (p : Y → Bool) (xs : List X) → fil
 filter-map g p [] = refl
 filter-map g p (x ∷ xs) = by_test (p (g x)) (filter-map g p xs)
   where
-    by_test : (b : Bool) → filter p (map g xs) ≡ map g (filter (λ y. p (g y)) xs) → cond b (g x ∷ filter p (map g xs)) (filter p (map g xs)) ≡ map g (cond b (x ∷ filter (λ y. p (g y)) xs) (filter (λ y. p (g y)) xs))
+    by_test : (b : Bool) → filter p (map g xs) ≡ map g (filter (λ y. p (g y)) xs) → cond b (g x ∷ filter p (map g xs)) (filter p (map g xs))
+        ≡ map g (cond b (x ∷ filter (λ y. p (g y)) xs) (filter (λ y. p (g y)) xs))
     by_test true rest = ap (λ (l : List _). g x ∷ l) rest
     by_test false rest = rest
 
@@ -50,10 +52,12 @@ turns_are : (owes : Entry → ℕ) (line : List Entry) (k : ℕ) → turns_of (d
 unfolding turns_of turns
 turns_are owes line zero = refl
 turns_are owes line (suc k) =
-    ap (λ (l : List ℕ). l ++ map code_of (beyond k (debts_of owes line))) (turns_are owes line k) ∙ ap (λ (l : List ℕ). turns owes line k ++ l) (turn_of owes line k)
+    ap (λ (l : List ℕ). l ++ map code_of (beyond k (debts_of owes line))) (turns_are owes line k)
+    ∙ ap (λ (l : List ℕ). turns owes line k ++ l) (turn_of owes line k)
 
 pub given_is : (owes : Entry → ℕ) (t : Table) → take 40 (turns_of (in_line t.place (debts_of owes t.entries)) 40) ≡ given owes t
-given_is owes t = ap (λ (l : List Debt). take 40 (turns_of l 40)) (line_of owes t.place t.entries) ∙ ap (take 40) (turns_are owes (in_turn t.place t.entries) 40)
+given_is owes t = ap (λ (l : List Debt). take 40 (turns_of l 40)) (line_of owes t.place t.entries)
+    ∙ ap (take 40) (turns_are owes (in_turn t.place t.entries) 40)
 
 -- what is owed something can be granted
 module _ (P : ℕ → Type 0) where
@@ -86,7 +90,8 @@ module _ (P : ℕ → Type 0) where
   given_good place ds all =
       let first : Debt → Bool = λ d. nat_le place d.code in
       let second : Debt → Bool = λ d. nat_lt d.code place in
-      All-take P 40 (turns_of (in_line place ds) 40) (turns_good (in_line place ds) 40 (All-append Owed (filter first ds) (filter second ds) (All-filter first Owed ds all) (All-filter second Owed ds all)))
+      All-take P 40 (turns_of (in_line place ds) 40) (turns_good (in_line place ds) 40
+      (All-append Owed (filter first ds) (filter second ds) (All-filter first Owed ds all) (All-filter second Owed ds all)))
 
 -- the owners of a table that are owed something can be granted it
 owed_few : (seconds frame : ℕ) (e : Entry) → seconds ≤ 5 → frame ≤ 16777219 → 0 < owed_to seconds frame e → e.granted < 2 ^ 31
@@ -100,14 +105,16 @@ owed_few seconds frame e fast soon some =
 pub seconds_few : (p : Numbers) → IsProfile p → p.seconds ≤ 5
 seconds_few p made = ⊎_elim (λ is. omega (arith, ap (λ (q : Numbers). q.seconds) is)) (λ is. omega (arith, ap (λ (q : Numbers). q.seconds) is.0)) made
 
-pub grantable : (seconds frame : ℕ) (es : List Entry) → Ascends es → seconds ≤ 5 → frame ≤ 16777219 → All (λ d. IsCode d.code) (debts_of (owed_to seconds frame) es) → All (Owed (IsGrantable es)) (debts_of (owed_to seconds frame) es)
+pub grantable : (seconds frame : ℕ) (es : List Entry) → Ascends es → seconds ≤ 5 → frame ≤ 16777219
+    → All (λ d. IsCode d.code) (debts_of (owed_to seconds frame) es) → All (Owed (IsGrantable es)) (debts_of (owed_to seconds frame) es)
 grantable seconds frame es up fast soon codes =
     All-map (Owed (IsGrantable es)) (debt_of (owed_to seconds frame)) es (λ k d within some.
     let e = get_or es k d in
     let at : slice_get es k ≡ Some e = slice_get-get_or es k d within in
     let found = entry_at e.code es k e up at refl in
     let g = debt_of (owed_to seconds frame) in
-    let code : IsCode e.code = subst (λ (x : Debt). IsCode x.code) (get_or-map g es k d (g e) within) (codes k (g e) (omega (arith, length-map es g, within))) in
+    let code : IsCode e.code = subst (λ (x : Debt). IsCode x.code) (get_or-map g es k d (g e) within)
+    (codes k (g e) (omega (arith, length-map es g, within))) in
     record {
       code = code;
       there = ap is_some found;

@@ -1,5 +1,6 @@
 -- Codes and how often they stand in a list.
-use Rattle.std.proofs.Common.{◌≡◌, ℕ, ◌+◌, ◌-◌, ◌^◌, ◌<◌, ◌≤◌, List, [], ◌∷◌, ◌++◌, Bool, true, false, ◌==◌, cond, is_some, length, get_or, take, map, Option, Some, None, IsSome, option_map, ⊎_elim, refl, sym, ◌∙◌, ap, subst, arith, eq-eqb}
+use Rattle.std.proofs.Common.{◌≡◌, ℕ, ◌+◌, ◌-◌, ◌^◌, ◌<◌, ◌≤◌, List, [], ◌∷◌, ◌++◌, Bool, true, false, ◌==◌, cond, is_some, length, get_or}
+use Rattle.std.proofs.Common.{take, map, Option, Some, None, IsSome, option_map, ⊎_elim, refl, sym, ◌∙◌, ap, subst, arith, eq-eqb}
 use Rattle.std.specs.List.{slice_get}
 use Rattle.std.specs.Option.{IfSome}
 use Rattle.std.specs.List.Sorted.{IsNonDecreasing}
@@ -25,13 +26,15 @@ once codes c e = ⊎_elim same other (cases_eq e.code c)
 
     same : e.code ≡ c → granted_once c (grant (share_in codes) e) ≡ grant (share_in (codes ++ c ∷ [])) e
     same is =
-        let more : count_of e.code (codes ++ c ∷ []) ≡ count_of e.code codes + 1 = count ∙ ap (λ (b : Bool). count_of e.code codes + cond b 1 0) (eq-eqb c e.code (sym is)) in
+        let more : count_of e.code (codes ++ c ∷ []) ≡ count_of e.code codes + 1 = count
+        ∙ ap (λ (b : Bool). count_of e.code codes + cond b 1 0) (eq-eqb c e.code (sym is)) in
         let sums : (e.granted + count_of e.code codes) + 1 ≡ e.granted + count_of e.code (codes ++ c ∷ []) = omega (arith, more) in
         ap (λ (b : Bool). with (cond b ((e.granted + count_of e.code codes) + 1) (e.granted + count_of e.code codes))) (eq-eqb e.code c is) ∙ ap with sums
 
     other : (e.code ≡ c → ⊥) → granted_once c (grant (share_in codes) e) ≡ grant (share_in (codes ++ c ∷ [])) e
     other apart =
-        let stays : count_of e.code (codes ++ c ∷ []) ≡ count_of e.code codes + 0 = count ∙ ap (λ (b : Bool). count_of e.code codes + cond b 1 0) (ne_eqb c e.code (λ is. apart (sym is))) in
+        let stays : count_of e.code (codes ++ c ∷ []) ≡ count_of e.code codes + 0 = count
+        ∙ ap (λ (b : Bool). count_of e.code codes + cond b 1 0) (ne_eqb c e.code (λ is. apart (sym is))) in
         let sums : e.granted + count_of e.code codes ≡ e.granted + count_of e.code (codes ++ c ∷ []) = omega (arith, stays) in
         ap (λ (b : Bool). with (cond b ((e.granted + count_of e.code codes) + 1) (e.granted + count_of e.code codes))) (ne_eqb e.code c apart) ∙ ap with sums
 
@@ -39,7 +42,8 @@ once_each : (codes : List ℕ) (c : ℕ) (es : List Entry) → map (granted_once
 once_each codes c [] = refl
 once_each codes c (e ∷ es) = cc (once codes c e, once_each codes c es)
 
-pub granted_more : (codes : List ℕ) (i c : ℕ) (t now : Table) → i < length codes → c ≡ get_or codes i 0 → now ≡ grant_owner c (granted_all (take i codes) t) → now ≡ granted_all (take (i + 1) codes) t
+pub granted_more : (codes : List ℕ) (i c : ℕ) (t now : Table) → i < length codes → c ≡ get_or codes i 0
+    → now ≡ grant_owner c (granted_all (take i codes) t) → now ≡ granted_all (take (i + 1) codes) t
 granted_more codes i c t now within read is =
     let next : take (i + 1) codes ≡ take i codes ++ c ∷ [] = take_more codes i 0 within ∙ ap (λ (x : ℕ). take i codes ++ x ∷ []) (sym read) in
     is ∙ ap (λ (es : List Entry). record t { entries = es }) (once_each (take i codes) c t.entries) ∙ ap (λ (cs : List ℕ). granted_all cs t) (sym next)
@@ -62,7 +66,8 @@ entry_granted codes c (e ∷ es) = by_test (e.code == c) (entry_granted codes c 
     f = grant (share_in codes)
 
     by_test : (b : Bool) → entry_of (map (grant (share_in codes)) es) c ≡ option_map (grant (share_in codes)) (entry_of es c)
-        → cond b (Some (grant (share_in codes) e)) (entry_of (map (grant (share_in codes)) es) c) ≡ option_map (grant (share_in codes)) (cond b (Some e) (entry_of es c))
+        → cond b (Some (grant (share_in codes) e)) (entry_of (map (grant (share_in codes)) es) c)
+        ≡ option_map (grant (share_in codes)) (cond b (Some e) (entry_of es c))
     by_test true rest = refl
     by_test false rest = rest
 
@@ -73,7 +78,8 @@ still_there codes c es there = ap is_some (entry_granted codes c es) ∙ of_opti
     of_option None is = cc
     of_option (Some e) is = refl
 
-pub still_few : (codes : List ℕ) (c : ℕ) (es : List Entry) → length codes ≤ 40 → IfSome (entry_of es c) (λ e. e.granted < 2 ^ 31) → IfSome (entry_of (map (grant (share_in codes)) es) c) (λ e. e.granted < 4294967295)
+pub still_few : (codes : List ℕ) (c : ℕ) (es : List Entry) → length codes ≤ 40 → IfSome (entry_of es c) (λ e. e.granted < 2 ^ 31)
+    → IfSome (entry_of (map (grant (share_in codes)) es) c) (λ e. e.granted < 4294967295)
 still_few codes c es long few =
     subst (λ (o : Option Entry). IfSome o (λ e. e.granted < 4294967295)) (sym (entry_granted codes c es)) (of_option (entry_of es c) few)
   where
@@ -82,7 +88,8 @@ still_few codes c es long few =
     of_option (Some e) is = omega (arith, count_by-le-length (λ (x : ℕ). x == e.code) codes)
 
 -- codes that do not descend can be added one after another
-pub follows : (codes : List ℕ) (i c : ℕ) → IsNonDecreasing codes → length codes ≤ 40 → i < length codes → c ≡ get_or codes i 0 → takes_owner (take i codes) c ≡ true
+pub follows : (codes : List ℕ) (i c : ℕ) → IsNonDecreasing codes → length codes ≤ 40 → i < length codes → c ≡ get_or codes i 0
+    → takes_owner (take i codes) c ≡ true
 follows codes i c up long within read =
     let cut : length (take i codes) ≡ i = length-take-le i codes (omega arith) in
     and_from _ _ (lt-ltb (length (take i codes)) 40 (omega arith)) (of_last (slice_get (take i codes) (length (take i codes) - 1)) refl cut)

@@ -1,9 +1,12 @@
 -- What is owed, and the line of the turns.
-use Rattle.std.proofs.Common.{◌≡◌, ℕ, zero, suc, ◌+◌, ◌<◌, ◌≤◌, List, [], ◌∷◌, ◌++◌, Bool, true, false, ◌&&◌, nat_lt, nat_le, cond, length, get_or, take, drop, map, filter, replicate, Option, Some, None, option_map, refl, sym, ◌∙◌, ap, arith, add-one, length-append, append_assoc}
+use Rattle.std.proofs.Common.{◌≡◌, ℕ, zero, suc, ◌+◌, ◌<◌, ◌≤◌, List, [], ◌∷◌, ◌++◌, Bool, true, false, ◌&&◌, nat_lt}
+use Rattle.std.proofs.Common.{nat_le, cond, length, get_or, take, drop, map, filter, replicate, Option, Some, None}
+use Rattle.std.proofs.Common.{option_map, refl, sym, ◌∙◌, ap, arith, add-one, length-append, append_assoc}
 use Rattle.std.specs.List.{slice_get, sum_by}
 use Rattle.std.specs.Option.{option_map_or}
 use Rattle.std.proofs.lemmas.Bool.{ltb-true, lt-ltb, leb-true}
-use Rattle.std.proofs.lemmas.List.{get_or_default, take_more, take_all, get_or-map, length-map, length-replicate, take-append-drop, length-take, length-take-le, append-nil, map_more}
+use Rattle.std.proofs.lemmas.List.{get_or_default, take_more, take_all, get_or-map, length-map, length-replicate}
+use Rattle.std.proofs.lemmas.List.{take-append-drop, length-take, length-take-le, append-nil, map_more}
 use Rattle.std.proofs.lemmas.List.Elements.{filter-append, filter_more}
 use Rattle.std.proofs.lemmas.List.Sums.{sum_by-cons, sum_by_more, sum_by-take-le}
 use Rattle.std.proofs.lemmas.Option.{slice_get-map, slice_get_within, get_or_from_slice_get}
@@ -16,14 +19,16 @@ use Rattle.host_scheduler.specs.Debts.{debt_of, debts_of, code_of, owed_in, code
 use Rattle.host_scheduler.proofs.Sifted.{filter_filter, filter_stronger, both_fit, length_filter, take_joined}
 
 -- the owner at a place of the table, with what is owed to it
-pub debt_more : (seconds frame : ℕ) (t : Table) (i owner : ℕ) (ds : List Debt) → Ascends t.entries → Some owner ≡ slice_get (map code_in t.entries) i → ds ≡ take i (debts_of (owed_to seconds frame) t.entries)
+pub debt_more : (seconds frame : ℕ) (t : Table) (i owner : ℕ) (ds : List Debt) → Ascends t.entries
+    → Some owner ≡ slice_get (map code_in t.entries) i → ds ≡ take i (debts_of (owed_to seconds frame) t.entries)
     → ds ++ record { code = owner; owed = owed_by seconds frame t owner } ∷ [] ≡ take (i + 1) (debts_of (owed_to seconds frame) t.entries)
 debt_more seconds frame t i owner ds up at is = of_entry (slice_get t.entries i) refl
   where
     owes : Entry → ℕ
     owes = owed_to seconds frame
 
-    of_entry : (o : Option Entry) → slice_get t.entries i ≡ o → ds ++ record { code = owner; owed = owed_by seconds frame t owner } ∷ [] ≡ take (i + 1) (debts_of owes t.entries)
+    of_entry : (o : Option Entry) → slice_get t.entries i ≡ o → ds ++ record { code = owner; owed = owed_by seconds frame t owner }
+        ∷ [] ≡ take (i + 1) (debts_of owes t.entries)
     of_entry None none = let not : Some owner ≡ None = at ∙ slice_get-map code_in t.entries i ∙ ap (option_map code_in) none in cc
     of_entry (Some e) some =
         let this : Some owner ≡ Some e.code = at ∙ slice_get-map code_in t.entries i ∙ ap (option_map code_in) some in
@@ -32,12 +37,16 @@ debt_more seconds frame t i owner ds up at is = of_entry (slice_get t.entries i)
         let read : get_or t.entries i e ≡ e = get_or_from_slice_get t.entries i e e some in
         let found : entry_of t.entries owner ≡ Some e = entry_at owner t.entries i e up some (sym same) in
         let debt : Debt = record { code = owner; owed = owed_by seconds frame t owner } in
-        let value : debt ≡ debt_of owes e = ap (λ (o : Option Entry). record { code = owner; owed = option_map_or owes o 0 }) found ∙ ap (λ (c : ℕ). record { code = c; owed = owes e }) same in
-        ap (λ (l : List Debt). l ++ debt ∷ []) is ∙ ap (λ (d : Debt). take i (debts_of owes t.entries) ++ d ∷ []) (value ∙ ap (debt_of owes) (sym read) ∙ sym (get_or-map (debt_of owes) t.entries i e debt within))
+        let value : debt ≡ debt_of owes e = ap (λ (o : Option Entry). record { code = owner; owed = option_map_or owes o 0 }) found
+        ∙ ap (λ (c : ℕ). record { code = c; owed = owes e }) same in
+        ap (λ (l : List Debt). l ++ debt ∷ []) is ∙ ap (λ (d : Debt). take i (debts_of owes t.entries) ++ d ∷ [])
+        (value ∙ ap (debt_of owes) (sym read) ∙ sym (get_or-map (debt_of owes) t.entries i e debt within))
         ∙ sym (take_more (debts_of owes t.entries) i debt (omega (arith, within, length-map t.entries (debt_of owes))))
 
-pub debts_end : (seconds frame : ℕ) (t : Table) (i : ℕ) (ds : List Debt) → length t.entries ≤ i → ds ≡ take i (debts_of (owed_to seconds frame) t.entries) → ds ≡ debts_of (owed_to seconds frame) t.entries
-debts_end seconds frame t i ds past is = is ∙ take_all i (debts_of (owed_to seconds frame) t.entries) (omega (arith, length-map t.entries (debt_of (owed_to seconds frame))))
+pub debts_end : (seconds frame : ℕ) (t : Table) (i : ℕ) (ds : List Debt) → length t.entries ≤ i
+    → ds ≡ take i (debts_of (owed_to seconds frame) t.entries) → ds ≡ debts_of (owed_to seconds frame) t.entries
+debts_end seconds frame t i ds past is = is
+    ∙ take_all i (debts_of (owed_to seconds frame) t.entries) (omega (arith, length-map t.entries (debt_of (owed_to seconds frame))))
 
 pub none_left : (es : List Entry) (i : ℕ) → None ≡ slice_get (map code_in es) i → length es ≤ i
 none_left [] i none = omega arith
@@ -53,12 +62,15 @@ all_joined : (xs ys : List Debt) → all_owed (xs ++ ys) ≡ all_owed xs ++ all_
 all_joined [] ys = refl
 all_joined (x ∷ xs) ys = ap (λ (l : List ℕ). codes_owed x ++ l) (all_joined xs ys) ∙ sym (append_assoc (codes_owed x) (all_owed xs) (all_owed ys))
 
-pub all_more : (ds : List Debt) (i : ℕ) (d : Debt) → i < length ds → d ≡ get_or ds i d → all_owed (take (i + 1) ds) ≡ all_owed (take i ds) ++ replicate d.owed d.code
+pub all_more : (ds : List Debt) (i : ℕ) (d : Debt) → i < length ds → d ≡ get_or ds i d
+    → all_owed (take (i + 1) ds) ≡ all_owed (take i ds) ++ replicate d.owed d.code
 all_more ds i d within read =
-    ap all_owed (take_more ds i d within) ∙ all_joined (take i ds) (get_or ds i d ∷ []) ∙ ap (λ (x : Debt). all_owed (take i ds) ++ (codes_owed x ++ [])) (sym read)
+    ap all_owed (take_more ds i d within) ∙ all_joined (take i ds) (get_or ds i d ∷ [])
+    ∙ ap (λ (x : Debt). all_owed (take i ds) ++ (codes_owed x ++ [])) (sym read)
     ∙ ap (λ (l : List ℕ). all_owed (take i ds) ++ l) (append-nil (codes_owed d))
 
-pub all_fits : (ds : List Debt) (i : ℕ) (d : Debt) (codes : List ℕ) → i < length ds → d ≡ get_or ds i d → sum_by owed_in ds ≤ 40 → codes ≡ all_owed (take i ds) → length codes + d.owed ≤ 40
+pub all_fits : (ds : List Debt) (i : ℕ) (d : Debt) (codes : List ℕ) → i < length ds → d ≡ get_or ds i d → sum_by owed_in ds ≤ 40
+    → codes ≡ all_owed (take i ds) → length codes + d.owed ≤ 40
 all_fits ds i d codes within read few is =
     let more = sum_by_more owed_in ds i d within in
     let most = sum_by-take-le owed_in ds (i + 1) in
@@ -99,12 +111,19 @@ pub length_line : (place k : ℕ) (ds : List Debt) → length (beyond k (in_line
 length_line place k ds =
     let first : Debt → Bool = λ d. nat_le place d.code in
     let second : Debt → Bool = λ d. nat_lt d.code place in
-    omega (arith, length_filter (owed_beyond k) (in_line place ds), length-append (filter first ds) (filter second ds), both_fit first second ds (places_apart place))
+    omega (
+      arith,
+      length_filter (owed_beyond k) (in_line place ds),
+      length-append (filter first ds) (filter second ds),
+      both_fit first second ds (places_apart place),
+    )
 
 -- one turn after another
-pub next_turn : (line : List Debt) (k : ℕ) (given : List ℕ) → given ≡ take 40 (turns_of line k) → take 40 (given ++ map code_of (beyond k line)) ≡ take 40 (turns_of line (k + 1))
+pub next_turn : (line : List Debt) (k : ℕ) (given : List ℕ) → given ≡ take 40 (turns_of line k)
+    → take 40 (given ++ map code_of (beyond k line)) ≡ take 40 (turns_of line (k + 1))
 unfolding turns_of
-next_turn line k given is = rw add-one (ap (λ (l : List ℕ). take 40 (l ++ map code_of (beyond k line))) is ∙ take_joined 40 (turns_of line k) (map code_of (beyond k line)))
+next_turn line k given is = rw add-one
+    (ap (λ (l : List ℕ). take 40 (l ++ map code_of (beyond k line))) is ∙ take_joined 40 (turns_of line k) (map code_of (beyond k line)))
 
 pub no_turn : (line : List Debt) → take 40 (turns_of line 0) ≡ []
 unfolding turns_of
@@ -114,7 +133,8 @@ pub next_line : (line : List Debt) (k : ℕ) → beyond (k + 1) (beyond k line) 
 next_line line k = filter_stronger (owed_beyond k) (owed_beyond (k + 1)) line (λ d is. lt-ltb k d.owed (omega (arith, ltb-true (k + 1) d.owed is)))
 
 -- a slot more of a turn
-pub slot_more : (before : List ℕ) (line : List Debt) (i : ℕ) (d : Debt) (old new : List ℕ) → i < length line → d ≡ get_or line i d → old ≡ take 40 (before ++ map code_of (take i line)) → new ≡ take 40 (old ++ d.code ∷ [])
+pub slot_more : (before : List ℕ) (line : List Debt) (i : ℕ) (d : Debt) (old new : List ℕ) → i < length line → d ≡ get_or line i d
+    → old ≡ take 40 (before ++ map code_of (take i line)) → new ≡ take 40 (old ++ d.code ∷ [])
     → new ≡ take 40 (before ++ map code_of (take (i + 1) line))
 slot_more before line i d old new within read is now =
     now ∙ ap (λ (l : List ℕ). take 40 (l ++ d.code ∷ [])) is ∙ take_joined 40 (before ++ map code_of (take i line)) (d.code ∷ [])
@@ -132,19 +152,30 @@ pub length_taken : (xs : List ℕ) → length (take 40 xs) ≤ 40
 length_taken xs = omega (arith, length-take 40 xs)
 
 -- room for one more of the line
-pub late_room : (place : ℕ) (ds : List Debt) (i : ℕ) (line : List Debt) → i < length ds → length ds ≤ 32 → line ≡ [] ++ filter (late place) (take i ds) → length line < 32
+pub late_room : (place : ℕ) (ds : List Debt) (i : ℕ) (line : List Debt) → i < length ds → length ds ≤ 32
+    → line ≡ [] ++ filter (late place) (take i ds) → length line < 32
 late_room place ds i line within few is =
     let cut : length (take i ds) ≡ i = length-take-le i ds (omega arith) in
     omega (arith, ap length is, length_filter (late place) (take i ds))
 
 length_front : (p : Debt → Bool) (k : ℕ) (ds : List Debt) → length (filter p (take k ds)) ≤ length (filter p ds)
 length_front p k ds =
-    let whole : filter p ds ≡ filter p (take k ds) ++ filter p (drop k ds) = ap (filter p) (sym (take-append-drop k ds)) ∙ filter-append p (take k ds) (drop k ds) in
+    let whole : filter p ds ≡ filter p (take k ds) ++ filter p (drop k ds) = ap (filter p) (sym (take-append-drop k ds))
+    ∙ filter-append p (take k ds) (drop k ds) in
     omega (arith, ap length whole, length-append (filter p (take k ds)) (filter p (drop k ds)))
 
-pub line_room : (place : ℕ) (ds : List Debt) (i : ℕ) (line : List Debt) → i < length ds → length ds ≤ 32 → line ≡ filter (late place) ds ++ filter (early place) (take i ds) → early place (get_or ds i nothing) ≡ true → length line < 32
+pub line_room : (place : ℕ) (ds : List Debt) (i : ℕ) (line : List Debt) → i < length ds → length ds ≤ 32
+    → line ≡ filter (late place) ds ++ filter (early place) (take i ds) → early place (get_or ds i nothing) ≡ true → length line < 32
 line_room place ds i line within few is stays =
     let d = get_or ds i nothing in
     let more : filter (early place) (take (i + 1) ds) ≡ filter (early place) (take i ds) ++ d ∷ [] =
     filter_more (early place) ds i nothing within ∙ ap (λ (b : Bool). filter (early place) (take i ds) ++ cond b (d ∷ []) []) stays in
-    omega (arith, ap length is, length-append (filter (late place) ds) (filter (early place) (take i ds)), ap length more, length-append (filter (early place) (take i ds)) (d ∷ []), length_front (early place) (i + 1) ds, line_fits place ds)
+    omega (
+      arith,
+      ap length is,
+      length-append (filter (late place) ds) (filter (early place) (take i ds)),
+      ap length more,
+      length-append (filter (early place) (take i ds)) (d ∷ []),
+      length_front (early place) (i + 1) ds,
+      line_fits place ds,
+    )

@@ -1,5 +1,6 @@
 -- Lists of codes by how often each stands in them.
-use Rattle.std.proofs.Common.{◌≡◌, ◌≢◌, ℕ, zero, suc, ◌+◌, ◌<◌, ◌≤◌, List, [], ◌∷◌, ◌++◌, Bool, true, false, ◌==◌, cond, is_some, length, get_or, map, replicate, Option, Some, None, IsSome, ⊎_elim, refl, sym, ◌∙◌, ap, subst, arith, eq-eqb}
+use Rattle.std.proofs.Common.{◌≡◌, ◌≢◌, ℕ, zero, suc, ◌+◌, ◌<◌, ◌≤◌, List, [], ◌∷◌, ◌++◌, Bool, true, false, ◌==◌, cond, is_some, length}
+use Rattle.std.proofs.Common.{get_or, map, replicate, Option, Some, None, IsSome, ⊎_elim, refl, sym, ◌∙◌, ap, subst, arith, eq-eqb}
 use Rattle.std.specs.List.{All, slice_get}
 use Rattle.std.specs.Option.{option_map_or}
 use Rattle.std.specs.List.Sorted.{IsPermutation, IsNonDecreasing}
@@ -39,7 +40,12 @@ count_none : (share : Entry → ℕ) (c : ℕ) (es : List Entry) → entry_of es
 count_none share c [] none = refl
 count_none share c (e ∷ es) none =
     let apart = apart_from c e es none in
-    omega (arith, sum_by-append (one c) (replicate (share e) e.code) (owners_by share es), count_replicate_other c e.code (share e) apart.0, count_none share c es apart.1)
+    omega (
+      arith,
+      sum_by-append (one c) (replicate (share e) e.code) (owners_by share es),
+      count_replicate_other c e.code (share e) apart.0,
+      count_none share c es apart.1,
+    )
 
 pub count_owned : (share : Entry → ℕ) (c : ℕ) (es : List Entry) → Ascends es → count_of c (owners_by share es) ≡ option_map_or share (entry_of es c) 0
 count_owned share c [] up = refl
@@ -55,9 +61,11 @@ count_owned share c (e ∷ es) up = ⊎_elim here (λ apart. other apart (count_
         let value : count_of c (owners_by share (e ∷ es)) ≡ share e = omega (arith, both, mine, count_none share c es none) in
         value ∙ sym (ap (λ (b : Bool). option_map_or share (cond b (Some e) (entry_of es c)) 0) (eq-eqb e.code c is))
 
-    other : (e.code ≡ c → ⊥) → count_of c (owners_by share es) ≡ option_map_or share (entry_of es c) 0 → count_of c (owners_by share (e ∷ es)) ≡ option_map_or share (entry_of (e ∷ es) c) 0
+    other : (e.code ≡ c → ⊥) → count_of c (owners_by share es) ≡ option_map_or share (entry_of es c) 0
+        → count_of c (owners_by share (e ∷ es)) ≡ option_map_or share (entry_of (e ∷ es) c) 0
     other apart rest =
-        let value : count_of c (owners_by share (e ∷ es)) ≡ count_of c (owners_by share es) = omega (arith, both, count_replicate_other c e.code (share e) apart) in
+        let value : count_of c (owners_by share (e ∷ es)) ≡ count_of c (owners_by share es) =
+        omega (arith, both, count_replicate_other c e.code (share e) apart) in
         value ∙ rest ∙ sym (ap (λ (b : Bool). option_map_or share (cond b (Some e) (entry_of es c)) 0) (ne_eqb e.code c apart))
 
 -- each is at least the one before, and the first at least this
@@ -75,7 +83,8 @@ rises_replicate low c (suc n) xs le up = (le, rises_replicate c c n xs (omega ar
 
 pub owners_rise : (share : Entry → ℕ) (low : ℕ) (es : List Entry) → Above low es → Ascends es → Rises low (owners_by share es)
 owners_rise share low [] above up = tt
-owners_rise share low (e ∷ es) above up = rises_replicate low e.code (share e) (owners_by share es) (omega (arith, above.0)) (owners_rise share e.code es up.0 up.1)
+owners_rise share low (e ∷ es) above up = rises_replicate low e.code (share e) (owners_by share es) (omega (arith, above.0))
+    (owners_rise share e.code es up.0 up.1)
 
 absent : (c low : ℕ) (xs : List ℕ) → Rises low xs → c < low → count_of c xs ≡ 0
 absent c low [] up less = refl
@@ -101,7 +110,9 @@ same_counts low high (x ∷ xs) (y ∷ ys) up down counts = by_order (same_count
         cc (is, rest tails)
 
     by_order : (((c : ℕ) → count_of c xs ≡ count_of c ys) → xs ≡ ys) → x ∷ xs ≡ y ∷ ys
-    by_order rest = ⊎_elim (λ is. same is rest) (λ order. absurd (⊎_elim (λ lt. less x y xs ys lt down.1 (counts x)) (λ lt. less y x ys xs lt up.1 (sym (counts y))) order)) (cases_order x y)
+    by_order rest = ⊎_elim (λ is. same is rest)
+        (λ order. absurd (⊎_elim (λ lt. less x y xs ys lt down.1 (counts x)) (λ lt. less y x ys xs lt up.1 (sym (counts y))) order))
+        (cases_order x y)
 
 -- between the two ways to say that a list does not descend
 rises_at : (low : ℕ) (xs : List ℕ) (i d : ℕ) → Rises low xs → i < length xs → low ≤ get_or xs i d
@@ -118,7 +129,8 @@ rises_of [] up = tt
 rises_of (x ∷ xs) up = (omega arith, rises_tail x xs up)
 
 -- an entry that is found has the code
-found_test : (x e : Entry) (c : ℕ) (rest : Option Entry) (b : Bool) → (x.code == c) ≡ b → (rest ≡ Some e → e.code ≡ c) → cond b (Some x) rest ≡ Some e → e.code ≡ c
+found_test : (x e : Entry) (c : ℕ) (rest : Option Entry) (b : Bool) → (x.code == c) ≡ b → (rest ≡ Some e → e.code ≡ c)
+    → cond b (Some x) rest ≡ Some e → e.code ≡ c
 found_test x e c rest true same later is = let this : x ≡ e = cc in sym (ap (λ (y : Entry). y.code) this) ∙ eqb-true x.code c same
 found_test x e c rest false same later is = later is
 
@@ -137,19 +149,22 @@ none_counted es c (x ∷ xs) all none =
     of_some None there is = cc
     of_some (Some e) there is = cc
 
-counted : (es : List Entry) (slots : List ℕ) (c : ℕ) → All (λ x. IsSome (entry_of es x)) slots → (o : Option Entry) → entry_of es c ≡ o → option_map_or (share_in slots) o 0 ≡ count_of c slots
+counted : (es : List Entry) (slots : List ℕ) (c : ℕ) → All (λ x. IsSome (entry_of es x)) slots → (o : Option Entry) → entry_of es c ≡ o
+    → option_map_or (share_in slots) o 0 ≡ count_of c slots
 counted es slots c all None is = sym (none_counted es c slots all is)
 counted es slots c all (Some e) is = ap (λ (d : ℕ). count_of d slots) (found_code es c e is)
 
 -- the slots in the order of their codes
-pub sorted_is : (es : List Entry) (slots sorted : List ℕ) → Ascends es → All (λ x. IsSome (entry_of es x)) slots → IsPermutation slots sorted → IsNonDecreasing sorted → sorted ≡ owners_by (share_in slots) es
+pub sorted_is : (es : List Entry) (slots sorted : List ℕ) → Ascends es → All (λ x. IsSome (entry_of es x)) slots
+    → IsPermutation slots sorted → IsNonDecreasing sorted → sorted ≡ owners_by (share_in slots) es
 sorted_is es slots sorted up all moved ascends =
     same_counts 0 0 sorted (owners_by (share_in slots) es) (rises_of sorted ascends) (rise es up)
     (λ c. sum_by-IsPermutation (one c) slots sorted moved ∙ sym (count_owned (share_in slots) c es up ∙ counted es slots c all (entry_of es c) refl))
   where
     rise : (es : List Entry) → Ascends es → Rises 0 (owners_by (share_in slots) es)
     rise [] up = tt
-    rise (e ∷ es) up = rises_replicate 0 e.code (share_in slots e) (owners_by (share_in slots) es) (omega arith) (owners_rise (share_in slots) e.code es up.0 up.1)
+    rise (e ∷ es) up = rises_replicate 0 e.code (share_in slots e) (owners_by (share_in slots) es) (omega arith)
+        (owners_rise (share_in slots) e.code es up.0 up.1)
 
 pub same_shares : (slots sorted : List ℕ) (es : List Entry) → IsPermutation slots sorted → map (grant (share_in sorted)) es ≡ map (grant (share_in slots)) es
 same_shares slots sorted [] moved = refl

@@ -1,5 +1,6 @@
 -- What is owed to the streams of a table, as a list, and codes that may be granted a slot.
-use Rattle.std.specs.Prelude.{ℕ, zero, suc, ◌+◌, ◌<◌, ◌≤◌, ◌^◌, List, [], ◌++◌, Bool, ◌&&◌, nat_lt, nat_le, map, filter, flat_map, replicate, sum_by, if◌then◌else◌, IsSome, IfSome}
+use Rattle.std.specs.Prelude.{ℕ, zero, suc, ◌+◌, ◌<◌, ◌≤◌, ◌^◌, List, [], ◌++◌, Bool, ◌&&◌, nat_lt, nat_le, map}
+use Rattle.std.specs.Prelude.{filter, flat_map, replicate, sum_by, if◌then◌else◌, IsSome, IfSome}
 use Rattle.host_scheduler.specs.declared.debts.Debt.{Debt}
 use Rattle.bus_rules.specs.Tables.{Entry, Table, entry_of}
 use Rattle.bus_rules.specs.Granting.{grant, share_in, owners_by, given, last_code}

@@ -46,7 +46,7 @@ pub fn scans_are_those_of_the_bus()
 {}
 
 /// All in one: no two steps of a lawful log meet, its deliveries and drops are the single-hop bus's, each stream comes in
-/// order and no packet twice, and data is received by relay paths.
+/// order and no packet twice, data is received by relay paths, and each node costs what it costs on the bus.
 pub fn lawful_runs_are_the_bus()
     ensures { LawfulRunsAreTheBus }
 {}

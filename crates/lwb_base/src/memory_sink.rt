@@ -67,7 +67,8 @@ impl Sink for MemorySink {
         ensures bytes { WriteAppends (Some self.old.held) (Some self.new.held) result piece.now }
         ensures cause { HasCause self.old.faults self.new.faults result }
         ensures counted { self.new.faults ≡ counted self.old.faults result }
-        ensures failed { IsErr result ↔ (Contains self.old.fails (next_call self.old.calls) ⊎ ((0 < length piece.now) × (self.old.room ≤ length self.old.held))) }
+        ensures failed { IsErr result
+            ↔ (Contains self.old.fails (next_call self.old.calls) ⊎ ((0 < length piece.now) × (self.old.room ≤ length self.old.held))) }
         ensures most { IfOk result (λ n. n ≡ min (length piece.now) (min self.old.most (self.old.room - length self.old.held))) }
         ensures once { PutsOnce self.old self.new }
     {

@@ -27,11 +27,53 @@ impl Model for Profile {
 
     ghost Value = { Numbers };
 
-    ghost view = { λ p. record { byte = p.byte; turn = p.turn; delta = p.delta; listen = p.listen; slot = p.slot; close = p.close; lead = p.lead; end = p.end; frame = p.frame; seconds = p.seconds; packet_max = p.packet_max; payload_max = p.payload_max; contend = p.contend } };
+    ghost view = { λ p. record {
+      byte = p.byte;
+      turn = p.turn;
+      delta = p.delta;
+      listen = p.listen;
+      slot = p.slot;
+      close = p.close;
+      lead = p.lead;
+      end = p.end;
+      frame = p.frame;
+      seconds = p.seconds;
+      packet_max = p.packet_max;
+      payload_max = p.payload_max;
+      contend = p.contend;
+    } };
 
-    ghost invariant = { λ p. IsProfile (record { byte = p.byte; turn = p.turn; delta = p.delta; listen = p.listen; slot = p.slot; close = p.close; lead = p.lead; end = p.end; frame = p.frame; seconds = p.seconds; packet_max = p.packet_max; payload_max = p.payload_max; contend = p.contend }) };
+    ghost invariant = { λ p. IsProfile (record {
+      byte = p.byte;
+      turn = p.turn;
+      delta = p.delta;
+      listen = p.listen;
+      slot = p.slot;
+      close = p.close;
+      lead = p.lead;
+      end = p.end;
+      frame = p.frame;
+      seconds = p.seconds;
+      packet_max = p.packet_max;
+      payload_max = p.payload_max;
+      contend = p.contend;
+    }) };
 
-    ghost inverse = { λ n. record { byte = n.byte; turn = n.turn; delta = n.delta; listen = n.listen; slot = n.slot; close = n.close; lead = n.lead; end = n.end; frame = n.frame; seconds = n.seconds; packet_max = n.packet_max; payload_max = n.payload_max; contend = n.contend } };
+    ghost inverse = { λ n. record {
+      byte = n.byte;
+      turn = n.turn;
+      delta = n.delta;
+      listen = n.listen;
+      slot = n.slot;
+      close = n.close;
+      lead = n.lead;
+      end = n.end;
+      frame = n.frame;
+      seconds = n.seconds;
+      packet_max = n.packet_max;
+      payload_max = n.payload_max;
+      contend = n.contend;
+    } };
 }
 
 impl Profile {

@@ -2,7 +2,7 @@
 use Rattle.std.proofs.Common.{◌≡◌, ℕ, ◌+◌, ◌≤◌, ◌⊎◌, List, [], ◌∷◌, ◌++◌, find, Option, Some, None, option_to_list, Bool, true, false, ◌==◌, if◌then◌else◌, inl}
 use Rattle.std.proofs.Common.{inr, refl, sym, ◌∙◌, ap, subst, arith, length, eqb-true, eq-eqb}
 use Rattle.std.specs.Prelude.{Contains}
-use Rattle.std.proofs.lemmas.Bool.{cond_both, cond-true, false≢true}
+use Rattle.std.proofs.lemmas.Bool.{cond_both, cond-true}
 use Rattle.std.proofs.lemmas.List.{length-map, append-nil}
 use Rattle.lwb_base.specs.Profile.{one, Numbers}
 use Rattle.link_trace.specs.Masks.{AreNodes}
@@ -13,15 +13,15 @@ use Rattle.scenario_text.specs.declared.lines.NodeLine.{NodeLine}
 use Rattle.bus_model.specs.FloodOfText.{ids}
 use Rattle.radio_model.specs.declared.station.Station.{Station}
 use Rattle.radio_model.specs.declared.station.Tuned.{Tuned as TunedTo}
-use Rattle.radio_model.specs.declared.station.Past.{Past}
 use Rattle.radio_model.specs.OnAir.{Tuning}
 use Rattle.radio_model.specs.Hearing.{Scene}
-use Rattle.radio_model.specs.Stations.{MediumState, IsMedium, station_of, node_of as station_node, retuned, tuned_in, tuned_out, is_tuned_to, first_state}
-use Rattle.radio_model.specs.Stations.{stations_from, fresh, is_of, last_at, since_with}
+use Rattle.radio_model.specs.Stations.{MediumState, IsMedium, station_of, node_of as station_node, retuned, first_state}
+use Rattle.radio_model.specs.Stations.{stations_from, fresh, is_of}
 use Rattle.radio_model.specs.Holding.{Holds, closed, tuned_of, after_tuning, nothing_yet}
 use Rattle.radio_model.proofs.AtFirst.{holds_at_first}
 use Rattle.radio_model.proofs.AfterTuning.{holds_after_tuning}
 use Rattle.radio_model.proofs.Changes.{retuned_keeps}
+use Rattle.radio_model.proofs.TunedStations.{tuned_anew, tuned_still}
 use Rattle.radio_model.proofs.OneCall.{found_member, each_after}
 use Rattle.radio_model.proofs.Places.{first_is_medium, nodes_from}
 use Rattle.air_log.specs.NodeEvents.{InOrder}
@@ -38,9 +38,6 @@ use Rattle.lwb_flood.proofs.LogEntries.{known_of, known_there}
 
 abbrev from_opening : Option TunedTo
 from_opening = Some (record { rank = 0; since = OPENING })
-
-abbrev since_then : Option Past → Option TunedTo
-since_then last = Some (record { rank = 0; since = since_with last 0 OPENING })
 
 -- a station before it is tuned in, and after it
 record IsNew (us : List ℕ) (st : Station) : Type 0 where
@@ -74,18 +71,11 @@ first_tuned p vs st there =
 -- a station that is tuned in
 module _ (us : List ℕ) (st : Station) where
   new_tuned : IsNew us st → (retuned (Some 0) OPENING st).tuned ≡ from_opening
-  new_tuned new =
-      cond_both (is_tuned_to st.tuned 0) st (tuned_in 0 OPENING (tuned_out OPENING st)) (λ (s : Station). s.tuned ≡ from_opening)
-      (λ is. absurd (false≢true (sym (ap (λ (o : Option TunedTo). is_tuned_to o 0) new.tuned) ∙ is)))
-      (λ _. ap (λ (o : Option TunedTo). since_then (last_at o st.last OPENING)) new.tuned ∙ ap since_then new.last)
-
-  tuned_still : st.tuned ≡ from_opening → (retuned (Some 0) OPENING st).tuned ≡ from_opening
-  tuned_still is = cond_both (is_tuned_to st.tuned 0) st (tuned_in 0 OPENING (tuned_out OPENING st)) (λ (s : Station). s.tuned ≡ from_opening)
-      (λ _. is) (λ not. absurd (false≢true (sym not ∙ ap (λ (o : Option TunedTo). is_tuned_to o 0) is)))
+  new_tuned new = tuned_anew 0 OPENING st new.tuned new.last
 
   is_tuned : IsTunedIn us st → (retuned (Some 0) OPENING st).tuned ≡ from_opening
   is_tuned (inl new) = new_tuned new
-  is_tuned (inr is) = tuned_still is
+  is_tuned (inr is) = tuned_still 0 OPENING OPENING st is ∙ is
 
   closes_none : IsTunedIn us st → (v : ℕ) → closed v (Some 0) OPENING st.tuned ≡ None
   closes_none (inl new) v = ap (λ (o : Option TunedTo). closed v (Some 0) OPENING o) new.tuned

@@ -11,11 +11,12 @@ use Rattle.scenario_text.specs.declared.lines.NodeLine.{NodeLine}
 use Rattle.bus_model.specs.FloodOfText.{ids}
 use Rattle.radio_model.specs.declared.sending.Sending.{Sending}
 use Rattle.radio_model.specs.declared.station.Station.{Station}
-use Rattle.radio_model.specs.Stations.{MediumState, IsMedium, IsTime, nodes_of, after, changed_at, retuned, tuned_in, tuned_out, is_tuned_to, first_state}
+use Rattle.radio_model.specs.Stations.{MediumState, IsMedium, IsTime, nodes_of, after, changed_at, retuned, first_state}
 use Rattle.radio_model.specs.Stations.{stations_from, fresh}
 use Rattle.radio_model.proofs.Places.{nodes_from, still_medium, first_is_medium}
 use Rattle.radio_model.proofs.Changes.{retuned_keeps}
 use Rattle.radio_model.proofs.OneStation.{same_nodes}
+use Rattle.radio_model.proofs.TunedStations.{sends_still}
 use Rattle.air_log.specs.FloodLaw.{OPENING}
 use Rattle.air_log.proofs.Elements.{not_in_none, contains_cases, map_from, pairs_of_map}
 use Rattle.lwb_flood.specs.FloodWorlds.{opened, first_member, first_world, IsShape, node_of as member_node}
@@ -37,11 +38,6 @@ fresh_silent k (v ∷ vs) st there =
 pub at_first : (p : Numbers) (vs : List ℕ) → IsOpening vs (first_state p vs)
 at_first p vs = record { nodes = nodes_from 0 vs; early = omega arith; silent = fresh_silent 0 vs }
 
-same_sending : (rank : Option ℕ) (t : ℕ) (st : Station) → (retuned rank t st).sending ≡ st.sending
-same_sending None t st = refl
-same_sending (Some r) t st = cond_both (is_tuned_to st.tuned r) st (tuned_in r t (tuned_out t st)) (λ (s : Station). s.sending ≡ st.sending)
-    (λ _. refl) (λ _. refl)
-
 abbrev pub tuned_one : ℕ → MediumState → MediumState
 tuned_one v m = after OPENING v (retuned (Some 0) OPENING) m
 
@@ -53,7 +49,7 @@ one_more vs m v is = record {
       let was = map_from (changed_at v (retuned (Some 0) OPENING)) m.stations st there in
       subst (λ (s : Station). s.sending ≡ None) was.2
       (cond_both (was.0.node == v) (retuned (Some 0) OPENING was.0) was.0 (λ (s : Station). s.sending ≡ None)
-      (λ _. same_sending (Some 0) OPENING was.0 ∙ is.silent was.0 was.1) (λ _. is.silent was.0 was.1));
+      (λ _. sends_still (Some 0) OPENING was.0 ∙ is.silent was.0 was.1) (λ _. is.silent was.0 was.1));
 }
 
 pub opened_is : (us vs : List ℕ) (m : MediumState) → IsOpening vs m → IsOpening vs (opened us m)

@@ -1,5 +1,5 @@
 -- The lists of a flood's world after a change: its nodes, and its log with one entry more.
-use Rattle.std.proofs.Common.{◌≡◌, ◌≢◌, ℕ, zero, suc, ◌≤◌, ◌<◌, List, [], ◌∷◌, ◌++◌, map, Option, Some, None, ◌==◌, ◌+◌, inl, inr, refl, sym, ◌∙◌, ap}
+use Rattle.std.proofs.Common.{◌≡◌, ◌≢◌, ℕ, zero, suc, ◌≤◌, ◌<◌, List, [], ◌∷◌, ◌++◌, map, Option, Some, None, ◌==◌, inl, inr, refl, sym, ◌∙◌, ap}
 use Rattle.std.proofs.Common.{subst, arith, length, get_or, eq-eqb}
 use Rattle.std.specs.Prelude.{Contains, AllPairs, ◌⊎◌}
 use Rattle.std.specs.List.{cons_option}

@@ -46,7 +46,8 @@ pub(crate) fn hear_at<C: DriftClock>(
     requires place { place < length members.old.items }
     requires ascend { AllPairs (λ a b. a < b) (map node_of members.old.items) }
     requires early { x.now.end ≤ 2 ^ 45 }
-    ensures { (d : Member) → members.new.items ≡ with_change (slice_index_or members.old.items place d).node (hearing_by (C.readings clock.now) x.now) members.old.items }
+    ensures { (d : Member)
+        → members.new.items ≡ with_change (slice_index_or members.old.items place d).node (hearing_by (C.readings clock.now) x.now) members.old.items }
 {
     let member = &mut members[place];
     match member.flood.heard(&x.packet) {

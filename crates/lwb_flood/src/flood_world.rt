@@ -7,7 +7,8 @@ ghost use Rattle.radio_model.specs.Hearing.{Scene};
 ghost use Rattle.radio_model.specs.Holding.{Holds};
 ghost use Rattle.radio_model.specs.Stations.{IsTime, Ends, nodes_of, sending_of, station_of};
 ghost use Rattle.air_log.specs.FloodLaw.{sending_at};
-ghost use Rattle.lwb_flood.specs.FloodWorlds.{World, node_of, moment_of, IsNext, begun, gone, heard, sooner as sooner_of, comes_before as comes_before_of, heard_by_all, readings_at, Ended, CanStep, Stepped, closed_by, closed_all};
+ghost use Rattle.lwb_flood.specs.FloodWorlds.{World, node_of, moment_of, IsNext, begun, gone, heard, sooner as sooner_of};
+ghost use Rattle.lwb_flood.specs.FloodWorlds.{comes_before as comes_before_of, heard_by_all, readings_at, Ended, CanStep, Stepped, closed_by, closed_all};
 ghost use Rattle.air_log.specs.Entries.{sent_entry as sent_entry_of, heard_entry as heard_entry_of};
 ghost use Rattle.lwb_flood.specs.declared.member.Member.{Member};
 ghost use Rattle.glossy_relay.specs.declared.flood.After.TheVariants.{More};
@@ -74,7 +75,8 @@ impl FloodWorld {
         requires seal { trace.now.nodes ≡ nodes_of self.old.medium }
         requires clocks { length clocks.now ≡ length self.old.members }
         requires can { (d : Member) → CanStep trace.now.lines self.old (slice_index_or self.old.members place d) (slice_index_or self.old.members place d).act }
-        ensures { (d : Member) → OnOk result (Stepped trace.now.lines (readings_at C.readings clocks.now (map node_of self.old.members)) self.old self.new (slice_index_or self.old.members place d) (slice_index_or self.old.members place d).act) }
+        ensures { (d : Member) → OnOk result (Stepped trace.now.lines (readings_at C.readings clocks.now (map node_of self.old.members)) self.old self.new
+            (slice_index_or self.old.members place d) (slice_index_or self.old.members place d).act) }
     {
         let node = self.members[place].node;
         match copy_of_act(&self.members[place].act) {
@@ -188,7 +190,8 @@ impl FloodWorld {
         requires nodes { All (λ p. Contains (nodes_of self.old.medium) p.0) hearers.now }
         requires early { x.now.end ≤ 2 ^ 45 }
         requires clocks { length clocks.now ≡ length self.old.members }
-        ensures { OnOk result (self.new ≡ heard_by_all (readings_at C.readings clocks.now (map node_of self.old.members)) x.now (map (λ p. p.0) hearers.now) self.old) }
+        ensures { OnOk result
+            (self.new ≡ heard_by_all (readings_at C.readings clocks.now (map node_of self.old.members)) x.now (map (λ p. p.0) hearers.now) self.old) }
     {
         for i in 0..usize::from(hearers.count()) {
             let (node, _) = hearers.at(i).unwrap();

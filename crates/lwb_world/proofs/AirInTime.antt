@@ -6,10 +6,9 @@ use Rattle.std.proofs.lemmas.Option.{same_Some}
 use Rattle.radio_model.specs.declared.sending.Sending.{Sending}
 use Rattle.radio_model.specs.declared.station.Station.{Station}
 use Rattle.radio_model.specs.declared.station.Tuned.{Tuned}
-use Rattle.radio_model.specs.declared.station.Past.{Past}
 use Rattle.radio_model.specs.OnAir.{Hearing}
 use Rattle.radio_model.specs.Hearing.{Scene, IsTuned, Hears}
-use Rattle.radio_model.specs.Holding.{Agree, IsOrder, as_it_stands, nothing_yet}
+use Rattle.radio_model.specs.Holding.{Agree, as_it_stands, nothing_yet}
 use Rattle.radio_model.specs.Stations.{MediumState, IsTime, station_of}
 use Rattle.radio_model.proofs.Members.{not_in_none}
 use Rattle.radio_model.proofs.Agreement.{agree_earlier}
@@ -18,6 +17,7 @@ use Rattle.radio_model.proofs.OneCall.{found_member}
 use Rattle.radio_model.proofs.Scenes.{Lit, Lasts, lit_or_lasts, lasts_stands}
 use Rattle.radio_model.proofs.Settled.{settled}
 use Rattle.radio_model.proofs.Tunings.{Goes}
+use Rattle.radio_model.proofs.TunedStations.{since_by}
 use Rattle.scenario_text.specs.ScenarioParts.{ScenarioParts}
 use Rattle.bus_rules.specs.declared.delivery.Delivery.{Delivery}
 use Rattle.event_calendar.specs.Orders.{Due}
@@ -84,11 +84,6 @@ listens_on : (tuned : Option Tuned) (l : Option Listening) (r k : ℕ) → optio
 listens_on None l r k same since on = absurd on
 listens_on (Some o) None r k same since on = cc
 listens_on (Some o) (Some l) r k same since on = (sym (same_Some o.rank l.rank same) ∙ on.0, since)
-
-since_by : (now k : ℕ) (tuned : Option Tuned) (last : Option Past) → now ≤ k → IsOrder now tuned last → IfSome tuned (λ o. o.since ≤ k)
-since_by now k None last order is = tt
-since_by now k (Some o) None order is = omega (arith, is)
-since_by now k (Some o) (Some q) order is = omega (arith, is.0)
 
 began_by : (t k : ℕ) (l : Option Listening) → t ≤ k → IfSome l (λ l. l.since ≤ t) → IfSome l (λ l. l.since ≤ k)
 began_by t k None order is = tt

@@ -15,13 +15,14 @@ use Rattle.radio_model.proofs.OneStation.{same_nodes, changed_station, other_sta
 use Rattle.radio_model.proofs.Changes.{retuned_keeps}
 use Rattle.radio_model.proofs.Places.{still_medium}
 use Rattle.radio_model.proofs.NothingBefore.{by_tuning}
+use Rattle.radio_model.proofs.TunedStations.{sends_still}
 use Rattle.air_log.specs.Devices.{Device, Listening, Made, silenced, tunes, obeyed, listens_to, retuned as tuned_again}
 use Rattle.air_log.specs.DeviceStates.{DeviceState, whole}
 use Rattle.lwb_world.specs.Fields.{rank_of, channel_of}
 use Rattle.lwb_world.specs.FieldSteps.{GoesOn}
 use Rattle.lwb_world.proofs.DeviceSteps.{IsStationOf}
 
--- the station is tuned to the channel then, and sends what it sent
+-- the station is tuned to the channel then
 tuned_then : (rank : Option ℕ) (t : ℕ) (st : Station) → option_map rank_of (retuned rank t st).tuned ≡ rank
 tuned_then None t st = refl
 tuned_then (Some r) t st =
@@ -31,11 +32,6 @@ tuned_then (Some r) t st =
     was : (o : Option TunedTo) → is_tuned_to o r ≡ true → option_map rank_of o ≡ Some r
     was None is = cc
     was (Some o) is = ap (λ (n : ℕ). Some n) (eqb-true o.rank r is)
-
-sends_still : (rank : Option ℕ) (t : ℕ) (st : Station) → (retuned rank t st).sending ≡ st.sending
-sends_still None t st = refl
-sends_still (Some r) t st = cond_both (is_tuned_to st.tuned r) st (tuned_in r t (tuned_out t st)) (λ (s : Station). s.sending ≡ st.sending)
-    (λ is. refl) (λ not. refl)
 
 module _ (t v : ℕ) (rank : Option ℕ) (old new : MediumState) (is : new ≡ after t v (retuned rank t) old) where
   sends_so : (st : Station) → (changed_at v (retuned rank t) st).sending ≡ st.sending

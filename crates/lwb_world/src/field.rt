@@ -1,6 +1,7 @@
 //! The devices of a run on the air that they share: what is told to one of them, and what it orders.
 
-ghost use Rattle.std.specs.Prelude.{◌≡◌, ◌≤◌, ◌<◌, ◌^◌, ℕ, List, [], ◌++◌, true, false, Option, Some, None, OnOk, IfOk, length, option_to_list, All, fold, option_copied};
+ghost use Rattle.std.specs.Prelude.{◌≡◌, ◌≤◌, ◌<◌, ◌^◌, ℕ, List, [], ◌++◌, true, false, Option, Some, None};
+ghost use Rattle.std.specs.Prelude.{OnOk, IfOk, length, option_to_list, All, fold, option_copied};
 ghost use Rattle.event_calendar.specs.Orders.{at};
 ghost use Rattle.event_calendar.specs.declared.class.Class.TheVariants.{SendingEnd as EndOf, Alarm as AlarmOf, SendingStart as StartOf};
 ghost use Rattle.bus_rules.specs.Cores.{Setup};
@@ -44,9 +45,17 @@ impl Model for Field {
 
     ghost Value = { FieldState };
 
-    ghost view = { λ w. record { medium = w.medium; devices = w.devices.items; air = w.air; deliveries = w.deliveries.items; drops = w.drops.items; sums = w.sums.items } };
+    ghost view = { λ w. record {
+      medium = w.medium;
+      devices = w.devices.items;
+      air = w.air;
+      deliveries = w.deliveries.items;
+      drops = w.drops.items;
+      sums = w.sums.items;
+    } };
 
-    ghost invariant = { λ w. IsField (record { medium = w.medium; devices = w.devices.items; air = w.air; deliveries = w.deliveries.items; drops = w.drops.items; sums = w.sums.items }) };
+    ghost invariant = { λ w. IsField
+        (record { medium = w.medium; devices = w.devices.items; air = w.air; deliveries = w.deliveries.items; drops = w.drops.items; sums = w.sums.items }) };
 }
 
 impl Field {
@@ -65,7 +74,9 @@ impl Field {
         requires shown { IsShown t self.old (Q.map orders.old) place }
         requires time { IsTime self.old.medium t }
         requires early { t ≤ 2 ^ 45 }
-        ensures { (ended : Option SendingOf) → option_copied sent.entry ≡ sent_with event.now ended → OnOk result (Acts t place (λ s d. event_at (C.readings clock.now) s t event.now ended d) [] [] self.old (Q.map orders.old) self.new (Q.map orders.new)) }
+        ensures { (ended : Option SendingOf) → option_copied sent.entry ≡ sent_with event.now ended
+            → OnOk result
+            (Acts t place (λ s d. event_at (C.readings clock.now) s t event.now ended d) [] [] self.old (Q.map orders.old) self.new (Q.map orders.new)) }
     {
         let by_alarm = is_alarm(event);
         let mut radio = EventRadio::new();
@@ -92,7 +103,8 @@ impl Field {
         requires shown { IsShown t self.old (Q.map orders.old) place }
         requires time { IsTime self.old.medium t }
         requires timely { All IsTimely radio.now.given }
-        ensures { OnOk result (Acts t place (λ s d. fold (obeyed (C.readings clock.now) s.id t) d radio.now.given) [] [] self.old (Q.map orders.old) self.new (Q.map orders.new)) }
+        ensures { OnOk result (Acts t place (λ s d. fold (obeyed (C.readings clock.now) s.id t) d radio.now.given) [] [] self.old (Q.map orders.old) self.new
+            (Q.map orders.new)) }
     {
         let mut told = 0;
         while let Some(order) = radio.at(told) {
@@ -114,7 +126,8 @@ impl Field {
         requires shown { IsShown t self.old (Q.map orders.old) place }
         requires time { IsTime self.old.medium t }
         requires timely { IsTimely (order_of order) }
-        ensures { OnOk result (Acts t place (λ s d. obeyed (C.readings clock.now) s.id t d (order_of order.entry)) [] [] self.old (Q.map orders.old) self.new (Q.map orders.new)) }
+        ensures { OnOk result (Acts t place (λ s d. obeyed (C.readings clock.now) s.id t d (order_of order.entry)) [] [] self.old (Q.map orders.old) self.new
+            (Q.map orders.new)) }
     {
         let device = &mut self.devices[usize::from(place)];
         let node = device.node();
@@ -153,7 +166,8 @@ impl Field {
         requires shown { IsShown t self.old (Q.map orders.old) place }
         requires time { IsTime self.old.medium t }
         requires early { t ≤ 2 ^ 45 }
-        requires ends { (s : Setup) (d : DeviceOf) → Shows s t self.old (Q.map orders.old) place d → IsAlarmRun (C.readings clock.now) s t d (alarmed (C.readings clock.now) s t d) }
+        requires ends { (s : Setup) (d : DeviceOf) → Shows s t self.old (Q.map orders.old) place d
+            → IsAlarmRun (C.readings clock.now) s t d (alarmed (C.readings clock.now) s t d) }
         ensures { OnOk result (Acts t place (λ s d. alarmed (C.readings clock.now) s t d) [] [] self.old (Q.map orders.old) self.new (Q.map orders.new)) }
     {
         // There are fewer of them than this.
@@ -177,7 +191,8 @@ impl Field {
         requires time { IsTime self.old.medium t }
         requires early { t ≤ 2 ^ 45 }
         requires stands { at (Q.map orders.old) place StartOf ≡ Some t }
-        ensures { OnOk result ((begun : List SendingOf) × Acts t place (λ s d. begun_at s t d) begun [] self.old (Q.map orders.old) self.new (Q.map orders.new) × ((s : Setup) (d : DeviceOf) → Shows s t self.old (Q.map orders.old) place d → begun ≡ starting s t d)) }
+        ensures { OnOk result ((begun : List SendingOf) × Acts t place (λ s d. begun_at s t d) begun [] self.old (Q.map orders.old) self.new (Q.map orders.new)
+            × ((s : Setup) (d : DeviceOf) → Shows s t self.old (Q.map orders.old) place d → begun ≡ starting s t d)) }
     {
         orders.clear(place, Class::SendingStart);
         let device = &mut self.devices[usize::from(place)];

@@ -39,7 +39,9 @@ impl Field {
         requires held { (a : Scene) × Holds self.old.medium a × (a.lines ≡ M.lines links.now) }
         requires clocks { length clocks.now ≡ length self.old.devices }
         requires ends { (s : Setup) (d : DeviceOf) → Shows s t self.old (Q.map orders.old) place d → Ends self.old.medium s.id t }
-        ensures { (x : SendingOf) → Sends t self.old (Q.map orders.old) place x → OnOk result ((hearers : List ℕ) × EndsSending (M.lines links.now) (readings_at C.readings clocks.now) t place x hearers self.old (Q.map orders.old) self.new (Q.map orders.new)) }
+        ensures { (x : SendingOf) → Sends t self.old (Q.map orders.old) place x
+            → OnOk result ((hearers : List ℕ) × EndsSending (M.lines links.now) (readings_at C.readings clocks.now) t place x hearers self.old
+            (Q.map orders.old) self.new (Q.map orders.new)) }
     {
         let node = self.devices[usize::from(place)].node();
         let hearers = self.medium.end(links, node, t);
@@ -72,7 +74,8 @@ impl Field {
         requires time { IsTime self.old.medium x.now.end }
         requires early { x.now.end ≤ 2 ^ 45 }
         requires clocks { length clocks.now ≡ length self.old.devices }
-        ensures { OnOk result ((places : List ℕ) × ArePlaces (ids_of self.old) (map (λ p. p.0) hearers.now) places × AllHear (readings_at C.readings clocks.now) x.now.end x.now places self.old (Q.map orders.old) self.new (Q.map orders.new)) }
+        ensures { OnOk result ((places : List ℕ) × ArePlaces (ids_of self.old) (map (λ p. p.0) hearers.now) places
+            × AllHear (readings_at C.readings clocks.now) x.now.end x.now places self.old (Q.map orders.old) self.new (Q.map orders.new)) }
     {
         let heard = Event::Heard(x.packet.copy());
         for i in 0..usize::from(hearers.count()) {

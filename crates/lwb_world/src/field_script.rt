@@ -64,7 +64,8 @@ impl Field {
         requires time { IsTime self.old.medium t }
         requires early { t ≤ 2 ^ 45 }
         requires boots { (s : Setup) (d : DeviceOf) → Shows s t self.old (Q.map orders.old) place d → CanBoot d.power }
-        ensures { (frame : ℕ) → OnOk result (Acts t place (λ s d. after_act (C.readings clock.now) s t frame d OnOf d.power) [] [] self.old (Q.map orders.old) self.new (Q.map orders.new)) }
+        ensures { (frame : ℕ) → OnOk result
+            (Acts t place (λ s d. after_act (C.readings clock.now) s t frame d OnOf d.power) [] [] self.old (Q.map orders.old) self.new (Q.map orders.new)) }
     {
         if self.devices[usize::from(place)].switch_on() {
             self.tell(orders, clock, place, t, &Event::Boot, None)?;
@@ -76,7 +77,8 @@ impl Field {
     fn switch_off<Q: Orders>(&mut self, orders: &mut Q, place: u8, t: u64) -> Result<(), Memory>
         requires shown { IsShown t self.old (Q.map orders.old) place }
         requires time { IsTime self.old.medium t }
-        ensures { (clock : ℕ → ℕ) (frame : ℕ) → OnOk result (Acts t place (λ s d. after_act clock s t frame d OffOf d.power) [] [] self.old (Q.map orders.old) self.new (Q.map orders.new)) }
+        ensures { (clock : ℕ → ℕ) (frame : ℕ)
+            → OnOk result (Acts t place (λ s d. after_act clock s t frame d OffOf d.power) [] [] self.old (Q.map orders.old) self.new (Q.map orders.new)) }
     {
         let device = &mut self.devices[usize::from(place)];
         if !device.is_on() {
@@ -101,7 +103,9 @@ impl Field {
         requires within { place < length self.old.devices }
         requires stream { stream ≤ 3 }
         requires payload { (d : DeviceStateOf) → slice_get self.old.devices place ≡ Some d → length payload.now ≤ d.setup.profile.payload_max }
-        ensures { (clock : ℕ → ℕ) (t : ℕ) (due : List DueOf) → IsTime self.old.medium t → IsShown t self.old due place → ((s : Setup) (d : DeviceOf) → Shows s t self.old due place d → line.now.node ≡ s.id) → OnOk result (IsTold clock line.now t place (PutOf stream payload.now) self.old due self.new due) }
+        ensures { (clock : ℕ → ℕ) (t : ℕ) (due : List DueOf) → IsTime self.old.medium t → IsShown t self.old due place
+            → ((s : Setup) (d : DeviceOf) → Shows s t self.old due place d → line.now.node ≡ s.id)
+            → OnOk result (IsTold clock line.now t place (PutOf stream payload.now) self.old due self.new due) }
     {
         let device = &mut self.devices[usize::from(place)];
         if !device.put(stream, payload) {

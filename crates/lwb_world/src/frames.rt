@@ -33,7 +33,8 @@ impl Field {
         requires sound { IsSoundScenario s.now }
         requires clocks { length clocks.now ≡ length s.now.nodes }
         requires running { IsRunning s.now (clocks_by C.readings s.now.nodes clocks.now) [] 0 Before self.old (Q.map orders.old) }
-        ensures running { OnOk result (IsRunning s.now (clocks_by C.readings s.now.nodes clocks.now) s.now.script (run_end s.now) Before self.new (Q.map orders.new)) }
+        ensures running { OnOk result
+            (IsRunning s.now (clocks_by C.readings s.now.nodes clocks.now) s.now.script (run_end s.now) Before self.new (Q.map orders.new)) }
         ensures scanned { IfOk result (λ v. v.items ≡ all_scans_before s.now (clocks_by C.readings s.now.nodes clocks.now) self.new.air s.now.frames) }
     {
         let mut scanned = none_scanned(alloc, s.nodes().len())?;
@@ -59,10 +60,13 @@ impl Field {
         requires clocks { length clocks.now ≡ length s.now.nodes }
         requires frame { frame < s.now.frames }
         requires first { IsCut s.now first frame }
-        requires running { IsRunning s.now (clocks_by C.readings s.now.nodes clocks.now) (told_before s.now frame) (frame_start s.now frame) Before self.old (Q.map orders.old) }
+        requires running { IsRunning s.now (clocks_by C.readings s.now.nodes clocks.now) (told_before s.now frame) (frame_start s.now frame) Before self.old
+            (Q.map orders.old) }
         ensures next { IfOk result (λ told. IsCut s.now told (frame + 1)) }
-        ensures told { OnOk result (IsRunning s.now (clocks_by C.readings s.now.nodes clocks.now) (told_before s.now (frame + 1)) (frame_start s.now frame) (InLines (told_before s.now (frame + 1))) self.new (Q.map orders.new)) }
-        ensures running { OnOk result (IsRunning s.now (clocks_by C.readings s.now.nodes clocks.now) (told_before s.now (frame + 1)) (frame_start s.now frame) (At EndOf) self.new (Q.map orders.new)) }
+        ensures told { OnOk result (IsRunning s.now (clocks_by C.readings s.now.nodes clocks.now) (told_before s.now (frame + 1)) (frame_start s.now frame)
+            (InLines (told_before s.now (frame + 1))) self.new (Q.map orders.new)) }
+        ensures running { OnOk result (IsRunning s.now (clocks_by C.readings s.now.nodes clocks.now) (told_before s.now (frame + 1)) (frame_start s.now frame)
+            (At EndOf) self.new (Q.map orders.new)) }
         ensures stay { OnOk result (TrailsStay s.now (clocks_by C.readings s.now.nodes clocks.now) (frame_start s.now frame) self.old.air self.new.air) }
     {
         let t = u64::from(frame) * s.profile().frame();
@@ -88,9 +92,12 @@ impl Field {
     ) -> Result<(), Memory>
         requires sound { IsSoundScenario s.now }
         requires clocks { length clocks.now ≡ length s.now.nodes }
-        requires next { (told : List LineOf) × IsNextLine s.now t told line.now × IsRunning s.now (clocks_by C.readings s.now.nodes clocks.now) told t (InLines told) self.old (Q.map orders.old) }
-        ensures { (told : List LineOf) → IsNextLine s.now t told line.now → IsRunning s.now (clocks_by C.readings s.now.nodes clocks.now) told t (InLines told) self.old (Q.map orders.old)
-            → OnOk result (IsRunning s.now (clocks_by C.readings s.now.nodes clocks.now) (told ++ line.now ∷ []) t (InLines (told ++ line.now ∷ [])) self.new (Q.map orders.new) × TrailsStay s.now (clocks_by C.readings s.now.nodes clocks.now) t self.old.air self.new.air) }
+        requires next { (told : List LineOf) × IsNextLine s.now t told line.now
+            × IsRunning s.now (clocks_by C.readings s.now.nodes clocks.now) told t (InLines told) self.old (Q.map orders.old) }
+        ensures { (told : List LineOf) → IsNextLine s.now t told line.now
+            → IsRunning s.now (clocks_by C.readings s.now.nodes clocks.now) told t (InLines told) self.old (Q.map orders.old)
+            → OnOk result (IsRunning s.now (clocks_by C.readings s.now.nodes clocks.now) (told ++ line.now ∷ []) t (InLines (told ++ line.now ∷ [])) self.new
+            (Q.map orders.new) × TrailsStay s.now (clocks_by C.readings s.now.nodes clocks.now) t self.old.air self.new.air) }
     {
         let place = self.place_of(line.node);
         self.act(orders, &clocks[usize::from(place)], place, t, line)?;
@@ -108,8 +115,11 @@ impl Field {
         requires sound { IsSoundScenario s.now }
         requires clocks { length clocks.now ≡ length s.now.nodes }
         requires frame { frame < s.now.frames }
-        requires running { IsRunning s.now (clocks_by C.readings s.now.nodes clocks.now) (told_before s.now (frame + 1)) (frame_start s.now frame) (At EndOf) self.old (Q.map orders.old) }
-        ensures { OnOk result (IsRunning s.now (clocks_by C.readings s.now.nodes clocks.now) (told_before s.now (frame + 1)) (frame_start s.now (frame + 1)) Before self.new (Q.map orders.new) × TrailsStay s.now (clocks_by C.readings s.now.nodes clocks.now) (frame_start s.now frame) self.old.air self.new.air) }
+        requires running { IsRunning s.now (clocks_by C.readings s.now.nodes clocks.now) (told_before s.now (frame + 1)) (frame_start s.now frame)
+            (At EndOf) self.old (Q.map orders.old) }
+        ensures { OnOk result (IsRunning s.now (clocks_by C.readings s.now.nodes clocks.now) (told_before s.now (frame + 1))
+            (frame_start s.now (frame + 1)) Before self.new (Q.map orders.new)
+            × TrailsStay s.now (clocks_by C.readings s.now.nodes clocks.now) (frame_start s.now frame) self.old.air self.new.air) }
     {
         let until = (u64::from(frame) + 1) * s.profile().frame();
         while let Some((t, class, place)) = orders.next() {
@@ -137,7 +147,8 @@ impl Field {
         requires next { IsNext (Q.map orders.old) (Some (t, class, place)) }
         requires running { (told : List LineOf) × IsRunning s.now (clocks_by C.readings s.now.nodes clocks.now) told t (At class) self.old (Q.map orders.old) }
         ensures { (told : List LineOf) → IsRunning s.now (clocks_by C.readings s.now.nodes clocks.now) told t (At class) self.old (Q.map orders.old)
-            → OnOk result (IsRunning s.now (clocks_by C.readings s.now.nodes clocks.now) told t (At class) self.new (Q.map orders.new) × IsPast t class place (Q.map orders.new) × TrailsStay s.now (clocks_by C.readings s.now.nodes clocks.now) t self.old.air self.new.air) }
+            → OnOk result (IsRunning s.now (clocks_by C.readings s.now.nodes clocks.now) told t (At class) self.new (Q.map orders.new)
+            × IsPast t class place (Q.map orders.new) × TrailsStay s.now (clocks_by C.readings s.now.nodes clocks.now) t self.old.air self.new.air) }
     {
         match class {
             Class::SendingEnd => self.end_due(orders, s, clocks, t, place),
@@ -161,7 +172,8 @@ impl Field {
         requires next { IsNext (Q.map orders.old) (Some (t, EndOf, place)) }
         requires running { (told : List LineOf) × IsRunning s.now (clocks_by C.readings s.now.nodes clocks.now) told t (At EndOf) self.old (Q.map orders.old) }
         ensures { (told : List LineOf) → IsRunning s.now (clocks_by C.readings s.now.nodes clocks.now) told t (At EndOf) self.old (Q.map orders.old)
-            → OnOk result (IsRunning s.now (clocks_by C.readings s.now.nodes clocks.now) told t (At EndOf) self.new (Q.map orders.new) × IsPast t EndOf place (Q.map orders.new) × TrailsStay s.now (clocks_by C.readings s.now.nodes clocks.now) t self.old.air self.new.air) }
+            → OnOk result (IsRunning s.now (clocks_by C.readings s.now.nodes clocks.now) told t (At EndOf) self.new (Q.map orders.new)
+            × IsPast t EndOf place (Q.map orders.new) × TrailsStay s.now (clocks_by C.readings s.now.nodes clocks.now) t self.old.air self.new.air) }
     {
         self.end(orders, s.trace(), clocks, place, t)?;
         Ok(())
@@ -180,9 +192,11 @@ impl Field {
         requires clocks { length clocks.now ≡ length s.now.nodes }
         requires within { t < run_end s.now }
         requires next { IsNext (Q.map orders.old) (Some (t, AlarmOf, place)) }
-        requires running { (told : List LineOf) × IsRunning s.now (clocks_by C.readings s.now.nodes clocks.now) told t (At AlarmOf) self.old (Q.map orders.old) }
+        requires running { (told : List LineOf)
+            × IsRunning s.now (clocks_by C.readings s.now.nodes clocks.now) told t (At AlarmOf) self.old (Q.map orders.old) }
         ensures { (told : List LineOf) → IsRunning s.now (clocks_by C.readings s.now.nodes clocks.now) told t (At AlarmOf) self.old (Q.map orders.old)
-            → OnOk result (IsRunning s.now (clocks_by C.readings s.now.nodes clocks.now) told t (At AlarmOf) self.new (Q.map orders.new) × IsPast t AlarmOf place (Q.map orders.new) × TrailsStay s.now (clocks_by C.readings s.now.nodes clocks.now) t self.old.air self.new.air) }
+            → OnOk result (IsRunning s.now (clocks_by C.readings s.now.nodes clocks.now) told t (At AlarmOf) self.new (Q.map orders.new)
+            × IsPast t AlarmOf place (Q.map orders.new) × TrailsStay s.now (clocks_by C.readings s.now.nodes clocks.now) t self.old.air self.new.air) }
     {
         self.alarm(orders, &clocks[usize::from(place)], place, t)?;
         Ok(())
@@ -201,9 +215,11 @@ impl Field {
         requires clocks { length clocks.now ≡ length s.now.nodes }
         requires within { t < run_end s.now }
         requires next { IsNext (Q.map orders.old) (Some (t, StartOf, place)) }
-        requires running { (told : List LineOf) × IsRunning s.now (clocks_by C.readings s.now.nodes clocks.now) told t (At StartOf) self.old (Q.map orders.old) }
+        requires running { (told : List LineOf)
+            × IsRunning s.now (clocks_by C.readings s.now.nodes clocks.now) told t (At StartOf) self.old (Q.map orders.old) }
         ensures { (told : List LineOf) → IsRunning s.now (clocks_by C.readings s.now.nodes clocks.now) told t (At StartOf) self.old (Q.map orders.old)
-            → OnOk result (IsRunning s.now (clocks_by C.readings s.now.nodes clocks.now) told t (At StartOf) self.new (Q.map orders.new) × IsPast t StartOf place (Q.map orders.new) × TrailsStay s.now (clocks_by C.readings s.now.nodes clocks.now) t self.old.air self.new.air) }
+            → OnOk result (IsRunning s.now (clocks_by C.readings s.now.nodes clocks.now) told t (At StartOf) self.new (Q.map orders.new)
+            × IsPast t StartOf place (Q.map orders.new) × TrailsStay s.now (clocks_by C.readings s.now.nodes clocks.now) t self.old.air self.new.air) }
     {
         self.begin(orders, place, t)?;
         Ok(())

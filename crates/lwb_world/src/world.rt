@@ -38,7 +38,18 @@ impl<'a, C: DriftClock> Model for World<'a, C> {
 
     ghost Value = { WorldState × List C };
 
-    ghost view = { λ w. (record { scenario = w.scenario.now; ran = w.ran; air = w.field.air; deliveries = w.deliveries.items; drops = w.field.drops; charges = w.charges.items; cores = map core_in w.field.devices }, w.clocks.items) };
+    ghost view = { λ w. (
+      record {
+        scenario = w.scenario.now;
+        ran = w.ran;
+        air = w.field.air;
+        deliveries = w.deliveries.items;
+        drops = w.field.drops;
+        charges = w.charges.items;
+        cores = map core_in w.field.devices;
+      },
+      w.clocks.items,
+    ) };
 
     ghost invariant = { λ w. IsWorld w.scenario.now w.ran w.field w.deliveries.items (length w.clocks.items) };
 }
@@ -79,7 +90,8 @@ impl<'a, C: DriftClock> World<'a, C> {
         requires empty { Q.map orders.old ≡ replicate (length self.old.0.scenario.nodes) nothing_due }
         ensures run { OnOk result (HasRun (clocks_by C.readings self.old.0.scenario.nodes self.old.1) self.old.0 self.new.0) }
         ensures clocks { OnOk result (self.new.1 ≡ self.old.1) }
-        ensures left { OnOk result (Q.map orders.new ≡ orders_left self.old.0.scenario (clocks_by C.readings self.old.0.scenario.nodes self.old.1) self.new.0.air) }
+        ensures left { OnOk result
+            (Q.map orders.new ≡ orders_left self.old.0.scenario (clocks_by C.readings self.old.0.scenario.nodes self.old.1) self.new.0.air) }
     {
         let profile = self.scenario.profile();
         self.ran = true;

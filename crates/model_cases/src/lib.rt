@@ -1,4 +1,5 @@
-//! Tests of calendars, made scenarios, the plain bus, the medium, logs and plans with deadlines. They stand above what they test, so that each of those crates is proved once, and without them.
+//! Tests of calendars, made scenarios, the plain bus, the medium, logs and plans with deadlines. They stand above what they test, so that
+//! each of those crates is proved once, and without them.
 #![tactic(auto)]
 
 #[cfg(test)]

@@ -21,7 +21,8 @@ use Rattle.node_core.specs.declared.stage.Stage.TheVariants.{Idle, Scanning, Awa
 use Rattle.node_cases.specs.declared.call.Call.{Call}
 use Rattle.lwb_member.specs.Said.{message_of}
 use Rattle.node_core.specs.Nodes.{Node, NodeState, stopped_frame}
-use Rattle.node_core.specs.Rows.{Stepped, row, at_alarm, at_heard, at_sent, orders_for, first_sending, relaying, scanner_hears, joins, sends, zero_for, reply_by}
+use Rattle.node_core.specs.Rows.{Stepped, row, at_alarm, at_heard, at_sent, orders_for, first_sending}
+use Rattle.node_core.specs.Rows.{relaying, scanner_hears, joins, sends, zero_for, reply_by}
 use Rattle.node_core.specs.Rows.{orders_by}
 use Rattle.node_cases.specs.Calls.{after_call, after_calls, delivery_after, delivery_after_calls, orders_of, orders_of_all}
 use Rattle.node_core.specs.Standing.{Follows}
@@ -50,8 +51,12 @@ few_joins p now Ignore a = omega arith
 
 few_at_alarm : (s : Setup) (n : Node) (stage : Stage) → Few (at_alarm s n stage)
 few_at_alarm s n Idle = omega arith
-few_at_alarm s n Scanning = few_for s.profile (frame_ended s n.frame n.core).tune (stopped_frame (n.frame + 1)) (zero_for s.profile (frame_ended s n.frame n.core).tune (begins_host n.core.tune (frame_ended s n.frame n.core).tune) n.zero)
-few_at_alarm s n AwaitFrame = few_for s.profile (frame_ended s n.frame n.core).tune (stopped_frame (n.frame + 1)) (zero_for s.profile (frame_ended s n.frame n.core).tune (begins_host n.core.tune (frame_ended s n.frame n.core).tune) n.zero)
+few_at_alarm s n Scanning =
+    few_for s.profile (frame_ended s n.frame n.core).tune (stopped_frame (n.frame + 1))
+    (zero_for s.profile (frame_ended s n.frame n.core).tune (begins_host n.core.tune (frame_ended s n.frame n.core).tune) n.zero)
+few_at_alarm s n AwaitFrame =
+    few_for s.profile (frame_ended s n.frame n.core).tune (stopped_frame (n.frame + 1))
+    (zero_for s.profile (frame_ended s n.frame n.core).tune (begins_host n.core.tune (frame_ended s n.frame n.core).tune) n.zero)
 few_at_alarm s n (AwaitSlot j) = few_opens (Listen (rank_of n.core.tune)) _ s.profile n.zero j (opened s n.frame (part_of n.core.plan j) n.core).message
 few_at_alarm s n (InWindow j w) = omega arith
 
@@ -89,7 +94,8 @@ spent old new before after None is = is.1.spent
 spent old new before after (Some r) is = is.1.spent
 
 -- a step leaves the room but for four orders
-pub room_left : (s : Setup) (n : Node) (now : ℕ) (e : Event) (old new : NodeState) (before after : Told) → Follows old new before after (row s n now e) → before.room ≤ after.room + 4
+pub room_left : (s : Setup) (n : Node) (now : ℕ) (e : Event) (old new : NodeState) (before after : Told) → Follows old new before after (row s n now e)
+    → before.room ≤ after.room + 4
 room_left s n now e old new before after is =
     let few = few_orders s n now e in
     omega (arith, spent old new before after (row s n now e) is)
@@ -99,11 +105,13 @@ pub calls_push : (s : Setup) (n : Node) (calls : List Call) (call : Call) → af
 calls_push s n [] call = refl
 calls_push s n (c ∷ calls) call = calls_push s (after_call s n c) calls call
 
-pub deliveries_push : (s : Setup) (n : Node) (d : Option Delivery) (calls : List Call) (call : Call) → delivery_after_calls s n d (calls ++ call ∷ []) ≡ delivery_after s (after_calls s n calls) (delivery_after_calls s n d calls) call
+pub deliveries_push : (s : Setup) (n : Node) (d : Option Delivery) (calls : List Call) (call : Call)
+    → delivery_after_calls s n d (calls ++ call ∷ []) ≡ delivery_after s (after_calls s n calls) (delivery_after_calls s n d calls) call
 deliveries_push s n d [] call = refl
 deliveries_push s n d (c ∷ calls) call = deliveries_push s (after_call s n c) (delivery_after s n d c) calls call
 
-pub orders_push : (s : Setup) (n : Node) (calls : List Call) (call : Call) → orders_of_all s n (calls ++ call ∷ []) ≡ orders_of_all s n calls ++ orders_of s (after_calls s n calls) call
+pub orders_push : (s : Setup) (n : Node) (calls : List Call) (call : Call)
+    → orders_of_all s n (calls ++ call ∷ []) ≡ orders_of_all s n calls ++ orders_of s (after_calls s n calls) call
 orders_push s n [] call = append-nil (orders_of s n call)
 orders_push s n (c ∷ calls) call =
     ap (λ (l : List Order). orders_of s n c ++ l) (orders_push s (after_call s n c) calls call)

@@ -6,6 +6,7 @@ use Rattle.node_core.specs.Rows.{Stepped}
 use Rattle.node_cases.specs.Calls.{delivery_by}
 use Rattle.node_core.specs.Standing.{Follows}
 
-pub delivery_follows : (old new : NodeState) (before after : Told) (row : Option Stepped) → Follows old new before after row → new.delivery ≡ delivery_by old.delivery row
+pub delivery_follows : (old new : NodeState) (before after : Told) (row : Option Stepped) → Follows old new before after row
+    → new.delivery ≡ delivery_by old.delivery row
 delivery_follows old new before after None is = ap (λ (s : NodeState). s.delivery) is.0
 delivery_follows old new before after (Some r) is = ap (λ (s : NodeState). s.delivery) is.0

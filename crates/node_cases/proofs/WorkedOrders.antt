@@ -236,13 +236,15 @@ joins_late = refl
 abbrev opening_of_one : List ℕ
 opening_of_one = 0x01 ∷ 0x00 ∷ 0x00 ∷ 0x10 ∷ 0x01 ∷ 0x00 ∷ 0x00 ∷ 0x00 ∷ 0x00 ∷ 0x00 ∷ []
 
-not_scanned : orders_of_each other (rebooted 1) (Step 0 Boot ∷ Step 1100864 (Heard opening_of_one) ∷ Step 1200864 (Heard (0x03 ∷ 0x01 ∷ 0x01 ∷ 0x02 ∷ 0x01 ∷ 0x00 ∷ 0x04 ∷ [])) ∷ [])
+not_scanned : orders_of_each other (rebooted 1)
+    (Step 0 Boot ∷ Step 1100864 (Heard opening_of_one) ∷ Step 1200864 (Heard (0x03 ∷ 0x01 ∷ 0x01 ∷ 0x02 ∷ 0x01 ∷ 0x00 ∷ 0x04 ∷ [])) ∷ [])
     ≡ (Listen 0 ∷ AlarmAt 204800000 ∷ []) ∷ [] ∷ [] ∷ []
 unfolding least digits number schedule_of asks_in schedule_heard
 not_scanned = refl
 
 ignored : orders_of_each other joined
-    (Step 2368000000 Alarm ∷ Step 2368100864 (Heard opening_of_one) ∷ Step 2368211456 (Heard (0x01 ∷ 0x00 ∷ 0x02 ∷ 0x00 ∷ 0x01 ∷ 0x02 ∷ 0x01 ∷ 0x00 ∷ 0x04 ∷ 0x04 ∷ 0x00 ∷ 0x80 ∷ [])) ∷ [])
+    (Step 2368000000 Alarm ∷ Step 2368100864 (Heard opening_of_one)
+    ∷ Step 2368211456 (Heard (0x01 ∷ 0x00 ∷ 0x02 ∷ 0x00 ∷ 0x01 ∷ 0x02 ∷ 0x01 ∷ 0x00 ∷ 0x04 ∷ 0x04 ∷ 0x00 ∷ 0x80 ∷ [])) ∷ [])
     ≡ (Listen 0 ∷ AlarmAt 2370096000 ∷ [])
     ∷ []
     ∷ (SendAt 2368223744 (0x01 ∷ 0x00 ∷ 0x03 ∷ 0x00 ∷ 0x01 ∷ 0x02 ∷ 0x01 ∷ 0x00 ∷ 0x04 ∷ 0x04 ∷ 0x00 ∷ 0x80 ∷ []) ∷ [])

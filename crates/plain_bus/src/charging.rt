@@ -85,7 +85,8 @@ fn charge(
     requires ascending { AllPairs (λ a b. a < b) ids.now }
     requires steps { length end.now.senders.items ≡ 12 }
     requires room { IsBelow 1048576 cost.old }
-    ensures cost { (b : Behind) (sends : ℕ → ℕ → Bool) → IsBehind b ids.now windows.now end.now.stations.each.items → AreSendersOf sends ids.now end.now.senders.items
+    ensures cost { (b : Behind) (sends : ℕ → ℕ → Bool) → IsBehind b ids.now windows.now end.now.stations.each.items
+        → AreSendersOf sends ids.now end.now.senders.items
         → 1 ≤ limit → cost.new ≡ (if is_own then charged profile.now limit b sends (slice_index ids.now place) cost.old else cost.old) }
     ensures room { (m : ℕ) → IsBelow m cost.old → IsBelow (m + 1) cost.new }
 {

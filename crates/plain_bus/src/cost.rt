@@ -5,6 +5,7 @@ ghost use Rattle.std.specs.List.{last_or};
 ghost use Rattle.plain_bus.specs.SlotCosts.{steps_at, with_slot, window_charge, IsBelow};
 
 use crate::station::has_bit;
+use bus_rules::until_last_sending;
 use lwb_base::Profile;
 use std::marker::Model;
 
@@ -44,7 +45,8 @@ impl Cost {
         requires room { IsBelow 1048576 self.old }
         requires count { steps.count ≤ 12 }
         requires last { (k : ℕ) → steps.last ≡ Some k → k ≤ 11 }
-        ensures value { (ks : List ℕ) → steps.count ≡ length ks → steps.last ≡ last_or None ks → 1 ≤ limit → self.new ≡ with_slot profile.now limit is_open bytes ks self.old }
+        ensures value { (ks : List ℕ) → steps.count ≡ length ks → steps.last ≡ last_or None ks → 1 ≤ limit
+            → self.new ≡ with_slot profile.now limit is_open bytes ks self.old }
         ensures room { (m : ℕ) → IsBelow m self.old → IsBelow (m + 1) self.new }
     {
         self.sent += u64::from(steps.count) * profile.airtime(bytes);
@@ -55,16 +57,15 @@ impl Cost {
 // What the window of a node in a slot counts, if it has one.
 fn window_time(profile: &Profile, limit: u8, is_open: bool, bytes: u8, steps: Steps) -> u64
     requires last { (k : ℕ) → steps.last ≡ Some k → k ≤ 11 }
-    ensures value { (ks : List ℕ) → steps.count ≡ length ks → steps.last ≡ last_or None ks → 1 ≤ limit → result ≡ window_charge profile.now limit is_open bytes ks }
+    ensures value { (ks : List ℕ) → steps.count ≡ length ks → steps.last ≡ last_or None ks → 1 ≤ limit
+        → result ≡ window_charge profile.now limit is_open bytes ks }
     ensures few { result ≤ 8388608 }
 {
     if !is_open {
         return 0;
     }
     match steps.last {
-        Some(last) if steps.count == limit => {
-            profile.listen() + (u64::from(last) + 1) * profile.step(bytes) - profile.turn()
-        }
+        Some(last) if steps.count == limit => until_last_sending(profile, last, bytes),
         _ => profile.close(),
     }
 }

@@ -89,13 +89,17 @@ impl Network {
         requires frame { frame ≤ 16777215 }
         requires ready { IsReady s.now frame 1048576 self.old }
         ensures ready { OnOk result ((m : ℕ) → IsReady s.now frame m self.old → IsReady s.now frame (m + 1) self.new) }
-        ensures nodes { OnOk result ((p : Plan) (start others : ℕ → State) → self.old.nodes ≡ nodes_before s.now rank frame p start others slot → part.now ≡ part_of p slot
+        ensures nodes { OnOk result
+            ((p : Plan) (start others : ℕ → State) → self.old.nodes ≡ nodes_before s.now rank frame p start others slot → part.now ≡ part_of p slot
             → self.new.nodes ≡ nodes_before s.now rank frame p start others (slot + 1)) }
-        ensures deliveries { OnOk result ((p : Plan) (start others : ℕ → State) → self.old.nodes ≡ nodes_before s.now rank frame p start others slot → part.now ≡ part_of p slot
+        ensures deliveries { OnOk result
+            ((p : Plan) (start others : ℕ → State) → self.old.nodes ≡ nodes_before s.now rank frame p start others slot → part.now ≡ part_of p slot
             → self.new.deliveries ≡ self.old.deliveries ++ slot_deliveries s.now rank frame p start slot) }
-        ensures costs { OnOk result ((p : Plan) (start others : ℕ → State) (cost : ℕ → CostOf) → self.old.nodes ≡ nodes_before s.now rank frame p start others slot → part.now ≡ part_of p slot
+        ensures costs { OnOk result ((p : Plan) (start others : ℕ → State) (cost : ℕ → CostOf)
+            → self.old.nodes ≡ nodes_before s.now rank frame p start others slot → part.now ≡ part_of p slot
             → self.old.costs ≡ map cost (ids s.now.nodes)
-            → self.new.costs ≡ map (λ v. if ranks_in start v == rank then with_slot_at s.now rank frame p start slot v (cost v) else cost v) (ids s.now.nodes)) }
+            → self.new.costs
+            ≡ map (λ v. if ranks_in start v == rank then with_slot_at s.now rank frame p start slot v (cost v) else cost v) (ids s.now.nodes)) }
     {
         let profile = s.profile();
         let limit = s.sends();

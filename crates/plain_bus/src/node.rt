@@ -49,7 +49,8 @@ impl BusNode {
         requires ranks { (1 ≤ ranks) × (ranks ≤ 4) }
         requires own { IfSome own (λ r. r < ranks) }
         requires sends { (1 ≤ sends) × (sends ≤ 4) }
-        ensures { IfOk result (λ n. n ≡ record { setup = record { profile = profile.now; id = id; own = own; ranks = ranks; sends = sends }; rank = 0; state = StateOff 0 }) }
+        ensures { IfOk result
+            (λ n. n ≡ record { setup = record { profile = profile.now; id = id; own = own; ranks = ranks; sends = sends }; rank = 0; state = StateOff 0 }) }
     {
         Ok(BusNode {
             member: Member::new(alloc, profile, id, own, ranks, sends)?,

@@ -40,7 +40,8 @@ pub fn open_slot(
     ensures early { OnOk result (All (λ n. IsEarlyState frame n.state) nodes.new) }
     ensures nodes { OnOk result (nodes.new ≡ map (node_opened rank frame part.now) nodes.old) }
     ensures windows { OnOk result (map seen windows.new.items ≡ map (seen_of rank frame part.now) nodes.old) }
-    ensures flood { IfOk result (λ x. (s : ScenarioParts) (t : Traced) (p : Plan) (start others : ℕ → State) → nodes.old ≡ nodes_before s rank frame p start others slot
+    ensures flood { IfOk result
+        (λ x. (s : ScenarioParts) (t : Traced) (p : Plan) (start others : ℕ → State) → nodes.old ≡ nodes_before s rank frame p start others slot
         → part.now ≡ part_of p slot → t.lines ≡ s.trace → IsSealed t s.nodes → limit ≡ s.sends → IsFlood (slot_at s rank frame p start slot).flood t x) }
 {
     open_all(nodes, windows, rank, frame, part)?;

@@ -103,8 +103,10 @@ impl BusNode {
         requires frame { frame ≤ 16777215 }
         requires ranges { IfSome accepted IsHeard }
         requires early { IsEarlyState frame self.old.state }
-        ensures state { MayAcceptIn self.old.state (option_map meaning accepted) → self.new ≡ node_closed frame part (seen window.now) (option_map meaning accepted) self.old }
-        ensures delivery { MayAcceptIn self.old.state (option_map meaning accepted) → result ≡ node_delivers rank frame slot part (seen window.now) (option_map meaning accepted) self.old }
+        ensures state { MayAcceptIn self.old.state (option_map meaning accepted)
+            → self.new ≡ node_closed frame part (seen window.now) (option_map meaning accepted) self.old }
+        ensures delivery { MayAcceptIn self.old.state (option_map meaning accepted)
+            → result ≡ node_delivers rank frame slot part (seen window.now) (option_map meaning accepted) self.old }
         ensures early { IsEarlyState frame self.new.state }
     {
         if self.refuses(&accepted) {
@@ -149,8 +151,11 @@ impl BusNode {
         requires ranges { IfSome accepted IsHeard }
         requires host { MayAcceptIn self.old.state (option_map meaning accepted) }
         requires early { IsEarlyState frame self.old.state }
-        ensures state { self.new ≡ record self.old { state = left_by self.old.state (closed_of self.old.setup frame part is_open initiated (option_map meaning accepted) self.old.state) } }
-        ensures delivery { result ≡ delivered_of self.old.setup.id frame (rank_in self.old.state) slot (closed_of self.old.setup frame part is_open initiated (option_map meaning accepted) self.old.state) }
+        ensures state { self.new ≡ record self.old {
+          state = left_by self.old.state (closed_of self.old.setup frame part is_open initiated (option_map meaning accepted) self.old.state);
+        } }
+        ensures delivery { result ≡ delivered_of self.old.setup.id frame (rank_in self.old.state) slot
+            (closed_of self.old.setup frame part is_open initiated (option_map meaning accepted) self.old.state) }
         ensures early { IsEarlyState frame self.new.state }
     {
         if !self.is_on {

@@ -1,5 +1,6 @@
 -- The rates of each node, and the clocks made of them.
-use Rattle.std.proofs.Common.{◌≡◌, ℕ, ℤ, zero, suc, ◌+◌, ◌<◌, ◌≤◌, ◌^◌, List, [], ◌∷◌, ◌++◌, Bool, true, false, ◌==◌, if◌then◌else◌, Option, Some, None, option_map, map, filter, length, get_or, set, drop, replicate, refl, sym, ◌∙◌, ap, subst, arith, All, ◌||◌}
+use Rattle.std.proofs.Common.{◌≡◌, ℕ, ℤ, zero, suc, ◌+◌, ◌<◌, ◌≤◌, ◌^◌, List, [], ◌∷◌, ◌++◌, Bool, true, false, ◌==◌, if◌then◌else◌, Option, Some, None}
+use Rattle.std.proofs.Common.{option_map, map, filter, length, get_or, set, drop, replicate, refl, sym, ◌∙◌, ap, subst, arith, All, ◌||◌}
 use Rattle.std.specs.Prelude.{◌≢◌}
 use Rattle.std.proofs.lemmas.Bool.{cond_both, cond-true, cond-false, eqb-true, eqb-false, le-ltb, lt-leb}
 use Rattle.std.proofs.lemmas.List.{length-set, get_or-set_same, get_or-set_other, map-append, append-nil, length-replicate}
@@ -36,7 +37,8 @@ added_rate rs r lists are few = record {
     by_test : (v : ℕ) (b : Bool) → (r.node == v) ≡ b → get_or (set lists r.node with_rate) v [] ≡ rates_of (rs ++ r ∷ []) v
     by_test v true at =
         let own : r.node ≡ v = eqb-true r.node v at in
-        let here : get_or (set lists r.node with_rate) v [] ≡ with_rate = ap (λ (w : ℕ). get_or (set lists r.node with_rate) w []) (sym own) ∙ get_or-set_same lists r.node with_rate [] (omega (arith, are.ids, few)) in
+        let here : get_or (set lists r.node with_rate) v [] ≡ with_rate =
+        ap (λ (w : ℕ). get_or (set lists r.node with_rate) w []) (sym own) ∙ get_or-set_same lists r.node with_rate [] (omega (arith, are.ids, few)) in
         let last : filter (λ s. s.node == v) (r ∷ []) ≡ r ∷ [] = cond-true (r.node == v) (r ∷ []) [] at in
         here
         ∙ ap (λ (l : List (ℕ × ℤ)). l ++ entry_of r ∷ []) (are.each r.node ∙ ap (λ (w : ℕ). rates_of rs w) own)
@@ -67,11 +69,13 @@ of_rates : (P : ℕ × ℤ → Type 0) (v : ℕ) (rs : List RateLine) → AllByR
 of_rates P v [] all = tt
 of_rates P v (r ∷ rs) all =
     let fs : List RateLine = filter (λ r. r.node == v) rs in
-    cond_both (r.node == v) (r ∷ fs) fs (λ (l : List RateLine). AllByRecursion P (map entry_of l)) (λ is. (all.0, of_rates P v rs all.1)) (λ not. of_rates P v rs all.1)
+    cond_both (r.node == v) (r ∷ fs) fs (λ (l : List RateLine). AllByRecursion P (map entry_of l)) (λ is. (all.0, of_rates P v rs all.1))
+    (λ not. of_rates P v rs all.1)
 
 pub early_rates : (v : ℕ) (rs : List RateLine) → All (λ r. r.from < 2 ^ 47) rs → All (λ r. r.0 < 2 ^ 47) (rates_of rs v)
 early_rates v rs all =
-    All-from_recursion (λ (e : ℕ × ℤ). e.0 < 2 ^ 47) (rates_of rs v) (of_rates (λ e. e.0 < 2 ^ 47) v rs (recursion_from_All (λ (r : RateLine). r.from < 2 ^ 47) rs all))
+    All-from_recursion (λ (e : ℕ × ℤ). e.0 < 2 ^ 47) (rates_of rs v)
+    (of_rates (λ e. e.0 < 2 ^ 47) v rs (recursion_from_All (λ (r : RateLine). r.from < 2 ^ 47) rs all))
 
 -- no fault
 no_place : {X : Type 0} (p : X → Bool) (i : ℕ) (xs : List X) → AllByRecursion (λ x. p x ≡ false) xs → position_from p i xs ≡ None
@@ -86,15 +90,22 @@ tame [] all = tt
 tame (r ∷ rs) all = (le-ltb 20 (unsigned_abs r.ppm) all.0, tame rs all.1)
 
 pub none_wild : (v : ℕ) (rs : List RateLine) → All (λ r. unsigned_abs r.ppm ≤ 20) rs → wild_at (rates_of rs v) ≡ None
-none_wild v rs all = nowhere is_wild (rates_of rs v) (of_rates (λ e. is_wild e ≡ false) v rs (tame rs (recursion_from_All (λ (r : RateLine). unsigned_abs r.ppm ≤ 20) rs all)))
+none_wild v rs all =
+    nowhere is_wild (rates_of rs v) (of_rates (λ e. is_wild e ≡ false) v rs (tame rs (recursion_from_All (λ (r : RateLine). unsigned_abs r.ppm ≤ 20) rs all)))
 
-in_time : (fs : List RateLine) → AllPairs (λ a b. a.from < b.from) fs → AllByRecursion (λ p. is_late p ≡ false) (zip (map entry_of fs) (drop 1 (map entry_of fs)))
+in_time : (fs : List RateLine) → AllPairs (λ a b. a.from < b.from) fs
+    → AllByRecursion (λ p. is_late p ≡ false) (zip (map entry_of fs) (drop 1 (map entry_of fs)))
 in_time [] all = tt
 in_time (a ∷ []) all = tt
-in_time (a ∷ b ∷ fs) all = (lt-leb b.from a.from (all 0 1 a (omega arith) (omega arith)), in_time (b ∷ fs) (λ i j d less within. all (suc i) (suc j) d (omega (arith, less)) (omega (arith, within))))
+in_time (a ∷ b ∷ fs) all = (
+  lt-leb b.from a.from (all 0 1 a (omega arith) (omega arith)),
+  in_time (b ∷ fs) (λ i j d less within. all (suc i) (suc j) d (omega (arith, less)) (omega (arith, within))),
+)
 
 pub none_late : (v : ℕ) (rs : List RateLine) → AllPairs (λ a b. a.from < b.from) (filter (λ r. r.node == v) rs) → unordered_at (rates_of rs v) ≡ None
-none_late v rs all = ap (λ (o : Option ℕ). option_map (λ i. i + 1) o) (nowhere is_late (zip (rates_of rs v) (drop 1 (rates_of rs v))) (in_time (filter (λ r. r.node == v) rs) all))
+none_late v rs all =
+    ap (λ (o : Option ℕ). option_map (λ i. i + 1) o)
+    (nowhere is_late (zip (rates_of rs v) (drop 1 (rates_of rs v))) (in_time (filter (λ r. r.node == v) rs) all))
 
 -- a clock more
 pub clock_more : (rates : List RateLine) (ns : List NodeLine) (cs : List SegmentClock) (n : NodeLine) (c : SegmentClock) → AreClocks rates ns cs
@@ -110,7 +121,8 @@ as_many rates [] (d ∷ cs) are = absurd are
 as_many rates (m ∷ ns) [] are = absurd are
 as_many rates (m ∷ ns) (d ∷ cs) are = ap suc (as_many rates ns cs are.2)
 
-pub read_as_stated : (rates : List RateLine) (ns : List NodeLine) (cs : List SegmentClock) (v : ℕ) → AreClocks rates ns cs → clocks_by segment_clock_reads ns cs v ≡ stated_by ns rates v
+pub read_as_stated : (rates : List RateLine) (ns : List NodeLine) (cs : List SegmentClock) (v : ℕ) → AreClocks rates ns cs
+    → clocks_by segment_clock_reads ns cs v ≡ stated_by ns rates v
 read_as_stated rates [] [] v are = refl
 read_as_stated rates [] (d ∷ cs) v are = absurd are
 read_as_stated rates (m ∷ ns) [] v are = absurd are

@@ -30,7 +30,8 @@ drift_by_recursion : (ns : List NodeLine) (rs : List RateLine) → AllByRecursio
 drift_by_recursion [] rs offsets small v known = absurd (no_node known)
 drift_by_recursion (n ∷ ns) rs offsets small v known = by_test (n.node == v) known (λ later. drift_by_recursion ns rs offsets.1 small v later)
   where
-    by_test : (b : Bool) → (b || knows ns v) ≡ true → (knows ns v ≡ true → IsClock (stated_by ns rs v)) → IsClock (if b then segment_reading n.offset (rates_of rs n.node) else stated_by ns rs v)
+    by_test : (b : Bool) → (b || knows ns v) ≡ true → (knows ns v ≡ true → IsClock (stated_by ns rs v))
+        → IsClock (if b then segment_reading n.offset (rates_of rs n.node) else stated_by ns rs v)
     by_test true known others = rates_law n.offset (rates_of rs n.node) offsets.0 (tame_rates n.node rs small)
     by_test false known others = others known
 

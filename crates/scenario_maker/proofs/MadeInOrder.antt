@@ -16,7 +16,8 @@ use Rattle.scenario_text.specs.declared.lines.NodeLine.{NodeLine}
 use Rattle.scenario_text.proofs.EachPair.{climbs_pairs}
 use Rattle.scenario_text.proofs.OrderedParts.{said_in_order}
 use Rattle.scenario_maker.specs.Drawn.{seeded, later, word}
-use Rattle.scenario_maker.specs.Made.{IsSize, later_nodes, node_line, rate_line, tree_pair, tree_pairs, random_pair, random_pairs, with_pairs, drawn_loss, frame_losses, losses, script, made}
+use Rattle.scenario_maker.specs.Made.{IsSize, later_nodes, node_line, rate_line, tree_pair, tree_pairs, random_pair}
+use Rattle.scenario_maker.specs.Made.{random_pairs, with_pairs, drawn_loss, frame_losses, losses, script, made}
 use Rattle.scenario_maker.proofs.MadeNodes.{known, node_lines, nodes_ascend, rate_lines, rates_ascend}
 use Rattle.scenario_maker.proofs.MadeScript.{lines_in_range, bytes_in_range, script_ascends, few_in_script, few_boots}
 use Rattle.scenario_maker.proofs.MadeTrace.{AreKnown, pairs_kept, IsDrawn, losses_kept, few_losses}

@@ -1,5 +1,6 @@
 -- Acknowledgements that are read one after another.
-use Rattle.std.proofs.Common.{◌≡◌, ℕ, ◌+◌, ◌-◌, ◌*◌, ◌<◌, ◌≤◌, List, [], ◌∷◌, ◌++◌, true, length, take, drop, get_or, slice_get, flat_map, Option, Some, None, refl, sym, ◌∙◌, ap, subst, arith, append_assoc, length-append, take-append-drop, nat_le, nat_lt}
+use Rattle.std.proofs.Common.{◌≡◌, ℕ, ◌+◌, ◌-◌, ◌*◌, ◌<◌, ◌≤◌, List, [], ◌∷◌, ◌++◌, true, length, take, drop, get_or, slice_get, flat_map, Option}
+use Rattle.std.proofs.Common.{Some, None, refl, sym, ◌∙◌, ap, subst, arith, append_assoc, length-append, take-append-drop, nat_le, nat_lt}
 use Rattle.std.proofs.lemmas.Bool.{and_parts, and_from, leb-true, lt-ltb}
 use Rattle.std.proofs.lemmas.List.{append-nil, nil_from_length, length-drop}
 use Rattle.std.proofs.lemmas.List.Concat.{flat_map-append}
@@ -25,7 +26,8 @@ pub reads_none : (count : ℕ) (bytes : List ℕ) (acks : List Ask) → acks ≡
 reads_none count bytes acks none long =
     subst (λ (l : List Ask). Read count bytes l bytes 0) (sym none) (record { same = refl; many = refl; all = refl; ordered = refl; left = omega arith })
 
-pub reads_more : (count : ℕ) (bytes : List ℕ) (acks new : List Ask) (rest : List ℕ) (i : ℕ) (a : Ask) → Read count bytes acks rest i → i < count → ask_in_range a ≡ true → ask_bytes a ≡ take 4 rest → takes_ack acks a ≡ true
+pub reads_more : (count : ℕ) (bytes : List ℕ) (acks new : List Ask) (rest : List ℕ) (i : ℕ) (a : Ask) → Read count bytes acks rest i
+    → i < count → ask_in_range a ≡ true → ask_bytes a ≡ take 4 rest → takes_ack acks a ≡ true
     → new ≡ acks ++ a ∷ [] → Read count bytes new (drop 4 rest) (i + 1)
 reads_more count bytes acks new rest i a read below range is takes list =
     let left = read.left in
@@ -50,16 +52,19 @@ reads_all count bytes acks rest i read end =
 same_ask : (x y : Ask) → x.node ≡ y.node → x.boot ≡ y.boot → x.stream ≡ y.stream → x.interval ≡ y.interval → x ≡ y
 same_ask x y node boot stream interval =
     let part : ℕ → ℕ → ℕ → ℕ → Ask = λ a b c d. record { node = a; boot = b; stream = c; interval = d } in
-    ap (λ n. part n x.boot x.stream x.interval) node ∙ ap (λ n. part y.node n x.stream x.interval) boot ∙ ap (λ n. part y.node y.boot n x.interval) stream ∙ ap (λ n. part y.node y.boot y.stream n) interval
+    ap (λ n. part n x.boot x.stream x.interval) node ∙ ap (λ n. part y.node n x.stream x.interval) boot
+    ∙ ap (λ n. part y.node y.boot n x.interval) stream ∙ ap (λ n. part y.node y.boot y.stream n) interval
 
 first_same : (x y : Ask) (xs ys : List ℕ) → ask_bytes x ++ xs ≡ ask_bytes y ++ ys → (x ≡ y) × (xs ≡ ys)
 first_same x y xs ys is = (
-  same_ask x y (ap (λ (l : List ℕ). get_or l 0 0) is) (ap (λ (l : List ℕ). get_or l 1 0) is) (ap (λ (l : List ℕ). get_or l 2 0) is) (ap (λ (l : List ℕ). get_or l 3 0) is),
+  same_ask x y (ap (λ (l : List ℕ). get_or l 0 0) is) (ap (λ (l : List ℕ). get_or l 1 0) is) (ap (λ (l : List ℕ). get_or l 2 0) is)
+      (ap (λ (l : List ℕ). get_or l 3 0) is),
   ap (λ (l : List ℕ). drop 4 l) is,
 )
 
 -- acknowledgements with the same bytes at their front: one more follows
-pub one_more : (acks whole : List Ask) (rest : List ℕ) → flat acks ++ rest ≡ flat whole → length acks < length whole → (a : Ask) × (more : List Ask) × (whole ≡ acks ++ a ∷ more) × (rest ≡ ask_bytes a ++ flat more)
+pub one_more : (acks whole : List Ask) (rest : List ℕ) → flat acks ++ rest ≡ flat whole → length acks < length whole
+    → (a : Ask) × (more : List Ask) × (whole ≡ acks ++ a ∷ more) × (rest ≡ ask_bytes a ++ flat more)
 one_more [] [] rest is longer = absurd (omega arith)
 one_more [] (a ∷ more) rest is longer = (a, more, refl, is)
 one_more (x ∷ acks) [] rest is longer = absurd (omega arith)
@@ -87,7 +92,8 @@ pub record Follows (acks : List Ask) (rest : List ℕ) (a : Ask) : Type 0 where
   pub bytes : ask_bytes a ≡ take 4 rest
   pub takes : takes_ack acks a ≡ true
 
-follows_from : (acks whole more : List Ask) (rest : List ℕ) (a : Ask) → whole ≡ acks ++ a ∷ more → rest ≡ ask_bytes a ++ flat more → list_all ask_in_range whole ≡ true → are_acks whole ≡ true → Follows acks rest a
+follows_from : (acks whole more : List Ask) (rest : List ℕ) (a : Ask) → whole ≡ acks ++ a ∷ more → rest ≡ ask_bytes a ++ flat more
+    → list_all ask_in_range whole ≡ true → are_acks whole ≡ true → Follows acks rest a
 follows_from acks whole more rest a is behind all ordered =
     let joined : list_all ask_in_range (acks ++ a ∷ more) ≡ true = ap (λ l. list_all ask_in_range l) (sym is) ∙ all in
     let ranges = and_parts (list_all ask_in_range acks) (list_all ask_in_range (a ∷ more)) (sym (list_all-append ask_in_range acks (a ∷ more)) ∙ joined) in
@@ -98,10 +104,12 @@ follows_from acks whole more rest a is behind all ordered =
     record {
       range = (and_parts (ask_in_range a) (list_all ask_in_range more) ranges.1).0;
       bytes = ap (λ (l : List ℕ). take 4 l) (sym behind);
-      takes = and_from (nat_lt (length acks) 4) (may_follow (slice_get acks (length acks - 1)) a) (lt-ltb (length acks) 4 room) (follows_in acks more a order.1);
+      takes = and_from (nat_lt (length acks) 4) (may_follow (slice_get acks (length acks - 1)) a) (lt-ltb (length acks) 4 room)
+          (follows_in acks more a order.1);
     }
 
-pub next_in : (count : ℕ) (bytes : List ℕ) (acks whole : List Ask) (rest : List ℕ) (i : ℕ) → Read count bytes acks rest i → i < count → list_all ask_in_range whole ≡ true → are_acks whole ≡ true → flat whole ≡ bytes
+pub next_in : (count : ℕ) (bytes : List ℕ) (acks whole : List Ask) (rest : List ℕ) (i : ℕ) → Read count bytes acks rest i → i < count
+    → list_all ask_in_range whole ≡ true → are_acks whole ≡ true → flat whole ≡ bytes
     → (a : Ask) × Follows acks rest a
 next_in count bytes acks whole rest i read below all ordered is =
     let left = read.left in

@@ -1,5 +1,6 @@
 -- The bytes of owners, taken apart and put together.
-use Rattle.std.proofs.Common.{◌≡◌, ℕ, suc, ◌+◌, ◌-◌, ◌*◌, ◌/◌, ◌%◌, ◌^◌, ◌<◌, ◌≤◌, List, [], ◌∷◌, true, length, take, drop, get_or, Option, Some, None, refl, sym, ◌∙◌, ap, subst, arith}
+use Rattle.std.proofs.Common.{◌≡◌, ℕ, suc, ◌+◌, ◌-◌, ◌*◌, ◌/◌, ◌%◌, ◌^◌, ◌<◌, ◌≤◌, List, [], ◌∷◌, true, length, take}
+use Rattle.std.proofs.Common.{drop, get_or, Option, Some, None, refl, sym, ◌∙◌, ap, subst, arith}
 use Rattle.std.proofs.lemmas.Bool.{and_parts, and_from, le-leb, ltb-true, lt-ltb}
 use Rattle.std.proofs.Math.Nat.{pow-le-pow_right}
 use Rattle.std.specs.Option.{SomeIff, IfSome}
@@ -24,7 +25,8 @@ pub record CodesIn (count : ℕ) (bs cs : List ℕ) (c : ℕ) (ds : List ℕ) : 
   pub few : count ≤ 40
   pub packs : Packs (width_of ds) (length ds) (drop 2 bs) ds
 
-pub codes_in : (count : ℕ) (bs cs : List ℕ) → 0 < count → are_owners cs ≡ true → owners_bytes cs ≡ count ∷ bs → (c : ℕ) × (ds : List ℕ) × CodesIn count bs cs c ds
+pub codes_in : (count : ℕ) (bs cs : List ℕ) → 0 < count → are_owners cs ≡ true → owners_bytes cs ≡ count ∷ bs
+    → (c : ℕ) × (ds : List ℕ) × CodesIn count bs cs c ds
 codes_in count bs [] some are is = let none = ap (λ (l : List ℕ). get_or l 0 0) is in absurd (omega arith)
 codes_in count bs (c ∷ cs) some are is =
     let codes = codes_of c cs are in
@@ -53,7 +55,8 @@ codes_in count bs (c ∷ cs) some are is =
     )
 
 -- put together, they are the owners' bytes
-pub codes_spelled : (count c : ℕ) (bs ds : List ℕ) → 2 ≤ length bs → get_or bs 1 0 < 256 → 256 * get_or bs 0 0 + get_or bs 1 0 ≡ c * 16 + width_of ds → count ≡ length ds + 1 → packed (width_of ds) ds ≡ drop 2 bs
+pub codes_spelled : (count c : ℕ) (bs ds : List ℕ) → 2 ≤ length bs → get_or bs 1 0 < 256
+    → 256 * get_or bs 0 0 + get_or bs 1 0 ≡ c * 16 + width_of ds → count ≡ length ds + 1 → packed (width_of ds) ds ≡ drop 2 bs
     → owners_bytes (summed c ds) ≡ count ∷ bs
 codes_spelled count c [] ds long byte start many packs = absurd (omega arith)
 codes_spelled count c (b ∷ []) ds long byte start many packs = absurd (omega arith)
@@ -79,7 +82,8 @@ behind_two bs long = take_all (length bs - 2) (drop 2 bs) (omega (arith, length-
 abbrev pub IsStart : ℕ → List ℕ → Type 0
 IsStart start bs = start ≡ get_or bs 0 0 * 256 + (get_or bs 1 0 * 1 + 0)
 
-pub unpackable : (count start : ℕ) (bs cs : List ℕ) (c : ℕ) (ds : List ℕ) → CodesIn count bs cs c ds → IsStart start bs → Packs (start % 16) (count - 1) (take (length bs - 2) (drop 2 bs)) ds
+pub unpackable : (count start : ℕ) (bs cs : List ℕ) (c : ℕ) (ds : List ℕ) → CodesIn count bs cs c ds → IsStart start bs
+    → Packs (start % 16) (count - 1) (take (length bs - 2) (drop 2 bs)) ds
 unpackable count start bs cs c ds codes is =
     let first = codes.start in
     let narrow = codes.narrow in

@@ -1,5 +1,6 @@
 -- The bytes of a schedule, taken apart and put together.
-use Rattle.std.proofs.Common.{◌≡◌, ℕ, ◌+◌, ◌-◌, ◌*◌, ◌/◌, ◌%◌, ◌≤◌, ◌==◌, ◌⊎◌, inl, inr, List, [], ◌∷◌, ◌++◌, true, length, take, drop, get_or, set, Option, Some, None, refl, sym, ◌∙◌, ap, subst, arith}
+use Rattle.std.proofs.Common.{◌≡◌, ℕ, ◌+◌, ◌-◌, ◌*◌, ◌/◌, ◌%◌, ◌≤◌, ◌==◌, ◌⊎◌, inl, inr, List, [], ◌∷◌, ◌++◌, true, length}
+use Rattle.std.proofs.Common.{take, drop, get_or, set, Option, Some, None, refl, sym, ◌∙◌, ap, subst, arith}
 use Rattle.std.proofs.lemmas.Bool.{and_parts, and_from, cond_both}
 use Rattle.std.proofs.lemmas.List.{take_rest}
 use Rattle.std.specs.Option.{IfSome}
@@ -33,7 +34,14 @@ heads_of p s is =
       boot = sym (ap (λ (l : List ℕ). get_or l 4 0) same);
       parts = parts;
       body = record {
-        acknowledged = record { kind_is = ap (λ (l : List ℕ). get_or l 0 0) same; named = parts.contend; few = parts.few; in_range = parts.acks; ordered = parts.ordered; bytes = refl };
+        acknowledged = record {
+          kind_is = ap (λ (l : List ℕ). get_or l 0 0) same;
+          named = parts.contend;
+          few = parts.few;
+          in_range = parts.acks;
+          ordered = parts.ordered;
+          bytes = refl;
+        };
         owned = parts.owners;
         whole = ap (λ (l : List ℕ). drop 5 l) same;
       };
@@ -53,7 +61,8 @@ names_host p s is =
     let kind = h.body.acknowledged.kind_is in
     record {
       long = h.long;
-      kind = cond_both (s.plan.contend == 0) 1 4 (λ (n : ℕ). n ≡ get_or p 0 0 → (get_or p 0 0 ≡ 1) ⊎ (get_or p 0 0 ≡ 4)) (λ none same. inl (sym same)) (λ some same. inr (sym same)) kind;
+      kind = cond_both (s.plan.contend == 0) 1 4 (λ (n : ℕ). n ≡ get_or p 0 0 → (get_or p 0 0 ≡ 1) ⊎ (get_or p 0 0 ≡ 4))
+          (λ none same. inl (sym same)) (λ some same. inr (sym same)) kind;
       host = omega arith;
     }
 
@@ -76,7 +85,8 @@ spells_from p s h =
     ∙ ap (λ (n : ℕ). get_or p 0 0 ∷ slot ∷ counter ∷ get_or p 3 0 ∷ n ∷ rest) (sym h.boot)
     ∙ ap (λ (l : List ℕ). get_or p 0 0 ∷ slot ∷ counter ∷ get_or p 3 0 ∷ get_or p 4 0 ∷ l) h.body.whole
     ∙ five_and_rest p h.long in
-    and_from _ _ (range_from s slot counter h.parts) (ap (λ (l : List ℕ). bytes_eq (spelling s slot counter) l) (sym same) ∙ same_bytes (spelling s slot counter))
+    and_from _ _ (range_from s slot counter h.parts)
+    (ap (λ (l : List ℕ). bytes_eq (spelling s slot counter) l) (sym same) ∙ same_bytes (spelling s slot counter))
 
 -- what answers exactly the schedules that spell the bytes is what they are read as
 pub read_value : (p : List ℕ) (o : Option Schedule) → IfSome o (λ s. spells p s ≡ true) → ((s : Schedule) → spells p s ≡ true → o ≡ Some s) → o ≡ schedule_of p
@@ -91,11 +101,18 @@ pub same_schedule : (p : List ℕ) (s t : Schedule) → spells p s ≡ true → 
 same_schedule p s t is also = sym (read_as p s is) ∙ read_as p t also
 
 -- the schedule that was read off the bytes spells them
-pub read_spells : (p whole : List ℕ) (host contend : ℕ) (acks : List Ask) (owners : List ℕ) → p ≡ whole → 5 ≤ length p → get_or p 2 0 ≤ 11 → 1 ≤ get_or p 4 0 → get_or p 4 0 ≤ 200 → get_or p 3 0 % 16 ≤ 4 → get_or p 3 0 / 16 ≤ 3 → host ≡ get_or p 3 0 / 16
+pub read_spells : (p whole : List ℕ) (host contend : ℕ) (acks : List Ask) (owners : List ℕ) → p ≡ whole → 5 ≤ length p → get_or p 2 0 ≤ 11
+    → 1 ≤ get_or p 4 0 → get_or p 4 0 ≤ 200 → get_or p 3 0 % 16 ≤ 4 → get_or p 3 0 / 16 ≤ 3 → host ≡ get_or p 3 0 / 16
     → slot_fits (get_or p 3 0 % 16) contend (get_or p 1 0) ≡ true → SpellsBody (get_or p 0 0) (take (length p - 5) (drop 5 p)) contend acks owners
-    → spells whole (record { gap = get_or p 3 0 % 16; plan = record { rank = host; boot = get_or p 4 0; contend = contend; acks = acks; owners = owners } }) ≡ true
+    → spells whole (record {
+      gap = get_or p 3 0 % 16;
+      plan = record { rank = host; boot = get_or p 4 0; contend = contend; acks = acks; owners = owners };
+    }) ≡ true
 read_spells p whole host contend acks owners same long count low high gap rank is place body =
-    let s : Schedule = record { gap = get_or p 3 0 % 16; plan = record { rank = host; boot = get_or p 4 0; contend = contend; acks = acks; owners = owners } } in
+    let s : Schedule = record {
+      gap = get_or p 3 0 % 16;
+      plan = record { rank = host; boot = get_or p 4 0; contend = contend; acks = acks; owners = owners };
+    } in
     ap (λ l. spells l s) (sym same)
     ∙ spells_from p s (record {
       long = long;
@@ -124,7 +141,8 @@ contend_of : Option (Acknowledged × List ℕ) → ℕ
 contend_of None = 0
 contend_of (Some b) = b.0.contend
 
-pub same_contend : (b : Acknowledged) (owners owners' : List ℕ) (contend : ℕ) (acks : List Ask) → ◌≡◌ {A = Option (Acknowledged × List ℕ)} (Some (b, owners)) (Some (record { contend = contend; acks = acks }, owners')) → b.contend ≡ contend
+pub same_contend : (b : Acknowledged) (owners owners' : List ℕ) (contend : ℕ) (acks : List Ask) → ◌≡◌ {A = Option (Acknowledged × List ℕ)}
+    (Some (b, owners)) (Some (record { contend = contend; acks = acks }, owners')) → b.contend ≡ contend
 unfolding contend_of
 same_contend b owners owners' contend acks is = ap contend_of is
 

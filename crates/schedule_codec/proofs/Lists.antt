@@ -1,5 +1,6 @@
 -- Ascending lists with one more at their end.
-use Rattle.std.proofs.Common.{◌&&◌, ◌≡◌, ℕ, zero, suc, ◌-◌, ◌<◌, ◌≤◌, List, [], ◌∷◌, ◌++◌, Bool, true, Option, Some, None, length, slice_get, get_or, refl, sym, ◌∙◌, ap, arith, length-append, nat_le, nat_lt}
+use Rattle.std.proofs.Common.{◌&&◌, ◌≡◌, ℕ, zero, suc, ◌-◌, ◌<◌, ◌≤◌, List, [], ◌∷◌, ◌++◌, Bool, true, Option, Some, None}
+use Rattle.std.proofs.Common.{length, slice_get, get_or, refl, sym, ◌∙◌, ap, arith, length-append, nat_le, nat_lt}
 use Rattle.std.proofs.lemmas.Bool.{and_parts, and_from, ltb-true, leb-true, le-leb}
 use Rattle.std.proofs.lemmas.List.Folds.{list_all-append}
 use Rattle.std.specs.List.{list_all}
@@ -16,14 +17,16 @@ last_of_rest x y xs =
     let rest : length xs ≡ suc (length xs) - 1 = omega arith in
     ap (λ i. slice_get (x ∷ y ∷ xs) i) whole ∙ ap (λ i. slice_get (y ∷ xs) i) rest
 
-pub acks_push : (qs : List Ask) (a : Ask) → acks.strictly_ascend qs ≡ true → acks.may_follow (slice_get qs (length qs - 1)) a ≡ true → acks.strictly_ascend (qs ++ a ∷ []) ≡ true
+pub acks_push : (qs : List Ask) (a : Ask) → acks.strictly_ascend qs ≡ true → acks.may_follow (slice_get qs (length qs - 1)) a ≡ true
+    → acks.strictly_ascend (qs ++ a ∷ []) ≡ true
 acks_push [] a ascend follows = refl
 acks_push (b ∷ []) a ascend follows = and_from _ _ follows refl
 acks_push (b ∷ d ∷ qs) a ascend follows =
     let both = and_parts _ _ ascend in
     and_from _ _ both.0 (acks_push (d ∷ qs) a both.1 (ap (λ o. acks.may_follow o a) (sym (last_of_rest b d qs)) ∙ follows))
 
-pub codes_push : (cs : List ℕ) (c : ℕ) → owners.ascend cs ≡ true → owners.may_follow (slice_get cs (length cs - 1)) c ≡ true → owners.ascend (cs ++ c ∷ []) ≡ true
+pub codes_push : (cs : List ℕ) (c : ℕ) → owners.ascend cs ≡ true → owners.may_follow (slice_get cs (length cs - 1)) c ≡ true
+    → owners.ascend (cs ++ c ∷ []) ≡ true
 codes_push [] c ascend follows = refl
 codes_push (b ∷ []) c ascend follows = and_from _ _ follows refl
 codes_push (b ∷ d ∷ cs) c ascend follows =
@@ -39,7 +42,8 @@ are_acks_push qs a are takes =
     let few : length (qs ++ a ∷ []) ≤ 4 = omega (arith, length-append qs (a ∷ [])) in
     and_from _ _ (le-leb (length (qs ++ a ∷ [])) 4 few) (acks_push qs a both.1 may.1)
 
-pub are_owners_push : (cs : List ℕ) (c : ℕ) → owners.are_owners cs ≡ true → 4 ≤ c → c ≤ 803 → owners.takes_owner cs c ≡ true → owners.are_owners (cs ++ c ∷ []) ≡ true
+pub are_owners_push : (cs : List ℕ) (c : ℕ) → owners.are_owners cs ≡ true → 4 ≤ c → c ≤ 803 → owners.takes_owner cs c ≡ true
+    → owners.are_owners (cs ++ c ∷ []) ≡ true
 are_owners_push cs c are low high takes =
     let both : ((nat_le (length cs) 40 && list_all (between 4 803) cs) ≡ true) × (owners.ascend cs ≡ true) = and_parts _ _ are in
     let first : (nat_le (length cs) 40 ≡ true) × (list_all (between 4 803) cs ≡ true) = and_parts _ _ both.0 in
@@ -68,6 +72,7 @@ get_at (c ∷ cs) zero below = refl
 get_at (c ∷ cs) (suc i) below = get_at cs i (omega arith)
 
 -- the code at a place is an owner's
-pub owner_at : (cs : List ℕ) (i : ℕ) (o : Option ℕ) → owners.are_owners cs ≡ true → i < length cs → SomeIff o ((4 ≤ get_or cs i 0) × (get_or cs i 0 ≤ 803)) (get_or cs i 0) → o ≡ slice_get cs i
+pub owner_at : (cs : List ℕ) (i : ℕ) (o : Option ℕ) → owners.are_owners cs ≡ true → i < length cs
+    → SomeIff o ((4 ≤ get_or cs i 0) × (get_or cs i 0 ≤ 803)) (get_or cs i 0) → o ≡ slice_get cs i
 owner_at cs i None are below none = absurd (none (in_bounds cs i are below))
 owner_at cs i (Some c) are below is = ap (λ x. Some x) is.1 ∙ sym (get_at cs i below)

@@ -61,7 +61,8 @@ digits-after w n (d ∷ ds) fits =
     let both = and_parts _ _ fits in
     let below = ltb-true d (2 ^ w) both.0 in
     let is = after_is w (n * 2 ^ w + d) ds in
-    let high : number_after w (n * 2 ^ w + d) ds / 2 ^ (length ds * w) ≡ n * 2 ^ w + d = ap (λ m. m / 2 ^ (length ds * w)) is ∙ div-mul-add (n * 2 ^ w + d) (2 ^ (length ds * w)) (number w ds) (number_below w ds both.1) in
+    let high : number_after w (n * 2 ^ w + d) ds / 2 ^ (length ds * w) ≡ n * 2 ^ w + d = ap (λ m. m / 2 ^ (length ds * w)) is
+    ∙ div-mul-add (n * 2 ^ w + d) (2 ^ (length ds * w)) (number w ds) (number_below w ds both.1) in
     let first : number_after w (n * 2 ^ w + d) ds / 2 ^ (length ds * w) % 2 ^ w ≡ d = ap (λ m. m % 2 ^ w) high ∙ mod-mul-add n (2 ^ w) d below in
     ap (λ m. m ∷ digits w (length ds) (number_after w (n * 2 ^ w + d) ds)) first ∙ ap (λ l. d ∷ l) (digits-after w (n * 2 ^ w + d) ds both.1)
 
@@ -106,7 +107,8 @@ number-packed w ds fits =
     number-digits 8 (bytes_for bits) (number w ds * 2 ^ fill bits) ∙ mod_small (number w ds * 2 ^ fill bits) (bytes_for bits * 8) (omega arith)
 
 -- bytes that make this number, and are as many as it takes, are the packed ones
-pub packed_from : (w : ℕ) (ds bs : List ℕ) → fit 8 bs ≡ true → length bs ≡ bytes_for (length ds * w) → number 8 bs ≡ number w ds * 2 ^ fill (length ds * w) → packed w ds ≡ bs
+pub packed_from : (w : ℕ) (ds bs : List ℕ) → fit 8 bs ≡ true → length bs ≡ bytes_for (length ds * w)
+    → number 8 bs ≡ number w ds * 2 ^ fill (length ds * w) → packed w ds ≡ bs
 packed_from w ds bs bytes long is =
     ap (λ k. digits 8 k (number w ds * 2 ^ fill (length ds * w))) (sym long) ∙ ap (λ n. digits 8 (length bs) n) (sym is) ∙ digits-number 8 bs bytes
 

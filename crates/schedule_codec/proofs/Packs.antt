@@ -24,7 +24,8 @@ has_room i w few narrow =
 pub same_numbers : (w count : ℕ) (bs ds es : List ℕ) → Packs w count bs ds → Packs w count bs es → ds ≡ es
 same_numbers w count bs ds es p q =
     let of : (l : List ℕ) → Packs w count bs l → digits w count (number 8 bs / 2 ^ (8 * length bs - count * w)) ≡ l =
-    λ l r. subst (λ b. digits w count (number 8 b / 2 ^ (8 * length b - count * w)) ≡ l) r.bytes (subst (λ n. digits w n (number 8 (packed w l) / 2 ^ (8 * length (packed w l) - n * w)) ≡ l) r.many (unpacked w l r.fits)) in
+    λ l r. subst (λ b. digits w count (number 8 b / 2 ^ (8 * length b - count * w)) ≡ l) r.bytes
+    (subst (λ n. digits w n (number 8 (packed w l) / 2 ^ (8 * length (packed w l) - n * w)) ≡ l) r.many (unpacked w l r.fits)) in
     sym (of ds p) ∙ of es q
 
 -- the bytes have the length that the numbers take
@@ -32,7 +33,8 @@ pub long_enough : (w count : ℕ) (bs ds : List ℕ) → Packs w count bs ds →
 long_enough w count bs ds p = ap length (sym p.bytes) ∙ length-packed w ds ∙ ap (λ n. bytes_for (n * w)) p.many
 
 -- what was read is what was packed, where nothing but zero bits is left
-pub packs_from : (w count left : ℕ) (bs ds : List ℕ) → ((k : ℕ) → get_or bs k 0 < 256) → length bs ≡ bytes_for (count * w) → left + count * w ≡ 8 * length bs → length ds ≡ count → fit w ds ≡ true
+pub packs_from : (w count left : ℕ) (bs ds : List ℕ) → ((k : ℕ) → get_or bs k 0 < 256) → length bs ≡ bytes_for (count * w)
+    → left + count * w ≡ 8 * length bs → length ds ≡ count → fit w ds ≡ true
     → number w ds * 2 ^ left ≡ number 8 bs → Packs w count bs ds
 packs_from w count left bs ds bytes long bits many fits is =
     let same : length ds * w ≡ count * w = ap (λ n. n * w) many in
@@ -44,16 +46,19 @@ packs_from w count left bs ds bytes long bits many fits is =
     }
 
 -- packed numbers leave nothing but zero bits
-pub nothing_left : (w count left rest : ℕ) (bs ds es : List ℕ) → left + count * w ≡ 8 * length bs → rest < 2 ^ left → number w ds * 2 ^ left + rest ≡ number 8 bs → Packs w count bs es → rest ≡ 0
+pub nothing_left : (w count left rest : ℕ) (bs ds es : List ℕ) → left + count * w ≡ 8 * length bs → rest < 2 ^ left
+    → number w ds * 2 ^ left + rest ≡ number 8 bs → Packs w count bs es → rest ≡ 0
 nothing_left w count left rest bs ds es bits below is p =
     let long = long_enough w count bs es p in
     let same : length es * w ≡ count * w = ap (λ n. n * w) p.many in
     let filling : fill (length es * w) ≡ left = omega arith in
-    let total : number w es * 2 ^ left + 0 ≡ number 8 bs = omega (arith, ap (λ k. number w es * 2 ^ k) filling, number-packed w es p.fits, ap (λ l. number 8 l) p.bytes) in
+    let total : number w es * 2 ^ left + 0 ≡ number 8 bs =
+    omega (arith, ap (λ k. number w es * 2 ^ k) filling, number-packed w es p.fits, ap (λ l. number 8 l) p.bytes) in
     (same_from_place (number w ds) rest (number w es) 0 (2 ^ left) below (omega arith) (is ∙ sym total)).1
 
 -- one number more was read
-pub read_more : (w : ℕ) (ds : List ℕ) (d count value left rest : ℕ) → left + w ≡ count → d * 2 ^ left + rest ≡ value → number w (ds ++ d ∷ []) * 2 ^ left + rest ≡ number w ds * 2 ^ count + value
+pub read_more : (w : ℕ) (ds : List ℕ) (d count value left rest : ℕ) → left + w ≡ count → d * 2 ^ left + rest ≡ value
+    → number w (ds ++ d ∷ []) * 2 ^ left + rest ≡ number w ds * 2 ^ count + value
 read_more w ds d count value left rest bits is =
     let pushed = ap (λ n. n * 2 ^ left) (number_push w ds d) in
     let order : count ≡ w + left = omega arith in
@@ -61,7 +66,8 @@ read_more w ds d count value left rest bits is =
     omega arith
 
 -- all numbers were read, and what is left is zero
-pub all_read : (w count counter left rest : ℕ) (bs ds : List ℕ) → ((k : ℕ) → get_or bs k 0 < 256) → length bs ≡ bytes_for (count * w) → counter ≡ count → left + counter * w ≡ 8 * length bs → length ds ≡ counter
+pub all_read : (w count counter left rest : ℕ) (bs ds : List ℕ) → ((k : ℕ) → get_or bs k 0 < 256) → length bs ≡ bytes_for (count * w)
+    → counter ≡ count → left + counter * w ≡ 8 * length bs → length ds ≡ counter
     → fit w ds ≡ true → number w ds * 2 ^ left + rest ≡ number 8 bs → rest ≡ 0 → Packs w count bs ds
 all_read w count counter left rest bs ds bytes long all bits many fits is none =
     packs_from w count left bs ds bytes long (ap (λ n. left + n * w) (sym all) ∙ bits) (many ∙ all) fits (omega arith)

@@ -1,5 +1,6 @@
 -- What is read off the bytes of a schedule is the schedule.
-use Rattle.std.proofs.Common.{◌≡◌, ℕ, suc, ◌+◌, ◌-◌, ◌*◌, ◌/◌, ◌%◌, ◌^◌, ◌<◌, ◌≤◌, List, [], ◌∷◌, ◌++◌, Bool, true, false, ◌==◌, if◌then◌else◌, length, length-append, drop, slice_index, flat_map, bytes_eq, Some, None, inl, inr, refl, sym, ◌∙◌, ap, subst, arith}
+use Rattle.std.proofs.Common.{◌≡◌, ℕ, suc, ◌+◌, ◌-◌, ◌*◌, ◌/◌, ◌%◌, ◌^◌, ◌<◌, ◌≤◌, List, [], ◌∷◌, ◌++◌, Bool, true, false, ◌==◌, if◌then◌else◌}
+use Rattle.std.proofs.Common.{length, length-append, drop, slice_index, flat_map, bytes_eq, Some, None, inl, inr, refl, sym, ◌∙◌, ap, subst, arith}
 use Rattle.std.proofs.lemmas.Bool.{and_parts, and_from, leb-true, le-leb, eqb-true, eq-eqb, cond-true, cond-false, cases_eq, ne_eqb, false≢true}
 use Rattle.std.proofs.lemmas.List.{drop_at, drop-drop}
 use Rattle.std.specs.List.{list_all}
@@ -22,7 +23,8 @@ summed-differences c (d ∷ cs) ascending =
 
 pub differences-summed : (c : ℕ) (ds : List ℕ) → differences (summed c ds) ≡ ds
 differences-summed c [] = refl
-differences-summed c (d ∷ ds) = let step : c + d - c ≡ d = omega arith in ap (λ n. n ∷ differences (summed (c + d) ds)) step ∙ ap (λ l. d ∷ l) (differences-summed (c + d) ds)
+differences-summed c (d ∷ ds) = let step : c + d - c ≡ d = omega arith in ap (λ n. n ∷ differences (summed (c + d) ds)) step
+    ∙ ap (λ l. d ∷ l) (differences-summed (c + d) ds)
 
 pub length-following : (c : ℕ) (ds : List ℕ) → length (following c ds) ≡ length ds
 length-following c [] = refl
@@ -128,10 +130,12 @@ single_drop [] rest = refl
 single_drop (a ∷ acks) rest = refl
 
 -- schedules with equal parts
-same_parts : (boot : ℕ) (rank rank' gap gap' contend contend' : ℕ) (acks acks' : List Ask) (owners owners' : List ℕ) → rank ≡ rank' → gap ≡ gap' → contend ≡ contend' → acks ≡ acks' → owners ≡ owners'
+same_parts : (boot : ℕ) (rank rank' gap gap' contend contend' : ℕ) (acks acks' : List Ask) (owners owners' : List ℕ) → rank ≡ rank'
+    → gap ≡ gap' → contend ≡ contend' → acks ≡ acks' → owners ≡ owners'
     → schedule rank boot gap contend acks owners ≡ schedule rank' boot gap' contend' acks' owners'
 same_parts boot rank rank' gap gap' contend contend' acks acks' owners owners' p q r t u =
-    ap (λ n. schedule n boot gap contend acks owners) p ∙ ap (λ n. schedule rank' boot n contend acks owners) q ∙ ap (λ n. schedule rank' boot gap' n acks owners) r ∙ ap (λ l. schedule rank' boot gap' contend' l owners) t
+    ap (λ n. schedule n boot gap contend acks owners) p ∙ ap (λ n. schedule rank' boot n contend acks owners) q
+    ∙ ap (λ n. schedule rank' boot gap' n acks owners) r ∙ ap (λ l. schedule rank' boot gap' contend' l owners) t
     ∙ ap (λ l. schedule rank' boot gap' contend' acks' l) u
 
 module _ (s : Schedule) (slot counter : ℕ) (is : in_range s slot counter ≡ true) where
@@ -164,8 +168,10 @@ module _ (s : Schedule) (slot counter : ℕ) (is : in_range s slot counter ≡ t
       let most : most_acks p.contend ≡ 4 = cond-false (p.contend == 0) 1 4 (ne_eqb p.contend 0 some) in
       let count : head % 16 ≡ length p.acks = omega arith in
       let behind : drop (6 + 4 * (head % 16)) whole ≡ rest =
-      sym (drop-drop (4 * (head % 16)) 6 whole) ∙ ap (λ n. drop (4 * n) tail) count ∙ drop_at (flat_map ask_bytes p.acks) rest (4 * length p.acks) (length-asks p.acks) in
-      same_parts p.boot (mixed / 16) p.rank (mixed % 16) s.gap (head / 16 + 1) p.contend (asks_in (head % 16) tail) p.acks (owners_in (drop (6 + 4 * (head % 16)) whole)) p.owners
+      sym (drop-drop (4 * (head % 16)) 6 whole) ∙ ap (λ n. drop (4 * n) tail) count
+      ∙ drop_at (flat_map ask_bytes p.acks) rest (4 * length p.acks) (length-asks p.acks) in
+      same_parts p.boot (mixed / 16) p.rank (mixed % 16) s.gap (head / 16 + 1) p.contend (asks_in (head % 16) tail) p.acks
+      (owners_in (drop (6 + 4 * (head % 16)) whole)) p.owners
       (omega arith) (omega arith) (omega arith) (ap (λ n. asks_in n tail) count ∙ asks_back p.acks rest)
       (ap (λ l. owners_in l) behind ∙ owners_back p.owners parts.owners)
 
@@ -234,17 +240,31 @@ length-spelling s slot counter =
     let rest = length-owners s.plan.owners in
     let whole = length-append (acks_bytes s.plan.contend acks) (owners_bytes s.plan.owners) in
     let first : 5 + length (acks_bytes s.plan.contend acks) ≡ (if s.plan.contend == 0 then 9 else 6 + 4 * length acks) =
-    either (s.plan.contend == 0) (single_ack acks) (((s.plan.contend - 1) * 16 + length acks) ∷ flat_map ask_bytes acks) 9 (6 + 4 * length acks) (omega (arith, length-single acks)) (omega (arith, length-asks acks)) in
+    either (s.plan.contend == 0) (single_ack acks) (((s.plan.contend - 1) * 16 + length acks) ∷ flat_map ask_bytes acks) 9
+    (6 + 4 * length acks) (omega (arith, length-single acks)) (omega (arith, length-asks acks)) in
     omega arith
   where
-    either : (b : Bool) (xs ys : List ℕ) (m n : ℕ) → 5 + length xs ≡ m → 5 + length ys ≡ n → ◌≡◌ {A = ℕ} (5 + length (if b then xs else ys)) (if b then m else n)
+    either : (b : Bool) (xs ys : List ℕ) (m n : ℕ) → 5 + length xs ≡ m → 5 + length ys ≡ n
+        → ◌≡◌ {A = ℕ} (5 + length (if b then xs else ys)) (if b then m else n)
     either true xs ys m n p q = p
     either false xs ys m n p q = q
 
 -- what may be written is in range
-pub writable_in_range : (s : Schedule) (slot : ℕ) → IsWritable s slot → s.plan.rank ≤ 3 → are_acks s.plan.acks ≡ true → are_owners s.plan.owners ≡ true → in_range s slot 0 ≡ true
+pub writable_in_range : (s : Schedule) (slot : ℕ) → IsWritable s slot → s.plan.rank ≤ 3 → are_acks s.plan.acks ≡ true
+    → are_owners s.plan.owners ≡ true → in_range s slot 0 ≡ true
 writable_in_range s slot w rank acks owners =
-    range_from s slot 0 (record { count = omega arith; place = w.place; rank = rank; boot = w.boot; gap = w.gap; contend = w.contend; few = w.few; acks = w.acks; ordered = acks; owners = owners })
+    range_from s slot 0 (record {
+      count = omega arith;
+      place = w.place;
+      rank = rank;
+      boot = w.boot;
+      gap = w.gap;
+      contend = w.contend;
+      few = w.few;
+      acks = w.acks;
+      ordered = acks;
+      owners = owners;
+    })
 
 pub schedule_spelled : (s : Schedule) (slot counter : ℕ) → in_range s slot counter ≡ true → schedule_of (spelling s slot counter) ≡ Some s
 schedule_spelled s slot counter is = read_as (spelling s slot counter) s (spells_own s slot counter is)

@@ -1,5 +1,6 @@
 -- Bits that are written and read one number after another.
-use Rattle.std.proofs.Common.{◌≡◌, ℕ, ◌+◌, ◌-◌, ◌*◌, ◌/◌, ◌%◌, ◌^◌, ◌<◌, ◌≤◌, List, [], ◌∷◌, ◌++◌, true, length, refl, sym, ◌∙◌, ap, subst, arith, length-append, get_or, take, drop}
+use Rattle.std.proofs.Common.{◌≡◌, ℕ, ◌+◌, ◌-◌, ◌*◌, ◌/◌, ◌%◌, ◌^◌, ◌<◌, ◌≤◌, List, [], ◌∷◌, ◌++◌, true, length}
+use Rattle.std.proofs.Common.{refl, sym, ◌∙◌, ap, subst, arith, length-append, get_or, take, drop}
 use Rattle.std.proofs.Math.Nat.{mul-le-mul_right}
 use Rattle.std.proofs.lemmas.Bool.{and_from, lt-ltb}
 use Rattle.std.proofs.lemmas.List.{take_all}
@@ -32,7 +33,8 @@ mask : (k : ℕ) → k < 32 → 1 * 2 ^ k % 4294967296 ≡ 2 ^ k
 mask k few = one_shl k 32 few
 
 -- eight of the pending bits make a byte
-pub value_out : (bs : List ℕ) (p h k : ℕ) → h ≡ k + 8 → k < 32 → number 8 (bs ++ p / 2 ^ k ∷ []) * 2 ^ k + p % (1 * 2 ^ k % 4294967296) ≡ number 8 bs * 2 ^ h + p
+pub value_out : (bs : List ℕ) (p h k : ℕ) → h ≡ k + 8 → k < 32
+    → number 8 (bs ++ p / 2 ^ k ∷ []) * 2 ^ k + p % (1 * 2 ^ k % 4294967296) ≡ number 8 bs * 2 ^ h + p
 value_out bs p h k is few =
     let byte = ap (λ m. m * 2 ^ k) (number_push 8 bs (p / 2 ^ k)) in
     let rest = ap (λ m. p % m) (mask k few) in
@@ -55,7 +57,8 @@ byte_filled p h k is below = (
   (let fits : p * 2 ^ k < 2 ^ (h + k) = shl_below p h k below in subst (λ i. p * 2 ^ k < 2 ^ i) is fits),
 )
 
-pub filled_up : (bs : List ℕ) (p h k count value : ℕ) → 8 * length bs + h ≡ count → number 8 bs * 2 ^ h + p ≡ value → 0 < h → h + k ≡ 8 → p < 2 ^ h → fit 8 bs ≡ true
+pub filled_up : (bs : List ℕ) (p h k count value : ℕ) → 8 * length bs + h ≡ count → number 8 bs * 2 ^ h + p ≡ value → 0 < h → h + k ≡ 8
+    → p < 2 ^ h → fit 8 bs ≡ true
     → bs ++ p * 2 ^ k % 4294967296 ∷ [] ≡ digits 8 (bytes_for count) (value * 2 ^ fill count)
 filled_up bs p h k count value counted is some left below fits =
     let byte = byte_filled p h k left below in
@@ -74,7 +77,8 @@ filled_up bs p h k count value counted is some left below fits =
     ∙ ap (λ n. digits 8 (bytes_for count) n) (total ∙ ap (λ i. value * 2 ^ i) filling)
 
 -- nothing is left
-pub filled_already : (bs : List ℕ) (p count value : ℕ) → 8 * length bs + 0 ≡ count → number 8 bs * 2 ^ 0 + p ≡ value → p < 1 → fit 8 bs ≡ true → bs ≡ digits 8 (bytes_for count) (value * 2 ^ fill count)
+pub filled_already : (bs : List ℕ) (p count value : ℕ) → 8 * length bs + 0 ≡ count → number 8 bs * 2 ^ 0 + p ≡ value → p < 1
+    → fit 8 bs ≡ true → bs ≡ digits 8 (bytes_for count) (value * 2 ^ fill count)
 filled_already bs p count value counted is below fits =
     let long : length bs ≡ bytes_for count = omega arith in
     let filling : 0 ≡ fill count = omega arith in
@@ -85,14 +89,16 @@ filled_already bs p count value counted is below fits =
 
 -- the first byte joins the pending bits
 pub value_in : (bs : List ℕ) (p b : ℕ) → 1 ≤ length bs → b ≡ get_or bs 0 0
-    → (let rest = take (length bs - 1) (drop 1 bs) in (length rest + 1 ≡ length bs) × ((p * 256 + b) * 2 ^ (length rest * 8) + number 8 rest ≡ p * 2 ^ (length bs * 8) + number 8 bs))
+    → (let rest = take (length bs - 1) (drop 1 bs) in
+    (length rest + 1 ≡ length bs) × ((p * 256 + b) * 2 ^ (length rest * 8) + number 8 rest ≡ p * 2 ^ (length bs * 8) + number 8 bs))
 value_in [] p b some is = absurd (omega arith)
 value_in (x ∷ xs) p b some is =
     let left : take (length (x ∷ xs) - 1) xs ≡ xs = take_all (length (x ∷ xs) - 1) xs (omega arith) in
     let first = ap (λ n. n * 2 ^ (length xs * 8)) is in
     let cons = number_cons 8 x xs in
     let power = ap (λ m. p * m) (power_more 8 (length xs)) in
-    subst (λ (l : List ℕ). (length l + 1 ≡ length (x ∷ xs)) × ((p * 256 + b) * 2 ^ (length l * 8) + number 8 l ≡ p * 2 ^ (length (x ∷ xs) * 8) + number 8 (x ∷ xs))) (sym left)
+    subst (λ (l : List ℕ). (length l + 1 ≡ length (x ∷ xs))
+    × ((p * 256 + b) * 2 ^ (length l * 8) + number 8 l ≡ p * 2 ^ (length (x ∷ xs) * 8) + number 8 (x ∷ xs))) (sym left)
     (omega arith, omega arith)
 
 pub below_in : (p h b : ℕ) → p < 2 ^ h → b < 256 → p * 256 + b < 2 ^ (h + 8)

@@ -1,5 +1,6 @@
 -- The least width of numbers, and the differences of codes.
-use Rattle.std.proofs.Common.{◌≡◌, ℕ, zero, suc, ◌+◌, ◌-◌, ◌<◌, ◌≤◌, List, [], ◌∷◌, Bool, true, false, length, take, drop, get_or, refl, ◌∙◌, ap, subst, arith, nat_le}
+use Rattle.std.proofs.Common.{◌≡◌, ℕ, zero, suc, ◌+◌, ◌-◌, ◌<◌, ◌≤◌, List, [], ◌∷◌, Bool, true, false}
+use Rattle.std.proofs.Common.{length, take, drop, get_or, refl, ◌∙◌, ap, subst, arith, nat_le}
 use Rattle.std.proofs.lemmas.Bool.{and_parts, and_from, leb-true, lt-ltb, cond-true, cond-false, cond_both}
 use Rattle.std.proofs.lemmas.List.{drop_more, take_all}
 use Rattle.std.specs.List.{list_all}
@@ -33,11 +34,13 @@ least_passes zero w passes last = let same : w + 0 ≡ w = omega arith in (subst
 least_passes (suc n) w passes last =
     let same : w + suc n ≡ (w + 1) + n = omega arith in
     let rest = least_passes n (w + 1) passes (subst (λ k. passes k ≡ true) same last) in
-    cond_both (passes w) w (least n (w + 1) passes) (λ k. (passes k ≡ true) × (k ≤ w + suc n)) (λ pass. (pass, omega arith)) (λ fails. (rest.0, omega (arith, rest.1)))
+    cond_both (passes w) w (least n (w + 1) passes) (λ k. (passes k ≡ true) × (k ≤ w + suc n)) (λ pass. (pass, omega arith))
+    (λ fails. (rest.0, omega (arith, rest.1)))
 
 -- the next code, from the last
 pub next_code : (last : ℕ) (rest : List ℕ) (i : ℕ) → i < length rest → ascend (last ∷ drop i rest) ≡ true
-    → (last ≤ get_or rest i 0) × (ascend (get_or rest i 0 ∷ drop (i + 1) rest) ≡ true) × (differences (last ∷ drop i rest) ≡ (get_or rest i 0 - last) ∷ differences (get_or rest i 0 ∷ drop (i + 1) rest))
+    → (last ≤ get_or rest i 0) × (ascend (get_or rest i 0 ∷ drop (i + 1) rest) ≡ true)
+    × (differences (last ∷ drop i rest) ≡ (get_or rest i 0 - last) ∷ differences (get_or rest i 0 ∷ drop (i + 1) rest))
 next_code last rest i below ascending =
     let more = drop_more rest i 0 below in
     let parts = and_parts _ _ (subst (λ (l : List ℕ). ascend (last ∷ l) ≡ true) more ascending) in

@@ -1,6 +1,7 @@
 -- The schedule whose bytes a packet is. What its bytes would say is read off them, and then spelled again: no other
 -- bytes are a spelling.
-use Rattle.std.specs.Prelude.{ℕ, zero, suc, ◌+◌, ◌-◌, ◌*◌, ◌/◌, ◌%◌, ◌^◌, List, [], ◌∷◌, Bool, ◌==◌, if◌then◌else◌, length, drop, slice_index, is_some, Some, None}
+use Rattle.std.specs.Prelude.{ℕ, zero, suc, ◌+◌, ◌-◌, ◌*◌, ◌/◌, ◌%◌, ◌^◌, List, [], ◌∷◌, Bool, ◌==◌}
+use Rattle.std.specs.Prelude.{if◌then◌else◌, length, drop, slice_index, is_some, Some, None}
 use Rattle.std.specs.declared.option.Option.{Option}
 use Rattle.lwb_base.specs.Messages.{Ask, Schedule}
 use Rattle.lwb_packets.specs.TwoBytes.{number_of_two}

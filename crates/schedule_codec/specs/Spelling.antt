@@ -1,5 +1,6 @@
 -- The bytes of a schedule, by slot and counter.
-use Rattle.std.specs.Prelude.{◌≡◌, ◌≤◌, true, ℕ, ◌+◌, ◌-◌, ◌*◌, List, [], ◌∷◌, ◌++◌, Bool, ◌&&◌, ◌==◌, nat_le, if◌then◌else◌, length, flat_map, slice_index, bytes_eq}
+use Rattle.std.specs.Prelude.{◌≡◌, ◌≤◌, true, ℕ, ◌+◌, ◌-◌, ◌*◌, List, [], ◌∷◌, ◌++◌, Bool, ◌&&◌, ◌==◌}
+use Rattle.std.specs.Prelude.{nat_le, if◌then◌else◌, length, flat_map, slice_index, bytes_eq}
 use Rattle.std.specs.List.{list_all}
 use Rattle.lwb_base.specs.Messages.{Ask, Schedule, greatest_slot}
 use Rattle.lwb_packets.specs.Ranges.{between}
@@ -20,7 +21,8 @@ abbrev pub kind_byte : ℕ → ℕ
 kind_byte contend = if contend == 0 then 1 else 4
 
 abbrev pub spelling : Schedule → ℕ → ℕ → List ℕ
-spelling s slot counter = kind_byte s.plan.contend ∷ slot ∷ counter ∷ (s.plan.rank * 16 + s.gap) ∷ s.plan.boot ∷ acks_bytes s.plan.contend s.plan.acks ++ owners_bytes s.plan.owners
+spelling s slot counter = kind_byte s.plan.contend ∷ slot ∷ counter ∷ (s.plan.rank * 16 + s.gap) ∷ s.plan.boot
+    ∷ acks_bytes s.plan.contend s.plan.acks ++ owners_bytes s.plan.owners
 
 abbrev pub most_acks : ℕ → ℕ
 most_acks contend = if contend == 0 then 1 else 4

@@ -10,7 +10,8 @@ module _ (node boot frame : ℕ) (s : Schedule) (before known answered named : S
     (third : named ≡ fold (owns node frame) answered s.plan.owners) where
   parts : named ≡ fold (owns node frame) (fold (acknowledged node boot frame) (heard_host s.plan.rank s.plan.boot before) s.plan.acks) s.plan.owners
   parts =
-      third ∙ ap (λ (x : Streams). fold (owns node frame) x s.plan.owners) (second ∙ ap (λ (x : Streams). fold (acknowledged node boot frame) x s.plan.acks) first)
+      third ∙ ap (λ (x : Streams). fold (owns node frame) x s.plan.owners)
+      (second ∙ ap (λ (x : Streams). fold (acknowledged node boot frame) x s.plan.acks) first)
 
   pub opening_heard : s.gap ≡ 0 → named ≡ schedule_heard node boot frame s before
   unfolding schedule_heard

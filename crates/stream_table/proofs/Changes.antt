@@ -1,5 +1,6 @@
 -- The entries after one of them changed, or went, or came.
-use Rattle.std.proofs.Common.{◌≡◌, ◌≢◌, ℕ, ◌+◌, ◌<◌, ◌≤◌, List, [], ◌∷◌, Bool, true, false, nat_lt, not, cond, is_some, length, get_or, set, map, filter, filter_map, Option, Some, None, refl, sym, ◌∙◌, ap, subst, arith, eq-eqb}
+use Rattle.std.proofs.Common.{◌≡◌, ◌≢◌, ℕ, ◌+◌, ◌<◌, ◌≤◌, List, [], ◌∷◌, Bool, true, false, nat_lt, not, cond, is_some, length, get_or}
+use Rattle.std.proofs.Common.{set, map, filter, filter_map, Option, Some, None, refl, sym, ◌∙◌, ap, subst, arith, eq-eqb}
 use Rattle.std.specs.List.{remove, cons_option}
 use Rattle.std.specs.Option.{IfSome, option_map_or}
 use Rattle.std.proofs.lemmas.Bool.{ne_eqb, lt-ltb, le-ltb, ltb-true, ltb-false}
@@ -28,7 +29,8 @@ missed_others : (c : ℕ) (e : Entry) → e.code ≢ c → missed c e ≡ Some e
 missed_others c e other = rw (ne_eqb e.code c other) refl
 
 -- a change of the entry alone
-changed : (f : ℕ → Entry → Entry) (es : List Entry) (c n : ℕ) (at : IsAt code_in es c n) (x new : Entry) (out : List Entry) → ((e : Entry) → e.code ≢ c → f c e ≡ e) → AreEntries es
+changed : (f : ℕ → Entry → Entry) (es : List Entry) (c n : ℕ) (at : IsAt code_in es c n) (x new : Entry) (out : List Entry)
+    → ((e : Entry) → e.code ≢ c → f c e ≡ e) → AreEntries es
     → x ≡ get_or es n x → new ≡ f x.code x → out ≡ set es n new → out ≡ map (f c) es
 changed f es c n at x new out others are read now is =
     let same = read_is es c n at x read in
@@ -48,7 +50,8 @@ seen_keeps c = record { code = λ e. refl }
 granted_keeps : (c : ℕ) → Keeps (granted_once c)
 granted_keeps c = record { code = λ e. refl }
 
-pub heard_is : (es : List Entry) (c n : ℕ) (at : IsAt code_in es c n) (x new : Entry) (out : List Entry) → AreEntries es → x ≡ get_or es n x → new ≡ seen x.code x → out ≡ set es n new → out ≡ map (seen c) es
+pub heard_is : (es : List Entry) (c n : ℕ) (at : IsAt code_in es c n) (x new : Entry) (out : List Entry) → AreEntries es → x ≡ get_or es n x
+    → new ≡ seen x.code x → out ≡ set es n new → out ≡ map (seen c) es
 heard_is es c n at x new out are read now is = changed seen es c n at x new out (seen_others c) are read now is
 
 pub heard_kept : (es out : List Entry) (c : ℕ) → AreEntries es → out ≡ map (seen c) es → AreEntries out
@@ -57,7 +60,8 @@ heard_kept es out c are is = kept_map (seen c) es out (seen_keeps c) are is
 pub heard_none : (es : List Entry) (c n : ℕ) → IsGap code_in es c n → es ≡ map (seen c) es
 heard_none es c n gap = sym (map_none (seen c) c (seen_others c) es gap.missing)
 
-pub granted_is : (es : List Entry) (c n : ℕ) (at : IsAt code_in es c n) (x new : Entry) (out : List Entry) → AreEntries es → x ≡ get_or es n x → new ≡ granted_once x.code x → out ≡ set es n new → out ≡ map (granted_once c) es
+pub granted_is : (es : List Entry) (c n : ℕ) (at : IsAt code_in es c n) (x new : Entry) (out : List Entry) → AreEntries es
+    → x ≡ get_or es n x → new ≡ granted_once x.code x → out ≡ set es n new → out ≡ map (granted_once c) es
 granted_is es c n at x new out are read now is = changed granted_once es c n at x new out (granted_others c) are read now is
 
 pub granted_kept : (es out : List Entry) (c : ℕ) → AreEntries es → out ≡ map (granted_once c) es → AreEntries out
@@ -66,7 +70,8 @@ granted_kept es out c are is = kept_map (granted_once c) es out (granted_keeps c
 pub granted_none : (es : List Entry) (c n : ℕ) → IsGap code_in es c n → es ≡ map (granted_once c) es
 granted_none es c n gap = sym (map_none (granted_once c) c (granted_others c) es gap.missing)
 
-pub granted_less : (es : List Entry) (c n : ℕ) (at : IsAt code_in es c n) (x : Entry) (m : ℕ) → AreEntries es → x ≡ get_or es n x → IfSome (entry_of es c) (λ e. e.granted < m) → x.granted < m
+pub granted_less : (es : List Entry) (c n : ℕ) (at : IsAt code_in es c n) (x : Entry) (m : ℕ) → AreEntries es → x ≡ get_or es n x
+    → IfSome (entry_of es c) (λ e. e.granted < m) → x.granted < m
 granted_less es c n at x m are read bound =
     let here : at.item.granted < m = subst (λ (o : Option Entry). IfSome o (λ e. e.granted < m)) (found es c n at are) bound in
     subst (λ (e : Entry). e.granted < m) (sym (read_is es c n at x read)) here
@@ -116,7 +121,8 @@ length_sifted : (g : Entry → Option Entry) (es : List Entry) → length (filte
 length_sifted g [] = omega arith
 length_sifted g (e ∷ es) = omega (arith, length_option (g e) (filter_map g es) es (length_sifted g es))
 
-missed_cases : (c : ℕ) (e : Entry) (same few : Bool) → IfSome (cond same (cond few (Some (record e { unheard = e.unheard + 1 })) None) (Some e)) (λ x. x.code ≡ e.code)
+missed_cases : (c : ℕ) (e : Entry) (same few : Bool)
+    → IfSome (cond same (cond few (Some (record e { unheard = e.unheard + 1 })) None) (Some e)) (λ x. x.code ≡ e.code)
 missed_cases c e true true = refl
 missed_cases c e true false = tt
 missed_cases c e false few = refl
@@ -125,7 +131,10 @@ missed_sifts : (c : ℕ) → Sifts (missed c)
 missed_sifts c = record { code = λ e. missed_cases c e (has_code c e) (nat_lt (e.unheard + 1) 16) }
 
 pub missed_kept : (es out : List Entry) (c : ℕ) → AreEntries es → out ≡ filter_map (missed c) es → AreEntries out
-missed_kept es out c are is = subst AreEntries (sym is) (record { few = omega (arith, are.few, length_sifted (missed c) es); ascends = ascends_filter_map (missed c) es (missed_sifts c) are.ascends })
+missed_kept es out c are is = subst AreEntries (sym is) (record {
+  few = omega (arith, are.few, length_sifted (missed c) es);
+  ascends = ascends_filter_map (missed c) es (missed_sifts c) are.ascends;
+})
 
 pub missed_none : (es : List Entry) (c n : ℕ) → IsGap code_in es c n → es ≡ filter_map (missed c) es
 missed_none es c n gap = sym (sift_none (missed c) c (missed_others c) es gap.missing)
@@ -160,6 +169,7 @@ pub is_missing : (es : List Entry) (c n : ℕ) → IsGap code_in es c n → fals
 is_missing es c n gap = sym (ap is_some gap.missing)
 
 -- what is read off the entry is what the table has of its owner
-pub value_at : (f : Entry → ℕ) (es : List Entry) (c n : ℕ) (at : IsAt code_in es c n) (x : Entry) → AreEntries es → x ≡ get_or es n x → f x ≡ option_map_or f (entry_of es c) 0
+pub value_at : (f : Entry → ℕ) (es : List Entry) (c n : ℕ) (at : IsAt code_in es c n) (x : Entry) → AreEntries es → x ≡ get_or es n x
+    → f x ≡ option_map_or f (entry_of es c) 0
 value_at f es c n at x are read =
     ap f (read_is es c n at x read) ∙ sym (ap (λ (o : Option Entry). option_map_or f o 0) (found es c n at are))

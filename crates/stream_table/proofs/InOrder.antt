@@ -1,5 +1,6 @@
 -- The entries of a table as a list in the order of its codes.
-use Rattle.std.proofs.Common.{◌≡◌, ◌∙◌, ℕ, ◌≤◌, List, [], ◌∷◌, Bool, true, false, not, ◌&&◌, ◌||◌, ◌==◌, nat_lt, if◌then◌else◌, is_some, is_none, length, Option, Some, None, refl, ap}
+use Rattle.std.proofs.Common.{◌≡◌, ◌∙◌, ℕ, ◌≤◌, List, [], ◌∷◌, Bool, true, false, not, ◌&&◌, ◌||◌, ◌==◌, nat_lt}
+use Rattle.std.proofs.Common.{if◌then◌else◌, is_some, is_none, length, Option, Some, None, refl, ap}
 use Rattle.code_order.specs.Order as order
 use Rattle.bus_rules.specs.Tables.{Entry, Above, Ascends, AreEntries, code_in, entry_of, with_entry}
 use Rattle.stream_table.specs.Entries.{is_full_for}
@@ -27,10 +28,12 @@ pub placed_is : (e : Entry) (es : List Entry) → order.placed code_in e es ≡ 
 placed_is e [] = refl
 placed_is e (x ∷ es) = ap (λ (l : List Entry). if e.code == x.code then e ∷ es else if nat_lt e.code x.code then e ∷ x ∷ es else x ∷ l) (placed_is e es)
 
-by_room : (o : Option Entry) (room : Bool) (xs ys old : List Entry) → xs ≡ ys → (if is_some o || room then xs else old) ≡ (if is_none o && not room then old else ys)
+by_room : (o : Option Entry) (room : Bool) (xs ys old : List Entry) → xs ≡ ys
+    → (if is_some o || room then xs else old) ≡ (if is_none o && not room then old else ys)
 by_room None true xs ys old same = same
 by_room None false xs ys old same = refl
 by_room (Some x) room xs ys old same = same
 
-pub put_is : (e : Entry) (es after : List Entry) → after ≡ (if order.finds_room code_in 32 es e.code then order.placed code_in e es else es) → after ≡ (if is_full_for es e.code then es else with_entry e es)
+pub put_is : (e : Entry) (es after : List Entry) → after ≡ (if order.finds_room code_in 32 es e.code then order.placed code_in e es else es)
+    → after ≡ (if is_full_for es e.code then es else with_entry e es)
 put_is e es after is = is ∙ by_room (entry_of es e.code) (nat_lt (length es) 32) (order.placed code_in e es) (with_entry e es) es (placed_is e es)

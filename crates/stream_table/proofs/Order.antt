@@ -1,5 +1,6 @@
 -- Entries whose codes ascend.
-use Rattle.std.proofs.Common.{◌≡◌, ◌≢◌, ℕ, zero, suc, ◌<◌, List, [], ◌∷◌, Bool, true, false, ◌==◌, cond, map, filter, filter_map, Option, Some, None, refl, sym, subst, arith}
+use Rattle.std.proofs.Common.{◌≡◌, ◌≢◌, ℕ, zero, suc, ◌<◌, List, [], ◌∷◌, Bool, true, false, ◌==◌, cond, map}
+use Rattle.std.proofs.Common.{filter, filter_map, Option, Some, None, refl, sym, subst, arith}
 use Rattle.std.specs.List.{slice_get, cons_option}
 use Rattle.std.specs.Option.{IfSome}
 use Rattle.std.proofs.lemmas.Bool.{ne_eqb, eqb-false}
@@ -61,7 +62,8 @@ ascends_option e (Some x) es is above up = (subst (λ (c : ℕ). Above c es) (sy
 
 pub ascends_filter_map : (g : Entry → Option Entry) (es : List Entry) → Sifts g → Ascends es → Ascends (filter_map g es)
 ascends_filter_map g [] sifts up = tt
-ascends_filter_map g (e ∷ es) sifts up = ascends_option e (g e) (filter_map g es) (sifts.code e) (above_filter_map g e.code es sifts up.0) (ascends_filter_map g es sifts up.1)
+ascends_filter_map g (e ∷ es) sifts up = ascends_option e (g e) (filter_map g es) (sifts.code e) (above_filter_map g e.code es sifts up.0)
+    (ascends_filter_map g es sifts up.1)
 
 above_cond : (c : ℕ) (e : Entry) (b : Bool) (es : List Entry) → c < e.code → Above c es → Above c (cond b (e ∷ es) es)
 above_cond c e true es less rest = (less, rest)

@@ -12,24 +12,28 @@ Passes passes n t = (passes n ≡ true) × (n ≤ t)
 abbrev next : (ℕ → Bool) → ℕ → Bool
 next passes t = passes (suc t)
 
-passes_rest : (passes : ℕ → Bool) (n t : ℕ) → ((s : ℕ) → s < n → passes (suc s) ≡ true → Passes (next passes) (least n (next passes)) s) → t < suc n → passes t ≡ true → passes zero ≡ false → Passes passes (suc (least n (next passes))) t
+passes_rest : (passes : ℕ → Bool) (n t : ℕ) → ((s : ℕ) → s < n → passes (suc s) ≡ true → Passes (next passes) (least n (next passes)) s)
+    → t < suc n → passes t ≡ true → passes zero ≡ false → Passes passes (suc (least n (next passes))) t
 passes_rest passes n zero rest below at first = absurd (true≢false (sym at ∙ first))
 passes_rest passes n (suc s) rest below at first = let r = rest s (omega arith) at in (r.0, omega arith)
 
-passes_by : (passes : ℕ → Bool) (n t : ℕ) (b : Bool) → passes zero ≡ b → (passes zero ≡ false → Passes passes (suc n) t) → Passes passes (if b then zero else suc n) t
+passes_by : (passes : ℕ → Bool) (n t : ℕ) (b : Bool) → passes zero ≡ b → (passes zero ≡ false → Passes passes (suc n) t)
+    → Passes passes (if b then zero else suc n) t
 passes_by passes n t true first rest = (first, omega arith)
 passes_by passes n t false first rest = rest first
 
 pub least_passes : (n : ℕ) (passes : ℕ → Bool) (t : ℕ) → t < n → passes t ≡ true → Passes passes (least n passes) t
 unfolding least
 least_passes zero passes t below at = absurd (omega arith)
-least_passes (suc n) passes t below at = passes_by passes (least n (next passes)) t (passes zero) refl (λ first. passes_rest passes n t (λ s. least_passes n (next passes) s) below at first)
+least_passes (suc n) passes t below at = passes_by passes (least n (next passes)) t (passes zero) refl
+    (λ first. passes_rest passes n t (λ s. least_passes n (next passes) s) below at first)
 
 fails_rest : (passes : ℕ → Bool) (n s : ℕ) → ((s : ℕ) → s < n → passes (suc s) ≡ false) → passes zero ≡ false → s < suc n → passes s ≡ false
 fails_rest passes n zero rest first before = first
 fails_rest passes n (suc s) rest first before = rest s (omega arith)
 
-fails_by : (passes : ℕ → Bool) (n s : ℕ) (b : Bool) → passes zero ≡ b → ((s : ℕ) → s < n → passes (suc s) ≡ false) → s < (if b then zero else suc n) → passes s ≡ false
+fails_by : (passes : ℕ → Bool) (n s : ℕ) (b : Bool) → passes zero ≡ b → ((s : ℕ) → s < n → passes (suc s) ≡ false)
+    → s < (if b then zero else suc n) → passes s ≡ false
 fails_by passes n s true first rest before = absurd (omega arith)
 fails_by passes n s false first rest before = fails_rest passes n s rest first before
 
@@ -47,7 +51,8 @@ least_at_most (suc n) passes = at_most_by (least n (next passes)) n (passes zero
     at_most_by l n true order = omega arith
     at_most_by l n false order = omega arith
 
-found_by : (passes : ℕ → Bool) (n l : ℕ) (b : Bool) → passes zero ≡ b → (l < n → passes (suc l) ≡ true) → (if b then zero else suc l) < suc n → passes (if b then zero else suc l) ≡ true
+found_by : (passes : ℕ → Bool) (n l : ℕ) (b : Bool) → passes zero ≡ b → (l < n → passes (suc l) ≡ true)
+    → (if b then zero else suc l) < suc n → passes (if b then zero else suc l) ≡ true
 found_by passes n l true first rest below = first
 found_by passes n l false first rest below = rest (omega arith)
 
@@ -68,7 +73,8 @@ found L x clock within = omega (arith, rounded L 0 (x + x / 40000 + 2) (x + x / 
 
 due_soon : (L : ℕ → ℕ) (x : ℕ) → IsClock L → x + x / 40000 + 2 ≤ 2 ^ 48 → due L x ≤ x + x / 40000 + 2
 unfolding due
-due_soon L x clock within = (least_passes (x + x / 40000 + 3) (reads L x) (x + x / 40000 + 2) (omega arith) (le-leb x (L (x + x / 40000 + 2)) (found L x clock within))).1
+due_soon L x clock within = (least_passes (x + x / 40000 + 3) (reads L x) (x + x / 40000 + 2) (omega arith)
+    (le-leb x (L (x + x / 40000 + 2)) (found L x clock within))).1
 
 due_bound : (L : ℕ → ℕ) (x : ℕ) → due L x ≤ x + x / 40000 + 3
 unfolding due
@@ -103,7 +109,8 @@ due_iff L x t clock within =
     (λ at. (let m = never_back L (due L x) t clock at within in omega (arith, reads_at_due L x clock (omega arith))), due_at_most L x t)
 
 pub due_after : (L : ℕ → ℕ) (x t : ℕ) → IsClock L → t ≤ 2 ^ 48 → L t < x → t < due L x
-due_after L x t clock within early = elim (cases_lt t (due L x)) [ inl before ↦ before | inr late ↦ absurd (omega (arith, (due_iff L x t clock within).0 late)) ]
+due_after L x t clock within early =
+    elim (cases_lt t (due L x)) [ inl before ↦ before | inr late ↦ absurd (omega (arith, (due_iff L x t clock within).0 late)) ]
 
 pub due_monotone : (L : ℕ → ℕ) (x y : ℕ) → x ≤ y → due L x ≤ due L y
 due_monotone L x y order =

@@ -1,5 +1,6 @@
 -- How segments are kept, one after another, from rates that are in order.
-use Rattle.std.proofs.Common.{◌≡◌, ℕ, suc, ◌+◌, ◌-◌, ◌*◌, ◌^◌, ◌<◌, ◌≤◌, List, [], ◌∷◌, ◌++◌, length, drop, map, Bool, true, false, cond, Option, Some, None, option_map, refl, sym, ◌∙◌, ap, subst, arith}
+use Rattle.std.proofs.Common.{◌≡◌, ℕ, suc, ◌+◌, ◌-◌, ◌*◌, ◌^◌, ◌<◌, ◌≤◌, List, [], ◌∷◌, ◌++◌, length, drop, map, Bool, true}
+use Rattle.std.proofs.Common.{false, cond, Option, Some, None, option_map, refl, sym, ◌∙◌, ap, subst, arith}
 use Rattle.std.specs.Prelude.{ℤ, ⊤, All}
 use Rattle.std.specs.List.{zip, position_from}
 use Rattle.std.specs.Int.RustNames.{unsigned_abs}
@@ -25,14 +26,19 @@ none_head : (b : Bool) (i : ℕ) (o : Option ℕ) → cond b (Some i) o ≡ None
 none_head true i o is = cc
 none_head false i o is = (refl, is)
 
-in_order_from : (low i j : ℕ) (rs : List (ℕ × ℤ)) → FirstFrom low rs → position_from is_wild i rs ≡ None → position_from is_late j (zip rs (drop 1 rs)) ≡ None → All (λ r. r.0 < 2 ^ 47) rs → InOrder low rs
+in_order_from : (low i j : ℕ) (rs : List (ℕ × ℤ)) → FirstFrom low rs → position_from is_wild i rs ≡ None
+    → position_from is_late j (zip rs (drop 1 rs)) ≡ None → All (λ r. r.0 < 2 ^ 47) rs → InOrder low rs
 in_order_from low i j [] from wild late starts = tt
 in_order_from low i j (x ∷ []) from wild late starts = (from, starts 0 x (omega arith), ltb-false 20 (unsigned_abs x.1) (none_head _ _ _ wild).0, tt)
 in_order_from low i j (x ∷ y ∷ ys) from wild late starts =
     let w = none_head (is_wild x) i (position_from is_wild (i + 1) (y ∷ ys)) wild in
     let l = none_head (is_late (x, y)) j (position_from is_late (j + 1) (zip (y ∷ ys) ys)) late in
-    let later : x.0 < y.0 = leb-false y.0 x.0 l.0 in
-    (from, starts 0 x (omega arith), ltb-false 20 (unsigned_abs x.1) w.0, in_order_from x.0 (i + 1) (j + 1) (y ∷ ys) (omega arith) w.1 l.1 (λ k d within. starts (suc k) d (omega arith)))
+    let later : x.0 < y.0 = leb-false y.0 x.0 l.0 in (
+      from,
+      starts 0 x (omega arith),
+      ltb-false 20 (unsigned_abs x.1) w.0,
+      in_order_from x.0 (i + 1) (j + 1) (y ∷ ys) (omega arith) w.1 l.1 (λ k d within. starts (suc k) d (omega arith)),
+    )
 
 none_mapped : (o : Option ℕ) → option_map {U = ℕ} (λ i. i + 1) o ≡ None → o ≡ None
 none_mapped None is = refl
@@ -44,7 +50,8 @@ first_from_zero (r ∷ rs) = omega arith
 
 pub in_order : (rs : List (ℕ × ℤ)) → wild_at rs ≡ None → unordered_at rs ≡ None → All (λ r. r.0 < 2 ^ 47) rs → InOrder 0 rs
 in_order rs wild late starts =
-    in_order_from 0 0 0 rs (first_from_zero rs) (sym (position_from-zero is_wild rs) ∙ wild) (sym (position_from-zero is_late (zip rs (drop 1 rs))) ∙ none_mapped _ late) starts
+    in_order_from 0 0 0 rs (first_from_zero rs) (sym (position_from-zero is_wild rs) ∙ wild)
+    (sym (position_from-zero is_late (zip rs (drop 1 rs))) ∙ none_mapped _ late) starts
 
 -- its count is within the clock's range
 pub record IsSmall (s : Segment) : Type 0 where
@@ -53,7 +60,8 @@ pub record IsSmall (s : Segment) : Type 0 where
   pub count : s.count ≤ 1000020 * s.start
 
 -- the next segment follows
-pub next_follows : (r s : Segment) → IsSmall r → r.start ≤ s.start → s.start < 2 ^ 47 → unsigned_abs s.ppm ≤ 20 → s.count ≡ counted r s.start → Follows r s × IsSmall s
+pub next_follows : (r s : Segment) → IsSmall r → r.start ≤ s.start → s.start < 2 ^ 47 → unsigned_abs s.ppm ≤ 20
+    → s.count ≡ counted r s.start → Follows r s × IsSmall s
 next_follows r s small order start rate is =
     let most : pace_of r.ppm * (s.start - r.start) ≤ 1000020 * (s.start - r.start) = mul-le-mul_right (s.start - r.start) (pace_range r.ppm small.rate).1 in
     ((order, start, rate, omega arith, omega arith), record { start = start; rate = rate; count = omega (arith, most, small.count) })

@@ -1,5 +1,6 @@
 -- What a clock counts along its kept segments.
-use Rattle.std.proofs.Common.{◌≡◌, ℕ, zero, suc, ◌+◌, ◌-◌, ◌*◌, ◌^◌, ◌<◌, ◌≤◌, List, [], ◌∷◌, length, Bool, true, false, if◌then◌else◌, map, get_or, inl, inr, refl, sym, ◌∙◌, ap, subst, arith}
+use Rattle.std.proofs.Common.{◌≡◌, ℕ, zero, suc, ◌+◌, ◌-◌, ◌*◌, ◌^◌, ◌<◌, ◌≤◌, List, [], ◌∷◌, length, Bool, true, false}
+use Rattle.std.proofs.Common.{if◌then◌else◌, map, get_or, inl, inr, refl, sym, ◌∙◌, ap, subst, arith}
 use Rattle.std.specs.Prelude.{ℤ}
 use Rattle.std.specs.List.{AllWithin}
 use Rattle.std.specs.List.Sorted.{IsNonDecreasingBy}
@@ -17,21 +18,25 @@ use Rattle.tick_clock.specs.RatesLaw.{count_before, AreTame, count_range}
 use Rattle.tick_clock.specs.Segments.{has_begun, counts_less, Splits, IsLast, entry_of, pace_of, counted, first_segment, Follows, AreKept, last_of}
 use Rattle.tick_clock.specs.KeptLaw.{tame_of}
 
-pub splits_from : (passes : Segment → Bool) (ss : List Segment) (i : ℕ) → i ≤ length ss → AllWithin (λ s. passes s ≡ true) ss 0 i → AllWithin (λ s. passes s ≡ false) ss i (length ss) → Splits passes ss i
+pub splits_from : (passes : Segment → Bool) (ss : List Segment) (i : ℕ) → i ≤ length ss → AllWithin (λ s. passes s ≡ true) ss 0 i
+    → AllWithin (λ s. passes s ≡ false) ss i (length ss) → Splits passes ss i
 splits_from passes [] zero within in_front after = tt
 splits_from passes [] (suc i) within in_front after = absurd (omega arith)
 splits_from passes (s ∷ ss) zero within in_front after = after 0 s (omega arith) (omega arith)
 splits_from passes (s ∷ ss) (suc i) within in_front after = (
   in_front 0 s (omega arith) (omega arith),
-  splits_from passes ss i (omega arith) (λ k d low high. in_front (suc k) d (omega arith) (omega arith)) (λ k d low high. after (suc k) d (omega arith) (omega arith)),
+  splits_from passes ss i (omega arith) (λ k d low high. in_front (suc k) d (omega arith) (omega arith))
+      (λ k d low high. after (suc k) d (omega arith) (omega arith)),
 )
 
-chosen : (z w : ℤ) (xs : List Segment) (s : ℕ) (b : Bool) {a : Bool} → a ≡ b → rate_from (if a then w else z) (map entry_of xs) s ≡ rate_from (if b then w else z) (map entry_of xs) s
+chosen : (z w : ℤ) (xs : List Segment) (s : ℕ) (b : Bool) {a : Bool} → a ≡ b
+    → rate_from (if a then w else z) (map entry_of xs) s ≡ rate_from (if b then w else z) (map entry_of xs) s
 chosen z w xs s b is = ap (λ (c : Bool). rate_from (if c then w else z) (map entry_of xs) s) is
 
 quiet_after : (z : ℤ) (x : Segment) (xs : List Segment) (s : ℕ) → AreKept x xs → s < x.start → rate_from z (map entry_of xs) s ≡ z
 quiet_after z x [] s kept early = refl
-quiet_after z x (y ∷ ys) s kept early = let later : s < y.start = omega (arith, kept.0) in chosen z y.ppm ys s false (lt-leb y.start s later) ∙ quiet_after z y ys s kept.1 later
+quiet_after z x (y ∷ ys) s kept early = let later : s < y.start = omega (arith, kept.0) in
+    chosen z y.ppm ys s false (lt-leb y.start s later) ∙ quiet_after z y ys s kept.1 later
 
 -- before the next segment its rate is not in force
 quiet : (z : ℤ) (x : Segment) (xs : List Segment) (s : ℕ) → AreKept x xs → s < x.start → rate_from z (map entry_of (x ∷ xs)) s ≡ z
@@ -42,7 +47,8 @@ begun : (z : ℤ) (x : Segment) (xs : List Segment) (s : ℕ) → x.start ≤ s 
 begun z x xs s at = chosen z x.ppm xs s true (le-leb x.start s at)
 
 -- while one rate is in force
-flat : (rates : List (ℕ × ℤ)) (z : ℤ) (a d : ℕ) → ((s : ℕ) → a ≤ s → s < a + d → rate_at rates s ≡ z) → count_before rates (a + d) ≡ count_before rates a + shifted 1000000 z * d
+flat : (rates : List (ℕ × ℤ)) (z : ℤ) (a d : ℕ) → ((s : ℕ) → a ≤ s → s < a + d → rate_at rates s ≡ z)
+    → count_before rates (a + d) ≡ count_before rates a + shifted 1000000 z * d
 unfolding count_before
 flat rates z a zero one = let same : count_before rates (a + zero) ≡ count_before rates a = ap (count_before rates) (omega arith) in omega arith
 flat rates z a (suc d) one =
@@ -57,13 +63,15 @@ abbrev GoesOn : List (ℕ × ℤ) → Segment → List Segment → Type 0
 GoesOn rates r ss = (s : ℕ) → r.start ≤ s → rate_at rates s ≡ rate_from r.ppm (map entry_of ss) s
 
 -- what is counted by the start of the next segment
-at_next : (rates : List (ℕ × ℤ)) (r x : Segment) (xs : List Segment) → GoesOn rates r (x ∷ xs) → count_before rates r.start ≡ r.count → AreKept r (x ∷ xs) → (d : ℕ) → r.start + d ≤ x.start
+at_next : (rates : List (ℕ × ℤ)) (r x : Segment) (xs : List Segment) → GoesOn rates r (x ∷ xs) → count_before rates r.start ≡ r.count
+    → AreKept r (x ∷ xs) → (d : ℕ) → r.start + d ≤ x.start
     → count_before rates (r.start + d) ≡ r.count + pace_of r.ppm * d
 at_next rates r x xs on is kept d within =
     let f = flat rates r.ppm r.start d (λ s low high. on s low ∙ quiet r.ppm x xs s kept.1 (omega arith)) in
     omega (arith, f, is)
 
-next_is : (rates : List (ℕ × ℤ)) (r x : Segment) (xs : List Segment) → GoesOn rates r (x ∷ xs) → count_before rates r.start ≡ r.count → AreKept r (x ∷ xs) → count_before rates x.start ≡ x.count
+next_is : (rates : List (ℕ × ℤ)) (r x : Segment) (xs : List Segment) → GoesOn rates r (x ∷ xs) → count_before rates r.start ≡ r.count
+    → AreKept r (x ∷ xs) → count_before rates x.start ≡ x.count
 next_is rates r x xs on is kept =
     let d : ℕ = x.start - r.start in
     let at : x.start ≡ r.start + d = omega (arith, kept.0) in
@@ -81,7 +89,8 @@ pub record InForce (rates : List (ℕ × ℤ)) (s : Segment) (t : ℕ) : Type 0 
   pub counted : count_before rates t ≡ counted s t
   pub early : s.count ≤ count_before rates t
 
-held : (rates : List (ℕ × ℤ)) (r : Segment) (t : ℕ) → r.start ≤ t → unsigned_abs r.ppm ≤ 20 → ((d : ℕ) → r.start + d ≤ t → count_before rates (r.start + d) ≡ r.count + pace_of r.ppm * d) → InForce rates r t
+held : (rates : List (ℕ × ℤ)) (r : Segment) (t : ℕ) → r.start ≤ t → unsigned_abs r.ppm ≤ 20
+    → ((d : ℕ) → r.start + d ≤ t → count_before rates (r.start + d) ≡ r.count + pace_of r.ppm * d) → InForce rates r t
 held rates r t at small by =
     let d : ℕ = t - r.start in
     let is : r.start + d ≡ t = omega arith in
@@ -89,9 +98,11 @@ held rates r t at small by =
     let same : count_before rates (r.start + d) ≡ count_before rates t = ap (count_before rates) is in
     record { begun = at; rate = small; counted = omega (arith, c, same); early = omega (arith, c, same) }
 
-in_force : (rates : List (ℕ × ℤ)) (r : Segment) (ss : List Segment) (i t : ℕ) → GoesOn rates r ss → count_before rates r.start ≡ r.count → unsigned_abs r.ppm ≤ 20 → AreKept r ss → r.start ≤ t
+in_force : (rates : List (ℕ × ℤ)) (r : Segment) (ss : List Segment) (i t : ℕ) → GoesOn rates r ss → count_before rates r.start ≡ r.count
+    → unsigned_abs r.ppm ≤ 20 → AreKept r ss → r.start ≤ t
     → Splits (has_begun t) ss i → InForce rates (last_of r ss i) t
-in_force rates r [] zero t on is small kept at split = held rates r t at small (λ d within. (let f = flat rates r.ppm r.start d (λ s low high. on s low) in omega (arith, f, is)))
+in_force rates r [] zero t on is small kept at split =
+    held rates r t at small (λ d within. (let f = flat rates r.ppm r.start d (λ s low high. on s low) in omega (arith, f, is)))
 in_force rates r [] (suc i) t on is small kept at split = absurd split
 in_force rates r (x ∷ xs) zero t on is small kept at split =
     let later : t < x.start = leb-false x.start t split in
@@ -103,8 +114,10 @@ no_count : (rates : List (ℕ × ℤ)) → count_before rates 0 ≡ 0
 unfolding count_before
 no_count rates = refl
 
-pub in_force_at : (ss : List Segment) (i t : ℕ) → AreKept first_segment ss → Splits (has_begun t) ss i → InForce (map entry_of ss) (last_of first_segment ss i) t
-in_force_at ss i t kept split = in_force (map entry_of ss) first_segment ss i t (λ s at. refl) (no_count (map entry_of ss)) (omega arith) kept (omega arith) split
+pub in_force_at : (ss : List Segment) (i t : ℕ) → AreKept first_segment ss → Splits (has_begun t) ss i
+    → InForce (map entry_of ss) (last_of first_segment ss i) t
+in_force_at ss i t kept split = in_force (map entry_of ss) first_segment ss i t (λ s at. refl) (no_count (map entry_of ss))
+    (omega arith) kept (omega arith) split
 
 -- ---- the first tick at which so much is counted
 
@@ -124,7 +137,8 @@ pub record Comes (rates : List (ℕ × ℤ)) (s : Segment) (wanted : ℕ) : Type
   pub first : (q : ℕ) → IsCeil (wanted - s.count) (pace_of s.ppm) q → IsFirst rates wanted (s.start + q)
 
 first_by : (rates : List (ℕ × ℤ)) (r : Segment) (wanted q : ℕ) → r.count ≤ wanted → ((u : ℕ) → u < r.start → count_before rates u < wanted)
-    → ((d : ℕ) → d ≤ q → count_before rates (r.start + d) ≡ r.count + pace_of r.ppm * d) → IsCeil (wanted - r.count) (pace_of r.ppm) q → IsFirst rates wanted (r.start + q)
+    → ((d : ℕ) → d ≤ q → count_before rates (r.start + d) ≡ r.count + pace_of r.ppm * d) → IsCeil (wanted - r.count) (pace_of r.ppm) q
+    → IsFirst rates wanted (r.start + q)
 first_by rates r wanted q low early by ceil = record {
   reached = omega (arith, by q (omega arith));
   before = λ u less. elim (cases_lt u r.start) [
@@ -147,7 +161,8 @@ earlier rates u t tame order =
     let same : count_before rates (u + d) ≡ count_before rates t = ap (count_before rates) (omega arith) in
     omega (arith, same, count_range rates u d tame)
 
-comes : (rates : List (ℕ × ℤ)) (r : Segment) (ss : List Segment) (i wanted : ℕ) → AreTame rates → GoesOn rates r ss → count_before rates r.start ≡ r.count → r.start < 2 ^ 47 → unsigned_abs r.ppm ≤ 20 → AreKept r ss
+comes : (rates : List (ℕ × ℤ)) (r : Segment) (ss : List Segment) (i wanted : ℕ) → AreTame rates → GoesOn rates r ss
+    → count_before rates r.start ≡ r.count → r.start < 2 ^ 47 → unsigned_abs r.ppm ≤ 20 → AreKept r ss
     → r.count ≤ wanted → ((u : ℕ) → u < r.start → count_before rates u < wanted) → Splits (counts_less wanted) ss i → Comes rates (last_of r ss i) wanted
 comes rates r [] zero wanted tame on is start small kept low early split = record {
   start = start;
@@ -168,11 +183,14 @@ comes rates r (x ∷ xs) zero wanted tame on is start small kept low early split
 comes rates r (x ∷ xs) (suc i) wanted tame on is start small kept low early split =
     let next = next_is rates r x xs on is kept in
     let less : x.count < wanted = ltb-true x.count wanted split.0 in
-    comes rates x xs i wanted tame (goes_on rates r x xs on kept) next kept.0.1 kept.0.2 kept.1 (omega arith) (λ u before. omega (arith, earlier rates u x.start tame (omega arith))) split.1
+    comes rates x xs i wanted tame (goes_on rates r x xs on kept) next kept.0.1 kept.0.2 kept.1 (omega arith)
+    (λ u before. omega (arith, earlier rates u x.start tame (omega arith))) split.1
 
-pub comes_to : (ss : List Segment) (i wanted : ℕ) → AreKept first_segment ss → Splits (counts_less wanted) ss i → Comes (map entry_of ss) (last_of first_segment ss i) wanted
+pub comes_to : (ss : List Segment) (i wanted : ℕ) → AreKept first_segment ss → Splits (counts_less wanted) ss i
+    → Comes (map entry_of ss) (last_of first_segment ss i) wanted
 comes_to ss i wanted kept split =
-    comes (map entry_of ss) first_segment ss i wanted (tame_of first_segment ss kept) (λ s at. refl) (no_count (map entry_of ss)) (omega arith) (omega arith) kept (omega arith) (λ u before. absurd (omega arith)) split
+    comes (map entry_of ss) first_segment ss i wanted (tame_of first_segment ss kept) (λ s at. refl) (no_count (map entry_of ss))
+    (omega arith) (omega arith) kept (omega arith) (λ u before. absurd (omega arith)) split
 
 -- ---- kept segments rise
 
@@ -205,7 +223,8 @@ last_at r (s ∷ ss) (suc k) d within = last_at s ss k d (omega arith)
 pub in_force_found : (ss : List Segment) (t : ℕ) (s : Segment) → AreKept first_segment ss → IsLast (has_begun t) ss s → InForce (map entry_of ss) s t
 in_force_found ss t s kept last = subst (λ (r : Segment). InForce (map entry_of ss) r t) (sym last.2) (in_force_at ss last.0 t kept last.1)
 
-pub comes_found : (ss : List Segment) (wanted : ℕ) (s : Segment) → AreKept first_segment ss → IsLast (counts_less wanted) ss s → Comes (map entry_of ss) s wanted
+pub comes_found : (ss : List Segment) (wanted : ℕ) (s : Segment) → AreKept first_segment ss → IsLast (counts_less wanted) ss s
+    → Comes (map entry_of ss) s wanted
 comes_found ss wanted s kept last = subst (λ (r : Segment). Comes (map entry_of ss) r wanted) (sym last.2) (comes_to ss last.0 wanted kept last.1)
 
 -- so few ticks that they fit

@@ -4,7 +4,8 @@ use Rattle.tick_clock.proofs.DueTicks.{reads_at_due, before_due, due_at_most, du
 use Rattle.tick_clock.proofs.Readings.{rounding}
 use Rattle.tick_clock.specs.Clocks.{Near, IsClock, due}
 
-pub age : (L : ℕ → ℕ) (A t0 m x e : ℕ) → IsClock L → Near (L t0 + m) x e → A / 50000 + e + 2 ≤ m → m + A / 50000 + e + 1 ≤ A → t0 + (m + A / 50000 + e + 1) ≤ 2 ^ 48
+pub age : (L : ℕ → ℕ) (A t0 m x e : ℕ) → IsClock L → Near (L t0 + m) x e → A / 50000 + e + 2 ≤ m → m + A / 50000 + e + 1 ≤ A
+    → t0 + (m + A / 50000 + e + 1) ≤ 2 ^ 48
     → Near (due L x) (t0 + m) (A / 50000 + e + 1)
 age L A t0 m x e clock near old young within =
     let late = rounding L t0 (m + A / 50000 + e + 1) clock (omega arith) in
@@ -26,7 +27,8 @@ exact_leg L t0 d m x e clock is some within near =
     omega arith
 
 pub two_legs : (L1 L2 : ℕ → ℕ) (A t0 m1 m2 x1 x2 e : ℕ) → IsClock L1 → IsClock L2
-    → Near (L1 t0 + m1) x1 1 → Near (L2 (due L1 x1) + m2) x2 e → A / 50000 + 3 ≤ m1 → A / 50000 + e + 2 ≤ m2 → m1 + m2 + 2 * (A / 50000) + e + 3 ≤ A → t0 + A ≤ 2 ^ 48
+    → Near (L1 t0 + m1) x1 1 → Near (L2 (due L1 x1) + m2) x2 e → A / 50000 + 3 ≤ m1 → A / 50000 + e + 2 ≤ m2
+    → m1 + m2 + 2 * (A / 50000) + e + 3 ≤ A → t0 + A ≤ 2 ^ 48
     → Near (due L2 x2) (t0 + (m1 + m2)) (A / 50000 + e + 3)
 two_legs L1 L2 A t0 m1 m2 x1 x2 e clock1 clock2 near1 near2 old1 old2 young within =
     let first = age L1 A t0 m1 x1 1 clock1 near1 (omega arith) (omega arith) (omega arith) in

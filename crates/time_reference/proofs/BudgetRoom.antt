@@ -15,7 +15,8 @@ module _ (p : Numbers) (b : Budget) (fits : Fits p b) where
   pub window_room : p.listen + span p b.packet + (2 * (b.age / 50000) + 114) + 186 ≤ p.close
   window_room = omega arith
 
-  pub frame_order : (p.lead ≤ p.end) × (p.lead + b.clock < p.frame) × (b.last * p.slot + p.listen + b.zeros < p.frame) × (p.lead + b.last * p.slot + p.listen + b.clock < p.frame)
+  pub frame_order : (p.lead ≤ p.end) × (p.lead + b.clock < p.frame) × (b.last * p.slot + p.listen + b.zeros < p.frame)
+      × (p.lead + b.last * p.slot + p.listen + b.clock < p.frame)
   frame_order = omega (arith, window_order)
 
   pub clock_room : (256002 + 4096 * p.frame / 50000 ≤ b.clock) × (b.clock + b.zeros < p.lead)

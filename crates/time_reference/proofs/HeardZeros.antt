@@ -16,7 +16,8 @@ pub relays_near : (p : Numbers) (n origin k s : ℕ) → Relayed p n origin k s 
 relays_near p n origin zero s is = omega (arith, is)
 relays_near p n origin (suc k) s relayed = let near = relays_near p n origin k relayed.0 relayed.1 in omega (arith, near, relayed.2)
 
-pub zero_errs : (p : Numbers) (own : ℕ → ℕ) (n k s origin start j bound : ℕ) → IsClock own → 1 ≤ step p n → k ≤ 11 → Near s (origin + k * step p n) k → s + airtime p n ≤ 2 ^ 48
+pub zero_errs : (p : Numbers) (own : ℕ → ℕ) (n k s origin start j bound : ℕ) → IsClock own → 1 ≤ step p n → k ≤ 11
+    → Near s (origin + k * step p n) k → s + airtime p n ≤ 2 ^ 48
     → own (s + airtime p n) ≡ start + airtime p n → drift (span p n + 11) + 12 ≤ bound → p.listen + j * p.slot + bound ≤ own origin
     → (start ≡ heard_zero p start k n j + (k * step p n + p.listen + j * p.slot)) × Near (heard_zero p start k n j + j * p.slot + p.listen) (own origin) bound
 zero_errs p own n k s origin start j bound clock some few near early told small late =
@@ -27,12 +28,14 @@ zero_errs p own n k s origin start j bound clock some few near early told small 
     (is, omega arith)
 
 -- what a reference tells of its own slot
-pub slot_errs : (p : Numbers) (own : ℕ → ℕ) (origin start c n j bound : ℕ) → IsProfile p → start < 2 ^ 46 → IsHeard p own origin start c n j → bound ≤ 55 → drift (span p n + 11) + 12 ≤ bound
+pub slot_errs : (p : Numbers) (own : ℕ → ℕ) (origin start c n j bound : ℕ) → IsProfile p → start < 2 ^ 46 → IsHeard p own origin start c n j
+    → bound ≤ 55 → drift (span p n + 11) + 12 ≤ bound
     → Near (slot_time (times_of p (heard_zero p start c n j)) j + p.listen) (own origin) bound
 slot_errs p own origin start c n j bound made small heard few errs =
     let size = sizes p made in
     let near = relays_near p n origin c heard.begin heard.relayed in
-    let zero = zero_errs p own n c heard.begin origin start j bound heard.clock (omega arith) heard.few near heard.early heard.told errs (omega (arith, heard.late)) in
+    let zero = zero_errs p own n c heard.begin origin start j bound heard.clock (omega arith) heard.few near heard.early heard.told errs
+    (omega (arith, heard.late)) in
     omega (arith, zero)
 
 pub errs_48 : (p : Numbers) (own : ℕ → ℕ) (origin start c n j : ℕ) → IsProfile p → start < 2 ^ 46 → IsHeard p own origin start c n j → n ≤ 61

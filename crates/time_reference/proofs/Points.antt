@@ -25,15 +25,26 @@ module _ (p : Numbers) (b : Budget) (fits : Fits p b) where
       record {
         c = c;
         j = 0;
-        ref = record { begun = omega arith; past = omega arith; young = omega arith; in_run = omega arith; slot = omega arith; near = omega (arith, w.reads, same) };
+        ref = record {
+          begun = omega arith;
+          past = omega arith;
+          young = omega arith;
+          in_run = omega arith;
+          slot = omega arith;
+          near = omega (arith, w.reads, same);
+        };
         after = inl (omega arith);
       }
 
-  pub heard_now : (H L : ℕ → ℕ) (z c j y : ℕ) → 1 ≤ c → c ≤ 4095 → j ≤ b.last → Near y (L (started p H c j)) 55 → y ≡ z + j * p.slot + p.listen → Ref p b H L z c c j
-  heard_now H L z c j y begun within slot near is = record { begun = begun; past = omega arith; young = omega arith; in_run = within; slot = slot; near = omega arith }
+  pub heard_now : (H L : ℕ → ℕ) (z c j y : ℕ) → 1 ≤ c → c ≤ 4095 → j ≤ b.last → Near y (L (started p H c j)) 55
+      → y ≡ z + j * p.slot + p.listen → Ref p b H L z c c j
+  heard_now H L z c j y begun within slot near is =
+      record { begun = begun; past = omega arith; young = omega arith; in_run = within; slot = slot; near = omega arith }
 
-  pub heard_ahead : (H L : ℕ → ℕ) (z c j y g : ℕ) → 1 ≤ c → c ≤ 4095 → j ≤ b.last → Near y (L (started p H c j)) 55 → y ≡ z + j * p.slot + p.listen → g ≤ 4 → Ref p b H L (z + g * p.frame) (c + g) c j
-  heard_ahead H L z c j y g begun within slot near is few = record { begun = begun; past = omega arith; young = omega arith; in_run = within; slot = slot; near = omega arith }
+  pub heard_ahead : (H L : ℕ → ℕ) (z c j y g : ℕ) → 1 ≤ c → c ≤ 4095 → j ≤ b.last → Near y (L (started p H c j)) 55
+      → y ≡ z + j * p.slot + p.listen → g ≤ 4 → Ref p b H L (z + g * p.frame) (c + g) c j
+  heard_ahead H L z c j y g begun within slot near is few =
+      record { begun = begun; past = omega arith; young = omega arith; in_run = within; slot = slot; near = omega arith }
 
   pub no_clamp : (H L : ℕ → ℕ) (c j : ℕ) → IsClock H → IsClock L → 1 ≤ c → c ≤ 4095 → j ≤ b.last → p.listen + j * p.slot + 55 ≤ L (started p H c j)
   no_clamp H L c j host clock begun within slot =
@@ -44,7 +55,8 @@ module _ (p : Numbers) (b : Budget) (fits : Fits p b) where
 
   -- ---- places in the frame
 
-  pub place : (H L : ℕ → ℕ) (z f q : ℕ) → IsClock H → IsClock L → Good p b H L z f q → q ≤ b.last * p.slot + p.close → Near (due L (z + q)) (f * p.frame + p.lead + q) (b.clock + b.zeros)
+  pub place : (H L : ℕ → ℕ) (z f q : ℕ) → IsClock H → IsClock L → Good p b H L z f q → q ≤ b.last * p.slot + p.close
+      → Near (due L (z + q)) (f * p.frame + p.lead + q) (b.clock + b.zeros)
   place H L z f q host clock g low =
       let m = has_age p b fits H L z f g.c g.j q g.ref g.after in
       let w = start p b fits H g.c g.j host g.ref.begun g.ref.in_run g.ref.slot in
@@ -55,7 +67,8 @@ module _ (p : Numbers) (b : Budget) (fits : Fits p b) where
   pub after_start : (H L : ℕ → ℕ) (z f : ℕ) → IsClock H → IsClock L → Good p b H L z f 0 → f * p.frame < due L (z + 0)
   after_start H L z f host clock g = omega (arith, place H L z f 0 host clock g (omega arith))
 
-  pub before_alarm : (H L L' : ℕ → ℕ) (z f q : ℕ) → IsClock H → IsClock L → IsClock L' → Good p b H L z f q → q ≤ b.last * p.slot + p.close → f ≤ 4095 → due L (z + q) < due L' (f * p.frame + p.end)
+  pub before_alarm : (H L L' : ℕ → ℕ) (z f q : ℕ) → IsClock H → IsClock L → IsClock L' → Good p b H L z f q → q ≤ b.last * p.slot + p.close
+      → f ≤ 4095 → due L (z + q) < due L' (f * p.frame + p.end)
   before_alarm H L L' z f q host clock other g low within =
       let k = mul-le-mul_right p.frame within in
       let at = place H L z f q host clock g low in
@@ -65,7 +78,8 @@ module _ (p : Numbers) (b : Budget) (fits : Fits p b) where
   -- ---- the order of the points of a round
 
   module _ (H L1 L2 : ℕ → ℕ) (z1 z2 f : ℕ) (host : IsClock H) (clock1 : IsClock L1) (clock2 : IsClock L2) where
-    pub opens_before_starts : (j : ℕ) → j ≤ b.last → Good p b H L1 z1 f (j * p.slot) → Good p b H L2 z2 f (j * p.slot + p.listen) → due L1 (z1 + j * p.slot) < due L2 (z2 + (j * p.slot + p.listen))
+    pub opens_before_starts : (j : ℕ) → j ≤ b.last → Good p b H L1 z1 f (j * p.slot) → Good p b H L2 z2 f (j * p.slot + p.listen)
+        → due L1 (z1 + j * p.slot) < due L2 (z2 + (j * p.slot + p.listen))
     opens_before_starts j slot g1 g2 =
         let k = mul-le-mul_right p.slot slot in
         let window = window_order p b fits in
@@ -95,7 +109,8 @@ module _ (p : Numbers) (b : Budget) (fits : Fits p b) where
         let grow = (packets_grow p b fits n b.packet size).2 in
         omega (arith, spread p b fits H L1 L2 z1 z2 f (j * p.slot + p.listen) (j * p.slot + p.close) host clock1 clock2 g1 g2 (omega arith) (omega arith))
 
-    pub relays_before_next_starts : (j j' n : ℕ) → j < j' → j' ≤ b.last → n ≤ b.packet → Good p b H L1 z1 f (j * p.slot + p.listen) → Good p b H L2 z2 f (j' * p.slot + p.listen)
+    pub relays_before_next_starts : (j j' n : ℕ) → j < j' → j' ≤ b.last → n ≤ b.packet → Good p b H L1 z1 f (j * p.slot + p.listen)
+        → Good p b H L2 z2 f (j' * p.slot + p.listen)
         → due L1 (z1 + (j * p.slot + p.listen)) + span p n + 11 < due L2 (z2 + (j' * p.slot + p.listen))
     relays_before_next_starts j j' n less slot size g1 g2 =
         let k = mul-le-mul_right p.slot slot in
@@ -105,7 +120,8 @@ module _ (p : Numbers) (b : Budget) (fits : Fits p b) where
         let grow = (packets_grow p b fits n b.packet size).2 in
         omega (arith, spread p b fits H L1 L2 z1 z2 f (j * p.slot + p.listen) (j' * p.slot + p.listen) host clock1 clock2 g1 g2 (omega arith) (omega arith))
 
-    pub relays_before_next_opens : (j j' n : ℕ) → j < j' → j' ≤ b.last → n ≤ b.packet → Good p b H L1 z1 f (j * p.slot + p.listen) → Good p b H L2 z2 f (j' * p.slot)
+    pub relays_before_next_opens : (j j' n : ℕ) → j < j' → j' ≤ b.last → n ≤ b.packet → Good p b H L1 z1 f (j * p.slot + p.listen)
+        → Good p b H L2 z2 f (j' * p.slot)
         → due L1 (z1 + (j * p.slot + p.listen)) + span p n + 11 < due L2 (z2 + j' * p.slot)
     relays_before_next_opens j j' n less slot size g1 g2 =
         let k = mul-le-mul_right p.slot slot in
@@ -115,18 +131,28 @@ module _ (p : Numbers) (b : Budget) (fits : Fits p b) where
         let grow = (packets_grow p b fits n b.packet size).2 in
         omega (arith, spread p b fits H L1 L2 z1 z2 f (j * p.slot + p.listen) (j' * p.slot) host clock1 clock2 g1 g2 (omega arith) (omega arith))
 
-  pub opens_before_closes : (H L : ℕ → ℕ) (z f j : ℕ) → IsClock H → IsClock L → j ≤ b.last → Good p b H L z f (j * p.slot) → due L (z + j * p.slot) < due L (z + (j * p.slot + p.close))
+  pub opens_before_closes : (H L : ℕ → ℕ) (z f j : ℕ) → IsClock H → IsClock L → j ≤ b.last → Good p b H L z f (j * p.slot)
+      → due L (z + j * p.slot) < due L (z + (j * p.slot + p.close))
   opens_before_closes H L z f j host clock slot g =
       let k = mul-le-mul_right p.slot slot in
       let window = window_order p b fits in
-      omega (arith, spread p b fits H L L z z f (j * p.slot) (j * p.slot + p.close) host clock clock g (good_later H L z f (j * p.slot) (j * p.slot + p.close) (omega arith) g) (omega arith) (omega arith))
+      omega (
+        arith,
+        spread p b fits H L L z z f (j * p.slot) (j * p.slot + p.close) host clock clock g
+            (good_later H L z f (j * p.slot) (j * p.slot + p.close) (omega arith) g) (omega arith) (omega arith),
+      )
 
-  pub starts_before_closes : (H L : ℕ → ℕ) (z f j : ℕ) → IsClock H → IsClock L → j ≤ b.last → Good p b H L z f (j * p.slot + p.listen) → due L (z + (j * p.slot + p.listen)) < due L (z + (j * p.slot + p.close))
+  pub starts_before_closes : (H L : ℕ → ℕ) (z f j : ℕ) → IsClock H → IsClock L → j ≤ b.last → Good p b H L z f (j * p.slot + p.listen)
+      → due L (z + (j * p.slot + p.listen)) < due L (z + (j * p.slot + p.close))
   starts_before_closes H L z f j host clock slot g =
       let k = mul-le-mul_right p.slot slot in
       let window = window_order p b fits in
       let room = window_room p b fits in
-      omega (arith, spread p b fits H L L z z f (j * p.slot + p.listen) (j * p.slot + p.close) host clock clock g (good_later H L z f (j * p.slot + p.listen) (j * p.slot + p.close) (omega arith) g) (omega arith) (omega arith))
+      omega (
+        arith,
+        spread p b fits H L L z z f (j * p.slot + p.listen) (j * p.slot + p.close) host clock clock g
+            (good_later H L z f (j * p.slot + p.listen) (j * p.slot + p.close) (omega arith) g) (omega arith) (omega arith),
+      )
 
   -- ---- a window that opens late
 
@@ -141,7 +167,8 @@ module _ (p : Numbers) (b : Budget) (fits : Fits p b) where
       omega arith
 
   -- how late, on the node's own clock
-  pub lateness : (H L : ℕ → ℕ) (z z' f : ℕ) → IsClock H → IsClock L → 1 ≤ b.last → Good p b H L z f (1 * p.slot) → Good p b H L z' f p.close → due L (z + 1 * p.slot) ≤ due L (z' + p.close)
+  pub lateness : (H L : ℕ → ℕ) (z z' f : ℕ) → IsClock H → IsClock L → 1 ≤ b.last → Good p b H L z f (1 * p.slot) → Good p b H L z' f p.close
+      → due L (z + 1 * p.slot) ≤ due L (z' + p.close)
       → L (due L (z' + p.close)) + p.slot ≤ z + 1 * p.slot + p.close + (2 * (b.age / 50000) + 114) + 3 + (2 * (b.age / 50000) + 114) / 50000
   lateness H L z z' f host clock some g g' order =
       let k = mul-le-mul_right p.slot some in

@@ -35,11 +35,16 @@ module _ (p : Numbers) (b : Budget) (fits : Fits p b) where
       omega arith
 
   -- the age m of the reference at the offset q
-  pub aged : (H L : ℕ → ℕ) (z f c j q m : ℕ) → Ref p b H L z f c j → q ≤ b.last * p.slot + p.close → (c < f) ⊎ (j * p.slot + p.close ≤ q) → m + j * p.slot + p.listen + c * p.frame ≡ f * p.frame + q
+  pub aged : (H L : ℕ → ℕ) (z f c j q m : ℕ) → Ref p b H L z f c j → q ≤ b.last * p.slot + p.close → (c < f) ⊎ (j * p.slot + p.close ≤ q)
+      → m + j * p.slot + p.listen + c * p.frame ≡ f * p.frame + q
       → (b.age / 50000 + 57 ≤ m) × (m + p.listen + p.slot ≤ b.age + p.close)
   aged H L z f c j q m ref low after is =
       let at = places H L z f c j ref in
-      let old : b.age / 50000 + 57 ≤ m = elim after [ inl before ↦ (let k = mul-le-mul_right p.frame before in omega (arith, drift_is_small p b fits, frame_order p b fits)) | inr later ↦ omega arith ] in
+      let old : b.age / 50000 + 57 ≤ m = elim after [
+        | inl before ↦ (let k = mul-le-mul_right p.frame before in
+            omega (arith, drift_is_small p b fits, frame_order p b fits))
+        | inr later ↦ omega arith
+      ] in
       (old, omega arith)
 
   -- the host's start of slot j in frame c: its place in the run, and what the host's clock reads there
@@ -62,7 +67,8 @@ module _ (p : Numbers) (b : Budget) (fits : Fits p b) where
       let reads = reads_nominal H (nominal p c j) clock (omega arith) (omega arith) in
       omega arith
 
-  pub point_by_age : (H L : ℕ → ℕ) (z f c j q m : ℕ) → IsClock H → IsClock L → Ref p b H L z f c j → q ≤ b.last * p.slot + p.close → (c < f) ⊎ (j * p.slot + p.close ≤ q) → IsAge p f c j q m
+  pub point_by_age : (H L : ℕ → ℕ) (z f c j q m : ℕ) → IsClock H → IsClock L → Ref p b H L z f c j → q ≤ b.last * p.slot + p.close
+      → (c < f) ⊎ (j * p.slot + p.close ≤ q) → IsAge p f c j q m
       → Near (due L (z + q)) (started p H c j + m) (b.age / 50000 + 56)
   point_by_age H L z f c j q m host clock ref low after is =
       let at = places H L z f c j ref in
@@ -81,14 +87,16 @@ module _ (p : Numbers) (b : Budget) (fits : Fits p b) where
       let at = places H L z f c j ref in
       let order = frame_order p b fits in
       let window = window_order p b fits in
-      let below : j * p.slot + p.listen + c * p.frame ≤ f * p.frame + q = elim after [ inl before ↦ (let k = mul-le-mul_right p.frame before in omega arith) | inr later ↦ omega arith ] in
+      let below : j * p.slot + p.listen + c * p.frame ≤ f * p.frame + q =
+      elim after [ inl before ↦ (let k = mul-le-mul_right p.frame before in omega arith) | inr later ↦ omega arith ] in
       (f * p.frame + q - (j * p.slot + p.listen + c * p.frame), omega arith)
 
   abbrev pub IsLater : ℕ → ℕ → ℕ → ℕ → Type 0
   IsLater c1 j1 c2 j2 = (c1 < c2) ⊎ ((c1 ≡ c2) × (j1 < j2))
 
   -- from one start of the host to a later one
-  pub has_gap : (c1 j1 c2 j2 : ℕ) → j1 ≤ b.last → IsLater c1 j1 c2 j2 → (m : ℕ) × (m + j1 * p.slot + c1 * p.frame ≡ c2 * p.frame + j2 * p.slot) × (b.age / 50000 + 3 ≤ m)
+  pub has_gap : (c1 j1 c2 j2 : ℕ) → j1 ≤ b.last → IsLater c1 j1 c2 j2
+      → (m : ℕ) × (m + j1 * p.slot + c1 * p.frame ≡ c2 * p.frame + j2 * p.slot) × (b.age / 50000 + 3 ≤ m)
   has_gap c1 j1 c2 j2 slot later =
       let a = mul-le-mul_right p.slot slot in
       let drift = drift_is_small p b fits in
@@ -121,7 +129,8 @@ module _ (p : Numbers) (b : Budget) (fits : Fits p b) where
       let reads = in_run p b fits L2 clock2 (started p H c2 j2) (omega arith) in
       let near1 : Near (H (started p H c1 j1) + gap.0) (nominal p c2 j2) 1 = omega (arith, w1.reads, gap.1) in
       let near2 : Near (L2 (started p H c2 j2) + a2.0) (z2 + q2) 55 = omega (arith, ref2.near, a2.1) in
-      let legs = two_legs H L2 b.age (started p H c1 j1) gap.0 a2.0 (nominal p c2 j2) (z2 + q2) 55 host clock2 near1 near2 (omega arith) (omega arith) (omega arith) (omega arith) in
+      let legs = two_legs H L2 b.age (started p H c1 j1) gap.0 a2.0 (nominal p c2 j2) (z2 + q2) 55 host clock2 near1 near2 (omega arith)
+      (omega arith) (omega arith) (omega arith) in
       omega (arith, legs, first, a1.1, a2.1, gap.1)
 
   spread_at_one : (H L1 L2 : ℕ → ℕ) (z1 z2 f c1 j1 c2 j2 q1 q2 : ℕ) → IsClock H → IsClock L1 → IsClock L2 → Ref p b H L1 z1 f c1 j1 → Ref p b H L2 z2 f c2 j2
@@ -147,10 +156,12 @@ module _ (p : Numbers) (b : Budget) (fits : Fits p b) where
       let up : IsLater g1.c g1.j g2.c g2.j → Near (due L1 (z1 + q1) + q2) (due L2 (z2 + q2) + q1) (2 * (b.age / 50000) + 114) =
       λ later. spread_in_order H L1 L2 z1 z2 f g1.c g1.j g2.c g2.j q1 q2 host clock1 clock2 g1.ref g2.ref low1 low2 g1.after g2.after later in
       let down : IsLater g2.c g2.j g1.c g1.j → Near (due L1 (z1 + q1) + q2) (due L2 (z2 + q2) + q1) (2 * (b.age / 50000) + 114) =
-      λ later. turned (due L2 (z2 + q2)) (due L1 (z1 + q1)) q1 q2 (2 * (b.age / 50000) + 114) (spread_in_order H L2 L1 z2 z1 f g2.c g2.j g1.c g1.j q2 q1 host clock2 clock1 g2.ref g1.ref low2 low1 g2.after g1.after later) in
+      λ later. turned (due L2 (z2 + q2)) (due L1 (z1 + q1)) q1 q2 (2 * (b.age / 50000) + 114)
+      (spread_in_order H L2 L1 z2 z1 f g2.c g2.j g1.c g1.j q2 q1 host clock2 clock1 g2.ref g1.ref low2 low1 g2.after g1.after later) in
       elim (cases_order g1.c g2.c) [
         | inl same_frame ↦ elim (cases_order g1.j g2.j) [
-          | inl same_slot ↦ spread_at_one H L1 L2 z1 z2 f g1.c g1.j g2.c g2.j q1 q2 host clock1 clock2 g1.ref g2.ref low1 low2 g1.after g2.after same_frame same_slot
+          | inl same_slot ↦ spread_at_one H L1 L2 z1 z2 f g1.c g1.j g2.c g2.j q1 q2 host clock1 clock2 g1.ref g2.ref low1 low2 g1.after
+              g2.after same_frame same_slot
           | inr (inl less) ↦ up (inr (same_frame, less))
           | inr (inr more) ↦ down (inr (sym same_frame, more))
         ]

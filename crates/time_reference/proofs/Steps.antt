@@ -16,7 +16,8 @@ use Rattle.time_reference.specs.Zeros.{started, Ref}
 pub chain : (p : Numbers) (n k s s' s0 : ℕ) → Near s (s0 + k * step p n) k → Near s' (s + airtime p n + p.turn) 1 → Near s' (s0 + (k + 1) * step p n) (k + 1)
 chain p n k s s' s0 near one = omega arith
 
-pub together : (p : Numbers) (b : Budget) → Fits p b → (n k s t s0 : ℕ) → k ≤ 11 → Near s (s0 + k * step p n) k → Near t (s0 + k * step p n) k → Near s t (2 * k) × (2 * k ≤ p.delta)
+pub together : (p : Numbers) (b : Budget) → Fits p b → (n k s t s0 : ℕ) → k ≤ 11 → Near s (s0 + k * step p n) k
+    → Near t (s0 + k * step p n) k → Near s t (2 * k) × (2 * k ≤ p.delta)
 together p b fits n k s t s0 few near near' = omega arith
 
 pub flood_end : (p : Numbers) (n k s s0 : ℕ) → 1 ≤ step p n → k ≤ 11 → Near s (s0 + k * step p n) k → (s + airtime p n ≤ s0 + span p n + 11) × (s0 ≤ s)
@@ -31,7 +32,8 @@ reference_error p L n k s s0 clock some few near within =
     let drift = rounded L s0 d (s + airtime p n) clock is within in
     omega arith
 
-pub small_error : (p : Numbers) (L : ℕ → ℕ) (n k s s0 : ℕ) → IsClock L → 1 ≤ step p n → k ≤ 11 → Near s (s0 + k * step p n) k → s + airtime p n ≤ 2 ^ 48 → (span p n + 11) / 50000 + 12 ≤ 55
+pub small_error : (p : Numbers) (L : ℕ → ℕ) (n k s s0 : ℕ) → IsClock L → 1 ≤ step p n → k ≤ 11 → Near s (s0 + k * step p n) k
+    → s + airtime p n ≤ 2 ^ 48 → (span p n + 11) / 50000 + 12 ≤ 55
     → Near (L (s + airtime p n)) (L s0 + k * step p n + airtime p n) 55
 small_error p L n k s s0 clock some few near within small = omega (arith, reference_error p L n k s s0 clock some few near within)
 
@@ -41,12 +43,14 @@ of_61 p n byte turn size = rw (byte, turn) (omega arith)
 pub of_74 : (p : Numbers) (n : ℕ) → p.byte ≡ 2048 → p.turn ≡ 12288 → n ≤ 74 → (span p n + 11) / 50000 + 12 ≤ 55
 of_74 p n byte turn size = rw (byte, turn) (omega arith)
 
-pub steps_apart : (p : Numbers) (n k r q x y sx sy : ℕ) → q + 23 < p.turn → k + 1 + r ≤ 11 → Near sx sy q → Near x (sx + k * step p n) k → Near y (sy + (k + 1 + r) * step p n) (k + 1 + r) → x + airtime p n < y
+pub steps_apart : (p : Numbers) (n k r q x y sx sy : ℕ) → q + 23 < p.turn → k + 1 + r ≤ 11 → Near sx sy q → Near x (sx + k * step p n) k
+    → Near y (sy + (k + 1 + r) * step p n) (k + 1 + r) → x + airtime p n < y
 steps_apart p n k r q x y sx sy room few origins at_x at_y =
     let some : 1 ≤ step p n = omega arith in
     omega (arith, mul-le-mul_left r some)
 
-pub steps_in_order : (p : Numbers) (n k k' q x y sx sy : ℕ) → q + 23 < p.turn → k < k' → k' ≤ 11 → Near sx sy q → Near x (sx + k * step p n) k → Near y (sy + k' * step p n) k' → x + airtime p n < y
+pub steps_in_order : (p : Numbers) (n k k' q x y sx sy : ℕ) → q + 23 < p.turn → k < k' → k' ≤ 11 → Near sx sy q
+    → Near x (sx + k * step p n) k → Near y (sy + k' * step p n) k' → x + airtime p n < y
 steps_in_order p n k k' q x y sx sy room less few origins at_x at_y =
     let r : ℕ = k' - (k + 1) in
     let is : k' ≡ k + 1 + r = omega arith in
@@ -60,7 +64,8 @@ module _ (p : Numbers) (b : Budget) (fits : Fits p b) where
   abbrev few_drift : ℕ
   few_drift = (b.last * p.slot + p.listen) / 50000
 
-  contender : (H L : ℕ → ℕ) (z f j : ℕ) → IsClock H → IsClock L → Ref p b H L z f f 0 → 1 ≤ j → j < b.last → Near (due L (z + (j * p.slot + p.listen))) (started p H f 0 + j * p.slot) (few_drift + 56)
+  contender : (H L : ℕ → ℕ) (z f j : ℕ) → IsClock H → IsClock L → Ref p b H L z f f 0 → 1 ≤ j → j < b.last
+      → Near (due L (z + (j * p.slot + p.listen))) (started p H f 0 + j * p.slot) (few_drift + 56)
   contender H L z f j host clock ref some less =
       let at = places p b fits H L z f f 0 ref in
       let w = start p b fits H f 0 host ref.begun ref.in_run ref.slot in
@@ -72,7 +77,11 @@ module _ (p : Numbers) (b : Budget) (fits : Fits p b) where
       let end = ages_end p b fits in
       let reads = in_run p b fits L clock (started p H f 0) (omega arith) in
       let near : Near (L (started p H f 0) + j * p.slot) (z + (j * p.slot + p.listen)) 55 = omega (arith, ref.near) in
-      omega (arith, age L (b.last * p.slot + p.listen) (started p H f 0) (j * p.slot) (z + (j * p.slot + p.listen)) 55 clock near (omega arith) (omega arith) (omega arith))
+      omega (
+        arith,
+        age L (b.last * p.slot + p.listen) (started p H f 0) (j * p.slot) (z + (j * p.slot + p.listen)) 55 clock near
+            (omega arith) (omega arith) (omega arith),
+      )
 
   pub contenders : (H L1 L2 : ℕ → ℕ) (z1 z2 f j : ℕ) → IsClock H → IsClock L1 → IsClock L2 → Ref p b H L1 z1 f f 0 → Ref p b H L2 z2 f f 0 → 1 ≤ j → j < b.last
       → Near (due L1 (z1 + (j * p.slot + p.listen))) (due L2 (z2 + (j * p.slot + p.listen))) (2 * few_drift + 112) × (2 * few_drift + 112 + 48 ≤ b.contenders)

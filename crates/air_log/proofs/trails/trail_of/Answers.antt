@@ -1,4 +1,4 @@
-use Rattle.std.proofs.Common.{◌≡◌, ◌<◌, ◌*◌, ◌+◌, ℕ, List, [], map, take, Option, true, false, sym, ap, subst, ◌∙◌, arith}
+use Rattle.std.proofs.Common.{◌≡◌, ◌<◌, ◌*◌, ◌+◌, ℕ, List, [], map, take, Option, false, sym, ap, subst, ◌∙◌, arith}
 use Rattle.scenario_text.proofs.SoundScenarios.{sound}
 use Rattle.scenario_text.specs.ScenarioFacts.{turned}
 use Rattle.bus_rules.specs.Cores.{Setup}
@@ -15,7 +15,8 @@ use Rattle.air_log.proofs.trails.trail_of.Goals as goal
 pub loop-frame-init : goal.loop-frame-init
 loop-frame-init g c =
     let none : List (Option Tune) = [] in
-    subst (λ (ts : List (Option Tune)). IsAtFrame (g.C.DriftClock.readings c.args.clock.now) c.args.s.now c.args.node c.in_ok-heard.heard.items 0 0 0 ts 0 c.in_ok-course.course) (sym c.new-tunes.ensures.items)
+    subst (λ (ts : List (Option Tune)). IsAtFrame (g.C.DriftClock.readings c.args.clock.now) c.args.s.now c.args.node c.in_ok-heard.heard.items 0 0 0 ts 0
+    c.in_ok-course.course) (sym c.new-tunes.ensures.items)
     (begins (g.C.DriftClock.readings c.args.clock.now) c.args.s.now c.args.node c.in_ok-heard.heard.items c.in_ok-course.course c.in_ok-course.ensures)
 
 pub lines-requires-clause-sound : goal.lines-requires-clause-sound
@@ -42,7 +43,9 @@ pub frame-requires-clause-ascends : goal.frame-requires-clause-ascends
 frame-requires-clause-ascends g c = subst (λ (hs : List HeardEntry). Ascends end_of hs) (sym c.as_slice.ensures.value) c.in_ok-heard.ensures.ascends
 
 pub frame-requires-clause-cut : goal.frame-requires-clause-cut
-frame-requires-clause-cut g c = subst (λ (hs : List HeardEntry). IsCut end_of hs c.loop-frame.next (frame_start c.args.s.now c.loop-frame.frame)) (sym c.as_slice.ensures.value) c.loop-frame.invariant.hearings
+frame-requires-clause-cut g c =
+    subst (λ (hs : List HeardEntry). IsCut end_of hs c.loop-frame.next (frame_start c.args.s.now c.loop-frame.frame))
+    (sym c.as_slice.ensures.value) c.loop-frame.invariant.hearings
 
 pub frame-requires-clause-shown : goal.frame-requires-clause-shown
 frame-requires-clause-shown g c =
@@ -50,8 +53,10 @@ frame-requires-clause-shown g c =
     let s = c.args.s.now in
     let l = c.loop-frame in (
       c.args.node,
-      subst (λ (hs : List HeardEntry). Shows (setup_of s c.args.node) (frame_start s l.frame) c.lines.new.self (at_frame s c.args.node clock (map reception_in hs) l.frame)) (sym c.as_slice.ensures.value)
-          (after_lines_shows clock s c.args.node c.in_ok-heard.heard.items l.frame l.told l.next l.tunes.items l.scanned l.course c.lines.new.self l.invariant c.in_ok-told.ensures.goes),
+      subst (λ (hs : List HeardEntry). Shows (setup_of s c.args.node) (frame_start s l.frame) c.lines.new.self
+          (at_frame s c.args.node clock (map reception_in hs) l.frame)) (sym c.as_slice.ensures.value)
+          (after_lines_shows clock s c.args.node c.in_ok-heard.heard.items l.frame l.told l.next l.tunes.items l.scanned l.course c.lines.new.self l.invariant
+          c.in_ok-told.ensures.goes),
     )
 
 pub loop-frame-preserved : goal.loop-frame-preserved
@@ -69,11 +74,17 @@ loop-frame-preserved g c =
       lines = c.in_ok-told.ensures.cut;
       hearings = subst (λ (xs : List HeardEntry). IsCut end_of xs c.in_ok-next.next (frame_start s (l.frame + 1))) value c.in_ok-next.ensures.cut;
       shows =
-          subst (λ (xs : List HeardEntry). Shows (setup_of s c.args.node) (frame_start s (l.frame + 1)) c.frame.new.self (before_tick s c.args.node clock (map reception_in xs) (frame_start s (l.frame + 1)))) value
-          (c.in_ok-next.ensures.shows c.args.node (subst (λ (xs : List HeardEntry). Shows (setup_of s c.args.node) (frame_start s l.frame) c.lines.new.self (at_frame s c.args.node clock (map reception_in xs) l.frame)) (sym value) lined));
-      power = c.in_ok-next.ensures.power ∙ c.in_ok-told.ensures.power ∙ ap (λ (q : Setup). turned q.id (false, 0) (take c.in_ok-told.told s.script)) l.invariant.shows.setup;
+          subst (λ (xs : List HeardEntry). Shows (setup_of s c.args.node) (frame_start s (l.frame + 1)) c.frame.new.self
+          (before_tick s c.args.node clock (map reception_in xs) (frame_start s (l.frame + 1)))) value
+          (c.in_ok-next.ensures.shows c.args.node (subst
+          (λ (xs : List HeardEntry). Shows (setup_of s c.args.node) (frame_start s l.frame) c.lines.new.self
+          (at_frame s c.args.node clock (map reception_in xs) l.frame)) (sym value) lined));
+      power =
+          c.in_ok-next.ensures.power ∙ c.in_ok-told.ensures.power
+          ∙ ap (λ (q : Setup). turned q.id (false, 0) (take c.in_ok-told.told s.script)) l.invariant.shows.setup;
       tunes_are = c.in_ok-scanned.ensures.tunes ∙ tunes_more clock s c.args.node hs l.frame l.tunes.items _ l.invariant.tunes_are tune;
-      scanned_are = ap (λ (n : ℕ). l.scanned + n) c.in_ok-scanned.ensures.scans ∙ scanned_more clock s c.args.node hs l.frame l.scanned _ l.invariant.scanned_are tune;
+      scanned_are =
+          ap (λ (n : ℕ). l.scanned + n) c.in_ok-scanned.ensures.scans ∙ scanned_more clock s c.args.node hs l.frame l.scanned _ l.invariant.scanned_are tune;
       few = omega (arith, l.invariant.few, c.in_ok-scanned.ensures.few);
     }
 
@@ -84,6 +95,9 @@ returns g c =
     let l = c.loop-frame in
     let hs = c.in_ok-heard.heard.items in
     let over : l.frame ≡ s.frames = omega (arith, c.loop-frame-test.false, l.auto.frame-end, c.frames-frame-end.ensures.value) in
-    let end = tick_of s s.frames c.from.result c.frame-length.result c.profile.result (c.from.ensures ∙ c.frames.ensures.value) c.frame-length.ensures.value c.profile.ensures.value in
-    told_is clock s c.args.node hs (sound s c.profile.ensures.said) (g.met.C.DriftClock.keeps_drift_law c.args.clock.now) l.frame l.told l.next l.tunes.items l.scanned l.course l.invariant over
-    (c.from.result * c.frame-length.result) end c.close.new.self c.in_ok-close.ensures c.told.result c.told.ensures (heard_by c.args.a.now c.args.node) (c.in_ok-heard.ensures.heard ∙ ap (λ (air : List Entry). heard_by air c.args.node) c.entries.ensures)
+    let end = tick_of s s.frames c.from.result c.frame-length.result c.profile.result
+    (c.from.ensures ∙ c.frames.ensures.value) c.frame-length.ensures.value c.profile.ensures.value in
+    told_is clock s c.args.node hs (sound s c.profile.ensures.said)
+    (g.met.C.DriftClock.keeps_drift_law c.args.clock.now) l.frame l.told l.next l.tunes.items l.scanned l.course l.invariant over
+    (c.from.result * c.frame-length.result) end c.close.new.self c.in_ok-close.ensures c.told.result c.told.ensures (heard_by c.args.a.now c.args.node)
+    (c.in_ok-heard.ensures.heard ∙ ap (λ (air : List Entry). heard_by air c.args.node) c.entries.ensures)

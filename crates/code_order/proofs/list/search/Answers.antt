@@ -5,7 +5,8 @@ use Rattle.code_order.proofs.list.search.Goals.{else-place-list-via-then-place-l
 
 pub returns-then-code-clause-found : goal.returns-then-code-clause-found
 returns-then-code-clause-found g c =
-    found_there g.T.Coded.code_of c.args.code c.args.list.now c.place_of-place.result c.index-list-place.result c.requires (omega (arith, c.if-place-list.true)) c.index-list-place.is (sym c.code.ensures ∙ c.if-code.true)
+    found_there g.T.Coded.code_of c.args.code c.args.list.now c.place_of-place.result c.index-list-place.result c.requires
+    (omega (arith, c.if-place-list.true)) c.index-list-place.is (sym c.code.ensures ∙ c.if-code.true)
 
 pub returns-else-place-list-clause-missing : goal.returns-else-place-list-clause-missing
 returns-else-place-list-clause-missing g c =
@@ -17,8 +18,10 @@ returns-else-place-list-clause-missing g c =
       place = c.place_of-place.ensures.value;
       missing = elim c.else-place-list.branch [
         | else-place-list-via-then-place-list+else-code w ↦
-            none_of_below code c.args.code xs c.requires (other_there code c.args.code xs _ n w.index-list-place.result c.place_of-place.ensures.value (omega (arith, w.if-place-list.true)) w.index-list-place.is (λ same. w.if-code.false (w.code.ensures ∙ same)))
+            none_of_below code c.args.code xs c.requires (other_there code c.args.code xs _ n w.index-list-place.result c.place_of-place.ensures.value
+            (omega (arith, w.if-place-list.true)) w.index-list-place.is (λ same. w.if-code.false (w.code.ensures ∙ same)))
         | else-place-list-via-else-place-list w ↦
-            none_of_below code c.args.code xs c.requires (none_there code c.args.code xs _ n c.place_of-place.ensures.value (omega (arith, w.if-place-list.false)))
+            none_of_below code c.args.code xs c.requires
+            (none_there code c.args.code xs _ n c.place_of-place.ensures.value (omega (arith, w.if-place-list.false)))
       ];
     }

@@ -9,6 +9,7 @@ pub returns : goal.returns
 returns c = record {
   listening = λ kind slot n calls.
       let s = listening kind slot n in
-      accepts s (after_all s calls) (counted calls s).initiated refl ∙ ap (λ (o : Option (List ℕ)). option_map {U = List ℕ × ℕ} (λ p. (p, counter_of p)) o) (found calls s refl);
+      accepts s (after_all s calls) (counted calls s).initiated refl
+      ∙ ap (λ (o : Option (List ℕ)). option_map {U = List ℕ × ℕ} (λ p. (p, counter_of p)) o) (found calls s refl);
   initiating = λ p n calls. let s = initiating p n in accepts_none s (after_all s calls) (counted calls s).initiated refl;
 }

@@ -13,4 +13,5 @@ loop-debt-preserved c =
     let ds = c.args.debts.now in
     let i = c.loop-debt.debt-index in
     let d = get_or ds i nothing in
-    c.push_times.ensures ∙ ap (λ (l : List ℕ). l ++ replicate d.owed d.code) c.loop-debt.invariant ∙ sym (all_more ds i d c.loop-debt-test.true (read_at ds i c.loop-debt-test.true))
+    c.push_times.ensures ∙ ap (λ (l : List ℕ). l ++ replicate d.owed d.code) c.loop-debt.invariant
+    ∙ sym (all_more ds i d c.loop-debt-test.true (read_at ds i c.loop-debt-test.true))

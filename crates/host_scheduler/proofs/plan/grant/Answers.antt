@@ -37,9 +37,11 @@ loop-code-preserved c =
     let codes = c.args.codes.now in
     let x = c.unwrap-owner.result in
     let this : x ≡ get_or codes i 0 = value_of _ c.from_code.result _ x c.from_code.ensures c.unwrap-owner.ensures in
-    let takes : c.add.result ≡ true = c.add.ensures.answer ∙ ap (λ (l : List ℕ). takes_owner l x) c.loop-code.invariant.owners ∙ follows codes i x c.requires.ascend c.requires.few c.loop-code-test.true this in
+    let takes : c.add.result ≡ true = c.add.ensures.answer ∙ ap (λ (l : List ℕ). takes_owner l x) c.loop-code.invariant.owners
+    ∙ follows codes i x c.requires.ascend c.requires.few c.loop-code-test.true this in
     record {
-      owners = c.add.ensures.list ∙ ap (λ (b : Bool). if b then c.loop-code.owners ++ x ∷ [] else c.loop-code.owners) takes ∙ ap (λ (l : List ℕ). l ++ x ∷ []) c.loop-code.invariant.owners
+      owners = c.add.ensures.list ∙ ap (λ (b : Bool). if b then c.loop-code.owners ++ x ∷ [] else c.loop-code.owners) takes
+          ∙ ap (λ (l : List ℕ). l ++ x ∷ []) c.loop-code.invariant.owners
           ∙ ap (λ (y : ℕ). take i codes ++ y ∷ []) this ∙ sym (take_more codes i 0 c.loop-code-test.true);
       table = granted_more codes i x c.args.table.now _ c.loop-code-test.true this (c.grant.ensures ∙ ap (grant_owner x) c.loop-code.invariant.table);
     }

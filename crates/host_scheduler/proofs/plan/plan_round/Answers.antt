@@ -25,7 +25,8 @@ grant-owners-requires-clause-grantable c =
 
 pub returns-clause-gap : goal.returns-clause-gap
 returns-clause-gap c =
-    c.gap-gap.ensures.value ∙ planned_gap c.seconds-seconds.result c.args.frame c.args.table.now ∙ ap (λ (s : ℕ). (plan_round s c.args.frame c.args.table.now).gap) c.seconds-seconds.ensures.value
+    c.gap-gap.ensures.value ∙ planned_gap c.seconds-seconds.result c.args.frame c.args.table.now
+    ∙ ap (λ (s : ℕ). (plan_round s c.args.frame c.args.table.now).gap) c.seconds-seconds.ensures.value
 
 pub returns-clause-owners : goal.returns-clause-owners
 returns-clause-owners c =
@@ -39,7 +40,8 @@ returns-clause-owners c =
     let slots : c.slots.result.items ≡ slots_of owes t = c.slots.ensures.codes ∙ ap (λ (d : ℕ). slots_of (owed_to s d) t) due in
     let sorted = c.sorted-codes.result.items in
     let there = All-weaker (IsGrantable es) (λ x. IsSome (entry_of es x)) (λ x g. g.there) c.slots.result.items c.slots.ensures.grantable in
-    c.grant-owners.ensures.owners ∙ c.as_slice.ensures.value ∙ sorted_is es c.slots.result.items sorted up there c.sorted-codes.ensures.same c.sorted-codes.ensures.ascend
+    c.grant-owners.ensures.owners ∙ c.as_slice.ensures.value
+    ∙ sorted_is es c.slots.result.items sorted up there c.sorted-codes.ensures.same c.sorted-codes.ensures.ascend
     ∙ planned_owners s f t c.slots.result.items up slots ∙ ap (λ (n : ℕ). (plan_round n f t).owners) c.seconds-seconds.ensures.value
 
 pub returns-clause-table : goal.returns-clause-table
@@ -54,7 +56,8 @@ returns-clause-table c =
     let slots : c.slots.result.items ≡ slots_of owes t = c.slots.ensures.codes ∙ ap (λ (d : ℕ). slots_of (owed_to s d) t) due in
     let sorted = c.sorted-codes.result.items in
     let there = All-weaker (IsGrantable es) (λ x. IsSome (entry_of es x)) (λ x g. g.there) c.slots.result.items c.slots.ensures.grantable in
-    let place : c.slots.new.table ≡ record t { place = place_after owes t } = c.slots.ensures.place ∙ ap (λ (d : ℕ). record t { place = place_after (owed_to s d) t }) due in
+    let place : c.slots.new.table ≡ record t { place = place_after owes t } = c.slots.ensures.place
+    ∙ ap (λ (d : ℕ). record t { place = place_after (owed_to s d) t }) due in
     c.grant-owners.ensures.table ∙ ap (λ (l : List ℕ). granted_all l c.slots.new.table) c.as_slice.ensures.value ∙ ap (granted_all sorted) place
     ∙ ap (λ (l : List Entry). record { entries = l; place = place_after owes t }) (same_shares c.slots.result.items sorted es c.sorted-codes.ensures.same)
     ∙ planned_table s f t c.slots.result.items up slots ∙ ap (λ (n : ℕ). (plan_round n f t).table) c.seconds-seconds.ensures.value

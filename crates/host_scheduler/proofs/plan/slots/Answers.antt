@@ -46,7 +46,8 @@ last_of-requires c =
     let good = grantable c.args.seconds c.args.frame es up c.requires.seconds c.requires.frame codes in
     let is : c.as_slice-3.result.now ≡ take 40 (turns_of (in_line c.place-place.result (debts_of owes es)) 40) =
     c.as_slice-3.ensures.value ∙ c.give-given.ensures ∙ ap (λ (l : List Debt). take 40 (turns_of (in_line c.place-place.result l) 40)) here in
-    All-weaker (IsGrantable es) (λ n. n ≤ 803) (λ n g. g.code.1) _ (All-same (IsGrantable es) _ _ is (given_good (IsGrantable es) c.place-place.result (debts_of owes es) good))
+    All-weaker (IsGrantable es) (λ n. n ≤ 803) (λ n g. g.code.1) _
+    (All-same (IsGrantable es) _ _ is (given_good (IsGrantable es) c.place-place.result (debts_of owes es) good))
 
 pub returns-clause-codes : goal.returns-clause-codes
 returns-clause-codes c =
@@ -72,7 +73,8 @@ returns-clause-place c =
     c.as_slice-3.ensures.value ∙ c.give-given.ensures ∙ ap (λ (l : List Debt). take 40 (turns_of (in_line c.place-place.result l) 40)) here
     ∙ ap (λ (p : ℕ). take 40 (turns_of (in_line p (debts_of owes es)) 40)) c.place-place.ensures.value ∙ given_is owes t in
     let last : c.last_of.result ≡ last_code (given owes t) = c.last_of.ensures.value ∙ ap last_code is in
-    c.set_place.ensures ∙ ap (λ (p : ℕ). record t { place = p + 1 }) last ∙ ap (λ (p : ℕ). record t { place = p }) (sym (cond-false (nat_le (sum_by owes es) 40) t.place (last_code (given owes t) + 1) over))
+    c.set_place.ensures ∙ ap (λ (p : ℕ). record t { place = p + 1 }) last
+    ∙ ap (λ (p : ℕ). record t { place = p }) (sym (cond-false (nat_le (sum_by owes es) 40) t.place (last_code (given owes t) + 1) over))
 
 pub returns-clause-grantable : goal.returns-clause-grantable
 returns-clause-grantable c =
@@ -82,4 +84,5 @@ returns-clause-grantable c =
     let here : c.as_slice-2.result.now ≡ debts_of owes es = c.as_slice-2.ensures.value ∙ c.debts-debts.ensures.value in
     let codes = All-same (λ d. IsCode d.code) _ _ (sym c.debts-debts.ensures.value) c.debts-debts.ensures.codes in
     let good = grantable c.args.seconds c.args.frame es up c.requires.seconds c.requires.frame codes in
-    All-same (IsGrantable es) _ _ (c.give-given.ensures ∙ ap (λ (l : List Debt). take 40 (turns_of (in_line c.place-place.result l) 40)) here) (given_good (IsGrantable es) c.place-place.result (debts_of owes es) good)
+    All-same (IsGrantable es) _ _ (c.give-given.ensures ∙ ap (λ (l : List Debt). take 40 (turns_of (in_line c.place-place.result l) 40))
+    here) (given_good (IsGrantable es) c.place-place.result (debts_of owes es) good)

@@ -18,6 +18,7 @@ loop-turn-preserved c =
     let k = c.loop-turn.turn in
     let here : c.as_slice.result.now ≡ beyond k line = c.as_slice.ensures.value ∙ c.loop-turn.invariant.line in
     record {
-      given = c.give_turn-line.ensures.given ∙ ap (λ (l : List Debt). take 40 (c.loop-turn.given.items ++ map code_of l)) here ∙ next_turn line k c.loop-turn.given.items c.loop-turn.invariant.given;
+      given = c.give_turn-line.ensures.given ∙ ap (λ (l : List Debt). take 40 (c.loop-turn.given.items ++ map code_of l)) here
+          ∙ next_turn line k c.loop-turn.given.items c.loop-turn.invariant.given;
       line = c.give_turn-line.ensures.rest ∙ ap (beyond (k + 1)) here ∙ next_line line k;
     }

@@ -29,6 +29,8 @@ loop-debt-preserved c =
     let d = get_or line i nothing in
     let read = read_at line i c.loop-debt-test.true in
     record {
-      given = slot_more c.args.given.now.items line i d c.loop-debt.given.items c.push_slot.new.given.items c.loop-debt-test.true read c.loop-debt.invariant.given c.push_slot.ensures;
-      rest = sifted (owed_beyond (c.args.turn + 1)) line i d c.loop-debt.rest.items c.push_if.new.line.items [] _ c.loop-debt-test.true read refl c.loop-debt.invariant.rest c.push_if.ensures;
+      given = slot_more c.args.given.now.items line i d c.loop-debt.given.items c.push_slot.new.given.items c.loop-debt-test.true read
+          c.loop-debt.invariant.given c.push_slot.ensures;
+      rest = sifted (owed_beyond (c.args.turn + 1)) line i d c.loop-debt.rest.items c.push_if.new.line.items [] _ c.loop-debt-test.true read
+          refl c.loop-debt.invariant.rest c.push_if.ensures;
     }

@@ -12,13 +12,15 @@ push_if-requires c =
 
 pub push_if-requires-in-loop-debt-2 : goal.push_if-requires-in-loop-debt-2
 push_if-requires-in-loop-debt-2 c =
-    λ stays. line_room c.args.place c.args.debts.now c.loop-debt-2.debt-index c.loop-debt-2.line.items c.loop-debt-2-test.true c.requires c.loop-debt-2.invariant (sym c.is_early.ensures ∙ stays)
+    λ stays. line_room c.args.place c.args.debts.now c.loop-debt-2.debt-index c.loop-debt-2.line.items c.loop-debt-2-test.true c.requires
+    c.loop-debt-2.invariant (sym c.is_early.ensures ∙ stays)
 
 pub loop-debt-preserved : goal.loop-debt-preserved
 loop-debt-preserved c =
     let ds = c.args.debts.now in
     let i = c.loop-debt.debt-index in
-    sifted (late c.args.place) ds i (get_or ds i nothing) c.loop-debt.line.items c.push_if.new.line.items [] _ c.loop-debt-test.true (read_at ds i c.loop-debt-test.true) c.is_late.ensures c.loop-debt.invariant c.push_if.ensures
+    sifted (late c.args.place) ds i (get_or ds i nothing) c.loop-debt.line.items c.push_if.new.line.items [] _ c.loop-debt-test.true
+    (read_at ds i c.loop-debt-test.true) c.is_late.ensures c.loop-debt.invariant c.push_if.ensures
 
 pub loop-debt-2-init : goal.loop-debt-2-init
 loop-debt-2-init c =
@@ -30,7 +32,9 @@ pub loop-debt-2-preserved : goal.loop-debt-2-preserved
 loop-debt-2-preserved c =
     let ds = c.args.debts.now in
     let i = c.loop-debt-2.debt-index in
-    sifted (early c.args.place) ds i (get_or ds i nothing) c.loop-debt-2.line.items c.push_if-in-loop-debt-2.new.line.items (filter (late c.args.place) ds) _ c.loop-debt-2-test.true (read_at ds i c.loop-debt-2-test.true) c.is_early.ensures c.loop-debt-2.invariant c.push_if-in-loop-debt-2.ensures
+    sifted (early c.args.place) ds i (get_or ds i nothing) c.loop-debt-2.line.items c.push_if-in-loop-debt-2.new.line.items
+    (filter (late c.args.place) ds) _ c.loop-debt-2-test.true (read_at ds i c.loop-debt-2-test.true) c.is_early.ensures
+    c.loop-debt-2.invariant c.push_if-in-loop-debt-2.ensures
 
 pub returns : goal.returns
 returns c =

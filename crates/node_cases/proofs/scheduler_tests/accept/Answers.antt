@@ -15,7 +15,8 @@ with_early e (x ∷ es) one all =
     let first = All-head Early x es all in
     let rest = All-tail Early x es all in
     cond_both (e.code == x.code) (e ∷ es) (cond (nat_lt e.code x.code) (e ∷ x ∷ es) (x ∷ with_entry e es)) (All Early) (λ is. All-cons Early e es one rest)
-    (λ not. cond_both (nat_lt e.code x.code) (e ∷ x ∷ es) (x ∷ with_entry e es) (All Early) (λ less. All-cons Early e (x ∷ es) one all) (λ more. All-cons Early x (with_entry e es) first (with_early e es one rest)))
+    (λ not. cond_both (nat_lt e.code x.code) (e ∷ x ∷ es) (x ∷ with_entry e es) (All Early) (λ less. All-cons Early e (x ∷ es) one all)
+    (λ more. All-cons Early x (with_entry e es) first (with_early e es one rest)))
 
 after_early : (t : Table) (a : Ask) → All Early t.entries → All Early (after_request 0 t a).entries
 after_early t a all =

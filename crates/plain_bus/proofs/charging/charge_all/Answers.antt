@@ -1,4 +1,4 @@
-use Rattle.std.proofs.Common.{◌≡◌, ◌<◌, ◌==◌, ◌+◌, ℕ, List, Bool, All, length, map, take, get_or, if◌then◌else◌, subst, sym, ◌∙◌, ap, arith}
+use Rattle.std.proofs.Common.{◌≡◌, ◌<◌, ◌==◌, ◌+◌, ℕ, List, Bool, All, length, take, get_or, if◌then◌else◌, subst, sym, ◌∙◌, ap, arith}
 use Rattle.std.proofs.lemmas.List.{take_all, get_or_default, get_or-map, take_more_set}
 use Rattle.std.proofs.lemmas.List.Elements.{All-push}
 use Rattle.bus_model.specs.Bus.{Cost}

@@ -1,4 +1,4 @@
-use Rattle.std.proofs.Common.{◌≡◌, ◌<◌, ◌++◌, ℕ, List, All, Option, length, map, take, get_or, filter_map, option_map, subst, sym}
+use Rattle.std.proofs.Common.{◌≡◌, ◌<◌, ◌++◌, ℕ, List, All, Option, length, take, get_or, filter_map, option_map, subst, sym}
 use Rattle.std.proofs.Common.{◌∙◌, ap, arith, ◌+◌}
 use Rattle.std.proofs.lemmas.List.{take_all, length-map, get_or_default, take_more_set}
 use Rattle.std.proofs.lemmas.List.Elements.{All-push}

@@ -12,8 +12,11 @@ loop-rate-preserved c =
     let i = c.loop-rate.rate-index in
     let rate = c.rate-item.result in
     let below : i < length rates = omega arith in
-    let more : take (i + 1) rates ≡ take i rates ++ rate ∷ [] = take_more rates i rate below ∙ ap (λ (r : RateLine). take i rates ++ r ∷ []) (sym c.rate-item.is) in
-    let added : AreRatesOf (take i rates ++ rate ∷ []) (set c.loop-rate.lists.items rate.node (get_or c.loop-rate.lists.items rate.node [] ++ entry_of rate ∷ [])) =
+    let more : take (i + 1) rates ≡ take i rates ++ rate ∷ [] =
+    take_more rates i rate below ∙ ap (λ (r : RateLine). take i rates ++ r ∷ []) (sym c.rate-item.is) in
+    let added : AreRatesOf (take i rates ++ rate ∷ [])
+    (set c.loop-rate.lists.items rate.node (get_or c.loop-rate.lists.items rate.node [] ++ entry_of rate ∷ [])) =
     added_rate (take i rates) rate c.loop-rate.lists.items c.loop-rate.invariant c.add_rate.ensures.range in
-    let held : c.add_rate.new.lists.items ≡ set c.loop-rate.lists.items rate.node (get_or c.loop-rate.lists.items rate.node [] ++ entry_of rate ∷ []) = c.in_ok-add_rate.ensures.added in
+    let held : c.add_rate.new.lists.items ≡ set c.loop-rate.lists.items rate.node (get_or c.loop-rate.lists.items rate.node [] ++ entry_of rate ∷ []) =
+    c.in_ok-add_rate.ensures.added in
     rw (more, held) added

@@ -24,5 +24,8 @@ returns-else-kind-eq4 c =
     let kind = get_or c.bytes.result.now 0 0 in
     elim c.if-kind-eq1.branch [
       | then-kind-eq1 w ↦ absurd (both_ways (kind == 1) (sym w.value-is ∙ c.if-kind-eq4.false) (eq-eqb kind 1 w.if-kind-eq1.true))
-      | else-kind-eq1 w ↦ elim named.kind [ inl one ↦ absurd (w.if-kind-eq1.false one) | inr four ↦ absurd (both_ways (kind == 4) (sym w.value-is ∙ c.if-kind-eq4.false) (eq-eqb kind 4 four)) ]
+      | else-kind-eq1 w ↦ elim named.kind [
+        | inl one ↦ absurd (w.if-kind-eq1.false one)
+        | inr four ↦ absurd (both_ways (kind == 4) (sym w.value-is ∙ c.if-kind-eq4.false) (eq-eqb kind 4 four))
+      ]
     ]

@@ -9,7 +9,9 @@ returns-clause-value c = read_value c.args.p.now c.spelled.result c.spelled.ensu
 pub returns-clause-again : goal.returns-clause-again
 returns-clause-again c =
     let p = c.args.p.now in
-    if_some_then c.spelled.result (λ s. spells p s ≡ true) (λ s. set (spelling s (get_or p 1 0) 0) 2 (get_or p 2 0) ≡ p) c.spelled.ensures.some (written_again p)
+    if_some_then c.spelled.result (λ s. spells p s ≡ true) (λ s. set (spelling s (get_or p 1 0) 0) 2 (get_or p 2 0) ≡ p)
+    c.spelled.ensures.some (written_again p)
 
 pub returns-clause-writable : goal.returns-clause-writable
-returns-clause-writable c = let p = c.args.p.now in if_some_then c.spelled.result (λ s. spells p s ≡ true) (λ s. IsWritable s (get_or p 1 0)) c.spelled.ensures.some (writable_again p)
+returns-clause-writable c = let p = c.args.p.now in
+    if_some_then c.spelled.result (λ s. spells p s ≡ true) (λ s. IsWritable s (get_or p 1 0)) c.spelled.ensures.some (writable_again p)

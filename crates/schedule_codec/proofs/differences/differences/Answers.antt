@@ -41,7 +41,8 @@ returns c =
     let codes = codes_of c.args.first c.args.rest.now c.requires in
     let none = drop_all c.loop-code.code-index c.args.rest.now c.loop-code-test.false in
     let all : c.loop-code.found.items ≡ differences (c.args.first ∷ c.args.rest.now) =
-    sym (append-nil c.loop-code.found.items) ∙ ap (λ (l : List ℕ). c.loop-code.found.items ++ differences (c.loop-code.last ∷ l)) (sym none) ∙ c.loop-code.invariant.same in
+    sym (append-nil c.loop-code.found.items) ∙ ap (λ (l : List ℕ). c.loop-code.found.items ++ differences (c.loop-code.last ∷ l)) (sym none)
+    ∙ c.loop-code.invariant.same in
     record {
       value = all;
       many = ap length all ∙ length-differences c.args.first c.args.rest.now;

@@ -16,7 +16,8 @@ returns-then-fit_in c =
     }
 
 pub loop-width-preserved : goal.loop-width-preserved
-loop-width-preserved c = sym (least_further 10 c.loop-width.width (λ w. fit w c.args.differences.now) (omega arith) (sym c.fit_in.ensures ∙ c.if-fit_in.false)) ∙ c.loop-width.invariant
+loop-width-preserved c = sym (least_further 10 c.loop-width.width (λ w. fit w c.args.differences.now) (omega arith)
+    (sym c.fit_in.ensures ∙ c.if-fit_in.false)) ∙ c.loop-width.invariant
 
 pub returns : goal.returns
 returns c = record {

@@ -24,7 +24,8 @@ loop-number-preserved c =
     let numbers = c.args.numbers.now in
     record {
       count = ap (λ (b : Bits). b.count) c.push.ensures ∙ omega arith;
-      value = ap (λ (b : Bits). b.value) c.push.ensures ∙ ap (λ n. n * 2 ^ w + get_or numbers i 0) c.loop-number.invariant.value ∙ sym (number_more w numbers i c.loop-number-test.true);
+      value = ap (λ (b : Bits). b.value) c.push.ensures ∙ ap (λ n. n * 2 ^ w + get_or numbers i 0) c.loop-number.invariant.value
+          ∙ sym (number_more w numbers i c.loop-number-test.true);
     }
 
 pub returns : goal.returns
@@ -34,5 +35,7 @@ returns c =
     let bits = c.loop-number.bits in
     let all : c.loop-number.number-index ≡ length numbers = omega arith in
     let count : bits.count ≡ length numbers * w = c.loop-number.invariant.count ∙ ap (λ i. i * w) all in
-    let value : bits.value ≡ number w numbers = c.loop-number.invariant.value ∙ ap (λ l. number w l) (take_all c.loop-number.number-index numbers (omega arith)) in
-    c.finish.ensures ∙ ap (λ (n : ℕ). digits 8 (bytes_for n) (bits.value * 2 ^ fill n)) count ∙ ap (λ n. digits 8 (bytes_for (length numbers * w)) (n * 2 ^ fill (length numbers * w))) value
+    let value : bits.value ≡ number w numbers = c.loop-number.invariant.value
+    ∙ ap (λ l. number w l) (take_all c.loop-number.number-index numbers (omega arith)) in
+    c.finish.ensures ∙ ap (λ (n : ℕ). digits 8 (bytes_for n) (bits.value * 2 ^ fill n)) count
+    ∙ ap (λ n. digits 8 (bytes_for (length numbers * w)) (n * 2 ^ fill (length numbers * w))) value

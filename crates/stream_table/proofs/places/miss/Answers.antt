@@ -7,7 +7,8 @@ use Rattle.stream_table.proofs.places.miss.Goals as goal
 pub returns-in-Some-clause-answer : goal.returns-in-Some-clause-answer
 returns-in-Some-clause-answer c =
     let es = c.args.entries.now.items in
-    let at : IsAt code_in es c.args.code c.in-Ok.place = subst (λ (l : List Entry). IsAt code_in l c.args.code c.in-Ok.place) c.as_slice.ensures.value c.in-Ok.ensures.found in
+    let at : IsAt code_in es c.args.code c.in-Ok.place =
+    subst (λ (l : List Entry). IsAt code_in l c.args.code c.in-Ok.place) c.as_slice.ensures.value c.in-Ok.ensures.found in
     let x = c.index-deref-place.result in
     let read : x ≡ get_or es c.in-Ok.place x = c.index-deref-place.is ∙ ap (λ (l : List Entry). get_or l c.in-Ok.place x) c.deref.ensures.0 in
     stays es c.args.code c.in-Ok.place at x c.requires read c.in-Some.entry c.in-Some.ensures
@@ -15,7 +16,8 @@ returns-in-Some-clause-answer c =
 pub returns-in-Some-clause-after : goal.returns-in-Some-clause-after
 returns-in-Some-clause-after c =
     let es = c.args.entries.now.items in
-    let at : IsAt code_in es c.args.code c.in-Ok.place = subst (λ (l : List Entry). IsAt code_in l c.args.code c.in-Ok.place) c.as_slice.ensures.value c.in-Ok.ensures.found in
+    let at : IsAt code_in es c.args.code c.in-Ok.place =
+    subst (λ (l : List Entry). IsAt code_in l c.args.code c.in-Ok.place) c.as_slice.ensures.value c.in-Ok.ensures.found in
     let x = c.index-deref-place.result in
     let read : x ≡ get_or es c.in-Ok.place x = c.index-deref-place.is ∙ ap (λ (l : List Entry). get_or l c.in-Ok.place x) c.deref.ensures.0 in
     missed_is es c.args.code c.in-Ok.place at x c.requires read c.in-Some.entry _ c.in-Some.ensures c.set.ensures
@@ -23,7 +25,8 @@ returns-in-Some-clause-after c =
 pub returns-in-Some-clause-kept : goal.returns-in-Some-clause-kept
 returns-in-Some-clause-kept c =
     let es = c.args.entries.now.items in
-    let at : IsAt code_in es c.args.code c.in-Ok.place = subst (λ (l : List Entry). IsAt code_in l c.args.code c.in-Ok.place) c.as_slice.ensures.value c.in-Ok.ensures.found in
+    let at : IsAt code_in es c.args.code c.in-Ok.place =
+    subst (λ (l : List Entry). IsAt code_in l c.args.code c.in-Ok.place) c.as_slice.ensures.value c.in-Ok.ensures.found in
     let x = c.index-deref-place.result in
     let read : x ≡ get_or es c.in-Ok.place x = c.index-deref-place.is ∙ ap (λ (l : List Entry). get_or l c.in-Ok.place x) c.deref.ensures.0 in
     missed_kept es _ c.args.code c.requires (missed_is es c.args.code c.in-Ok.place at x c.requires read c.in-Some.entry _ c.in-Some.ensures c.set.ensures)
@@ -31,7 +34,8 @@ returns-in-Some-clause-kept c =
 pub returns-in-None-clause-answer : goal.returns-in-None-clause-answer
 returns-in-None-clause-answer c =
     let es = c.args.entries.now.items in
-    let at : IsAt code_in es c.args.code c.in-Ok.place = subst (λ (l : List Entry). IsAt code_in l c.args.code c.in-Ok.place) c.as_slice.ensures.value c.in-Ok.ensures.found in
+    let at : IsAt code_in es c.args.code c.in-Ok.place =
+    subst (λ (l : List Entry). IsAt code_in l c.args.code c.in-Ok.place) c.as_slice.ensures.value c.in-Ok.ensures.found in
     let x = c.index-deref-place.result in
     let read : x ≡ get_or es c.in-Ok.place x = c.index-deref-place.is ∙ ap (λ (l : List Entry). get_or l c.in-Ok.place x) c.deref.ensures.0 in
     goes_now es c.args.code c.in-Ok.place at x c.requires read c.in-None.ensures
@@ -39,7 +43,8 @@ returns-in-None-clause-answer c =
 pub returns-in-None-clause-after : goal.returns-in-None-clause-after
 returns-in-None-clause-after c =
     let es = c.args.entries.now.items in
-    let at : IsAt code_in es c.args.code c.in-Ok.place = subst (λ (l : List Entry). IsAt code_in l c.args.code c.in-Ok.place) c.as_slice.ensures.value c.in-Ok.ensures.found in
+    let at : IsAt code_in es c.args.code c.in-Ok.place =
+    subst (λ (l : List Entry). IsAt code_in l c.args.code c.in-Ok.place) c.as_slice.ensures.value c.in-Ok.ensures.found in
     let x = c.index-deref-place.result in
     let read : x ≡ get_or es c.in-Ok.place x = c.index-deref-place.is ∙ ap (λ (l : List Entry). get_or l c.in-Ok.place x) c.deref.ensures.0 in
     gone_is es c.args.code c.in-Ok.place at x c.requires read _ c.in-None.ensures c.remove.ensures.items
@@ -47,12 +52,14 @@ returns-in-None-clause-after c =
 pub returns-in-None-clause-kept : goal.returns-in-None-clause-kept
 returns-in-None-clause-kept c =
     let es = c.args.entries.now.items in
-    let at : IsAt code_in es c.args.code c.in-Ok.place = subst (λ (l : List Entry). IsAt code_in l c.args.code c.in-Ok.place) c.as_slice.ensures.value c.in-Ok.ensures.found in
+    let at : IsAt code_in es c.args.code c.in-Ok.place =
+    subst (λ (l : List Entry). IsAt code_in l c.args.code c.in-Ok.place) c.as_slice.ensures.value c.in-Ok.ensures.found in
     let x = c.index-deref-place.result in
     let read : x ≡ get_or es c.in-Ok.place x = c.index-deref-place.is ∙ ap (λ (l : List Entry). get_or l c.in-Ok.place x) c.deref.ensures.0 in
     missed_kept es _ c.args.code c.requires (gone_is es c.args.code c.in-Ok.place at x c.requires read _ c.in-None.ensures c.remove.ensures.items)
 
 pub returns-in-Err-clause-after : goal.returns-in-Err-clause-after
 returns-in-Err-clause-after c =
-    let gap : IsGap code_in c.args.entries.now.items c.args.code c.in-Err.field-0 = subst (λ (l : List Entry). IsGap code_in l c.args.code c.in-Err.field-0) c.as_slice.ensures.value c.in-Err.ensures.missing in
+    let gap : IsGap code_in c.args.entries.now.items c.args.code c.in-Err.field-0 =
+    subst (λ (l : List Entry). IsGap code_in l c.args.code c.in-Err.field-0) c.as_slice.ensures.value c.in-Err.ensures.missing in
     missed_none c.args.entries.now.items c.args.code c.in-Err.field-0 gap

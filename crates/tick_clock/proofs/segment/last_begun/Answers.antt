@@ -9,5 +9,6 @@ returns c =
     let xs = c.args.segments.now in
     let t = c.args.t in
     let n = c.partition_point.result in
-    let point = IsPartitionPoint-from_clause (has_begun t) xs n c.partition_point.ensures.partitioned (IsPartitionedBy-leb (λ s. s.start) xs t (starts_rise xs c.requires)) (λ a r f' k. search rules) in
+    let point = IsPartitionPoint-from_clause (has_begun t) xs n c.partition_point.ensures.partitioned
+    (IsPartitionedBy-leb (λ s. s.start) xs t (starts_rise xs c.requires)) (λ a r f' k. search rules) in
     (n, splits_from (has_begun t) xs n c.partition_point.ensures.bound point.0 point.1, c.segment_before.ensures)

@@ -14,7 +14,8 @@ counted-count-requires c =
     let rates = c.args.rates.now in
     let i : ℕ = c.loop-start.start-index in
     let inv = c.loop-start.invariant in
-    let todo : InOrder c.loop-start.last.start (get_or rates i (0, pos 0) ∷ drop (i + 1) rates) = subst (InOrder c.loop-start.last.start) (drop_more rates i (0, pos 0) (omega arith)) inv.todo in
+    let todo : InOrder c.loop-start.last.start (get_or rates i (0, pos 0) ∷ drop (i + 1) rates) =
+    subst (InOrder c.loop-start.last.start) (drop_more rates i (0, pos 0) (omega arith)) inv.todo in
     record { rate = inv.small.rate; begun = todo.0; small = omega (arith, inv.small.count, inv.small.start) }
 
 pub loop-start-init : goal.loop-start-init
@@ -45,9 +46,12 @@ loop-start-preserved c =
     let s : Segment = record { start = x.0; ppm = z; count = count } in
     let pushed : ss ++ s ∷ [] ≡ c.push.new.self.items = search rules in
     record {
-      entries = subst (λ (l : List Segment). map entry_of l ≡ take (i + 1) rates) pushed (step_entries ss last x rest z count same c.counted-count.ensures inv.kept inv.last inv.small todo (take i rates) inv.entries ∙ sym (take_more rates i (0, pos 0) (omega arith)));
+      entries = subst (λ (l : List Segment). map entry_of l ≡ take (i + 1) rates) pushed
+          (step_entries ss last x rest z count same c.counted-count.ensures inv.kept inv.last inv.small todo (take i rates) inv.entries
+          ∙ sym (take_more rates i (0, pos 0) (omega arith)));
       kept = subst (AreKept first_segment) pushed (step_kept ss last x rest z count same c.counted-count.ensures inv.kept inv.last inv.small todo);
-      last = subst (λ (l : List Segment). s ≡ last_of first_segment l (length l)) pushed (step_last ss last x rest z count same c.counted-count.ensures inv.kept inv.last inv.small todo);
+      last = subst (λ (l : List Segment). s ≡ last_of first_segment l (length l)) pushed
+          (step_last ss last x rest z count same c.counted-count.ensures inv.kept inv.last inv.small todo);
       small = step_small ss last x rest z count same c.counted-count.ensures inv.kept inv.last inv.small todo;
       todo = todo.3;
     }

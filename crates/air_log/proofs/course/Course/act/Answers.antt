@@ -1,4 +1,4 @@
-use Rattle.std.proofs.Common.{◌≡◌, Bool, true, false, if◌then◌else◌, None, map, reverse, refl, sym, ◌∙◌, ap, subst}
+use Rattle.std.proofs.Common.{◌≡◌, Bool, if◌then◌else◌, None, map, reverse, refl, sym, ◌∙◌, ap, subst}
 use Rattle.std.proofs.lemmas.Result.{on_ok_weaker}
 use Rattle.lwb_base.specs.declared.event.Event.TheVariants.{Boot}
 use Rattle.scenario_text.specs.declared.script.Act.{Act}
@@ -7,31 +7,46 @@ use Rattle.air_log.specs.ScriptedDevices.{after_act, after_line}
 use Rattle.air_log.specs.DeviceStates.{DeviceState, whole, tuning_of}
 use Rattle.air_log.specs.TrailsTold.{sending_of}
 use Rattle.air_log.specs.Courses.{CourseState, IsShown}
-use Rattle.air_log.proofs.CourseSteps.{then_shown, then_goes, goes_seen, state_goes, device_goes, put_goes}
+use Rattle.air_log.proofs.ShownCourses.{goes_seen}
+use Rattle.air_log.proofs.CourseSteps.{then_shown, then_goes, state_goes, device_goes, put_goes}
 use Rattle.air_log.proofs.course.Course.act.Goals as goal
 
 pub tell-requires-clause-shown : goal.tell-requires-clause-shown
 tell-requires-clause-shown g c =
     let t = c.args.t in
-    let old : CourseState = record { device = c.self.inside.device; sent = map sending_of c.self.inside.sent.items; tuned = reverse (map tuning_of c.self.inside.tuned.items); deliveries = c.self.inside.deliveries.items; windows = c.self.inside.windows } in
+    let old : CourseState = record {
+      device = c.self.inside.device;
+      sent = map sending_of c.self.inside.sent.items;
+      tuned = reverse (map tuning_of c.self.inside.tuned.items);
+      deliveries = c.self.inside.deliveries.items;
+      windows = c.self.inside.windows;
+    } in
     let x = c.switch_on.new.self in
     let on : DeviceState = record (old.device) { core = x.core; power = x.power; delivery = None } in
     let is : x ≡ on = c.switch_on.ensures.after ∙ ap (λ (b : Bool). if b then on else old.device) c.if-switch_on.true in
-    then_shown t old x (c.switch_on.ensures.time t) (ap (λ (s : DeviceState). s.setup) is) (λ none. ap (λ (s : DeviceState). s.delivery) is) (subst (IsShown t) (sym c.self.view_is) c.requires.shown)
+    then_shown t old x (c.switch_on.ensures.time t) (ap (λ (s : DeviceState). s.setup) is) (λ none. ap (λ (s : DeviceState). s.delivery) is)
+    (subst (IsShown t) (sym c.self.view_is) c.requires.shown)
 
 pub returns-in_ok-tell-in-On : goal.returns-in_ok-tell-in-On
 returns-in_ok-tell-in-On g c =
     let clock = g.C.DriftClock.readings c.args.clock.now in
     let t = c.args.t in
     let line = c.args.line.now in
-    let old : CourseState = record { device = c.self.inside.device; sent = map sending_of c.self.inside.sent.items; tuned = reverse (map tuning_of c.self.inside.tuned.items); deliveries = c.self.inside.deliveries.items; windows = c.self.inside.windows } in
+    let old : CourseState = record {
+      device = c.self.inside.device;
+      sent = map sending_of c.self.inside.sent.items;
+      tuned = reverse (map tuning_of c.self.inside.tuned.items);
+      deliveries = c.self.inside.deliveries.items;
+      windows = c.self.inside.windows;
+    } in
     let x = c.switch_on.new.self in
     let on : DeviceState = record (old.device) { core = x.core; power = x.power; delivery = None } in
     let is : x ≡ on = c.switch_on.ensures.after ∙ ap (λ (b : Bool). if b then on else old.device) c.if-switch_on.true in
     goes_seen t (λ q d. after_line clock q t d line) old c.args.self.now c.tell.new.self c.tell.new.self c.self.view_is refl
     (then_goes t old x (c.switch_on.ensures.time t) (ap (λ (s : DeviceState). s.setup) is) (λ none. ap (λ (s : DeviceState). s.delivery) is)
     (λ q d. after_line clock q t d line) (λ q d. event clock q t Boot None d) c.tell.new.self
-    (λ made. ap (λ (a : Act). after_act clock old.device.setup t line.frame (whole old.device made) a old.device.power) c.in-On.is ∙ c.switch_on.ensures.whole clock t line.frame made
+    (λ made. ap (λ (a : Act). after_act clock old.device.setup t line.frame (whole old.device made) a old.device.power) c.in-On.is
+    ∙ c.switch_on.ensures.whole clock t line.frame made
     ∙ ap (λ (b : Bool). if b then event clock old.device.setup t Boot None (whole x made) else whole x made) c.if-switch_on.true)
     c.in_ok-tell-in-On.ensures)
 
@@ -40,14 +55,21 @@ returns-else-switch_on g c =
     let clock = g.C.DriftClock.readings c.args.clock.now in
     let t = c.args.t in
     let line = c.args.line.now in
-    let old : CourseState = record { device = c.self.inside.device; sent = map sending_of c.self.inside.sent.items; tuned = reverse (map tuning_of c.self.inside.tuned.items); deliveries = c.self.inside.deliveries.items; windows = c.self.inside.windows } in
+    let old : CourseState = record {
+      device = c.self.inside.device;
+      sent = map sending_of c.self.inside.sent.items;
+      tuned = reverse (map tuning_of c.self.inside.tuned.items);
+      deliveries = c.self.inside.deliveries.items;
+      windows = c.self.inside.windows;
+    } in
     let x = c.switch_on.new.self in
     let on : DeviceState = record (old.device) { core = x.core; power = x.power; delivery = None } in
     let is : x ≡ old.device = c.switch_on.ensures.after ∙ ap (λ (b : Bool). if b then on else old.device) c.if-switch_on.false in
     let new : CourseState = record old { device = x } in
     goes_seen t (λ q d. after_line clock q t d line) old c.args.self.now new new c.self.view_is refl
     (state_goes t old x (λ q d. after_line clock q t d line)
-    (λ made. ap (λ (a : Act). after_act clock old.device.setup t line.frame (whole old.device made) a old.device.power) c.in-On.is ∙ c.switch_on.ensures.whole clock t line.frame made
+    (λ made. ap (λ (a : Act). after_act clock old.device.setup t line.frame (whole old.device made) a old.device.power) c.in-On.is
+    ∙ c.switch_on.ensures.whole clock t line.frame made
     ∙ ap (λ (b : Bool). if b then event clock old.device.setup t Boot None (whole x made) else whole x made) c.if-switch_on.false)
     (c.switch_on.ensures.time t) (record { setup = ap (λ (s : DeviceState). s.setup) is; delivery = ap (λ (s : DeviceState). s.delivery) is }))
 
@@ -56,12 +78,19 @@ returns-in-Off g c =
     let clock = g.C.DriftClock.readings c.args.clock.now in
     let t = c.args.t in
     let line = c.args.line.now in
-    let old : CourseState = record { device = c.self-in-Off.inside.device; sent = map sending_of c.self-in-Off.inside.sent.items; tuned = reverse (map tuning_of c.self-in-Off.inside.tuned.items); deliveries = c.self-in-Off.inside.deliveries.items; windows = c.self-in-Off.inside.windows } in
+    let old : CourseState = record {
+      device = c.self-in-Off.inside.device;
+      sent = map sending_of c.self-in-Off.inside.sent.items;
+      tuned = reverse (map tuning_of c.self-in-Off.inside.tuned.items);
+      deliveries = c.self-in-Off.inside.deliveries.items;
+      windows = c.self-in-Off.inside.windows;
+    } in
     let x = c.switch_off-closed in
     on_ok_weaker c.log_tuning.result (λ logged.
     goes_seen t (λ q d. after_line clock q t d line) old c.args.self.now _ c.log_tuning.new.self c.self-in-Off.view_is (sym logged)
     (device_goes t old x.new.self x.result (λ q d. after_line clock q t d line)
-    (λ made ended. ap (λ (a : Act). after_act clock old.device.setup t line.frame (whole old.device made) a old.device.power) c.in-Off.is ∙ x.ensures.whole clock line.frame made)
+    (λ made ended. ap (λ (a : Act). after_act clock old.device.setup t line.frame (whole old.device made) a old.device.power) c.in-Off.is
+    ∙ x.ensures.whole clock line.frame made)
     x.ensures.before x.ensures.time x.ensures.node))
     c.log_tuning.ensures
 
@@ -70,12 +99,19 @@ returns-in-Declare g c =
     let clock = g.C.DriftClock.readings c.args.clock.now in
     let t = c.args.t in
     let line = c.args.line.now in
-    let old : CourseState = record { device = c.self-in-Declare.inside.device; sent = map sending_of c.self-in-Declare.inside.sent.items; tuned = reverse (map tuning_of c.self-in-Declare.inside.tuned.items); deliveries = c.self-in-Declare.inside.deliveries.items; windows = c.self-in-Declare.inside.windows } in
+    let old : CourseState = record {
+      device = c.self-in-Declare.inside.device;
+      sent = map sending_of c.self-in-Declare.inside.sent.items;
+      tuned = reverse (map tuning_of c.self-in-Declare.inside.tuned.items);
+      deliveries = c.self-in-Declare.inside.deliveries.items;
+      windows = c.self-in-Declare.inside.windows;
+    } in
     let x = c.declare in
     let new : CourseState = record old { device = x.new.self } in
     goes_seen t (λ q d. after_line clock q t d line) old c.args.self.now new new c.self-in-Declare.view_is refl
     (state_goes t old x.new.self (λ q d. after_line clock q t d line)
-    (λ made. ap (λ (a : Act). after_act clock old.device.setup t line.frame (whole old.device made) a old.device.power) c.in-Declare.is ∙ x.ensures.whole clock t line.frame made)
+    (λ made. ap (λ (a : Act). after_act clock old.device.setup t line.frame (whole old.device made) a old.device.power) c.in-Declare.is
+    ∙ x.ensures.whole clock t line.frame made)
     (x.ensures.time t) x.ensures.node)
 
 pub returns-in-Leave : goal.returns-in-Leave
@@ -83,12 +119,19 @@ returns-in-Leave g c =
     let clock = g.C.DriftClock.readings c.args.clock.now in
     let t = c.args.t in
     let line = c.args.line.now in
-    let old : CourseState = record { device = c.self-in-Leave.inside.device; sent = map sending_of c.self-in-Leave.inside.sent.items; tuned = reverse (map tuning_of c.self-in-Leave.inside.tuned.items); deliveries = c.self-in-Leave.inside.deliveries.items; windows = c.self-in-Leave.inside.windows } in
+    let old : CourseState = record {
+      device = c.self-in-Leave.inside.device;
+      sent = map sending_of c.self-in-Leave.inside.sent.items;
+      tuned = reverse (map tuning_of c.self-in-Leave.inside.tuned.items);
+      deliveries = c.self-in-Leave.inside.deliveries.items;
+      windows = c.self-in-Leave.inside.windows;
+    } in
     let x = c.leave in
     let new : CourseState = record old { device = x.new.self } in
     goes_seen t (λ q d. after_line clock q t d line) old c.args.self.now new new c.self-in-Leave.view_is refl
     (state_goes t old x.new.self (λ q d. after_line clock q t d line)
-    (λ made. ap (λ (a : Act). after_act clock old.device.setup t line.frame (whole old.device made) a old.device.power) c.in-Leave.is ∙ x.ensures.whole clock t line.frame made)
+    (λ made. ap (λ (a : Act). after_act clock old.device.setup t line.frame (whole old.device made) a old.device.power) c.in-Leave.is
+    ∙ x.ensures.whole clock t line.frame made)
     (x.ensures.time t) x.ensures.node)
 
 pub returns-in-Put : goal.returns-in-Put
@@ -96,10 +139,18 @@ returns-in-Put g c =
     let clock = g.C.DriftClock.readings c.args.clock.now in
     let t = c.args.t in
     let line = c.args.line.now in
-    let old : CourseState = record { device = c.self-in-Put.inside.device; sent = map sending_of c.self-in-Put.inside.sent.items; tuned = reverse (map tuning_of c.self-in-Put.inside.tuned.items); deliveries = c.self-in-Put.inside.deliveries.items; windows = c.self-in-Put.inside.windows } in
+    let old : CourseState = record {
+      device = c.self-in-Put.inside.device;
+      sent = map sending_of c.self-in-Put.inside.sent.items;
+      tuned = reverse (map tuning_of c.self-in-Put.inside.tuned.items);
+      deliveries = c.self-in-Put.inside.deliveries.items;
+      windows = c.self-in-Put.inside.windows;
+    } in
     let x = c.put in
     let new : CourseState = record old { device = x.new.self } in
     goes_seen t (λ q d. after_line clock q t d line) old c.args.self.now new new c.self-in-Put.view_is refl
-    (put_goes t old x.new.self x.result (record { frame = line.frame; node = old.device.setup.id; stream = c.in-Put.stream }) (λ q d. after_line clock q t d line)
-    (λ made. ap (λ (a : Act). after_act clock old.device.setup t line.frame (whole old.device made) a old.device.power) c.in-Put.is ∙ x.ensures.whole clock t line.frame made)
+    (put_goes t old x.new.self x.result (record { frame = line.frame; node = old.device.setup.id; stream = c.in-Put.stream })
+    (λ q d. after_line clock q t d line)
+    (λ made. ap (λ (a : Act). after_act clock old.device.setup t line.frame (whole old.device made) a old.device.power) c.in-Put.is
+    ∙ x.ensures.whole clock t line.frame made)
     (x.ensures.time t) x.ensures.node)

@@ -4,12 +4,19 @@ use Rattle.air_log.specs.Trails.{begun}
 use Rattle.air_log.specs.DeviceStates.{tuning_of}
 use Rattle.air_log.specs.TrailsTold.{sending_of}
 use Rattle.air_log.specs.Courses.{CourseState}
-use Rattle.air_log.proofs.CourseSteps.{begin_goes, goes_seen}
+use Rattle.air_log.proofs.ShownCourses.{goes_seen}
+use Rattle.air_log.proofs.CourseSteps.{begin_goes}
 use Rattle.air_log.proofs.course.Course.begin.Goals as goal
 
 pub returns : goal.returns
 returns c =
-    let old : CourseState = record { device = c.self.inside.device; sent = map sending_of c.self.inside.sent.items; tuned = reverse (map tuning_of c.self.inside.tuned.items); deliveries = c.self.inside.deliveries.items; windows = c.self.inside.windows } in
+    let old : CourseState = record {
+      device = c.self.inside.device;
+      sent = map sending_of c.self.inside.sent.items;
+      tuned = reverse (map tuning_of c.self.inside.tuned.items);
+      deliveries = c.self.inside.deliveries.items;
+      windows = c.self.inside.windows;
+    } in
     let x = c.begin-sending in
     on_ok_weaker c.log_sending.result (λ logged.
     goes_seen c.args.t (λ q d. begun q c.args.t d) old c.args.self.now _ c.log_sending.new.self c.self.view_is (sym logged)

@@ -1,7 +1,6 @@
 use Rattle.std.proofs.Common.{◌≡◌, ◌*◌, [], ℕ, length, subst, sym, ◌∙◌, ap, arith}
 use Rattle.scenario_text.proofs.SoundScenarios.{sound}
 use Rattle.bus_model.specs.Bus.{drops_below}
-use Rattle.bus_model.specs.FloodOfText.{ids}
 use Rattle.plain_bus.specs.Networks.{Network, IsReady}
 use Rattle.plain_bus.proofs.SlotsMet.{ids_ascend, ids_each}
 use Rattle.bus_frames.specs.FrameNodes.{IsAtFrame, IsCut}

@@ -14,5 +14,13 @@ returns-clause-bytes c =
     let long : length left ≡ length (drop at whole) = ap length is in
     let front : c.copy_from_slice.new.self ≡ take n (drop at whole) = c.copy_from_slice.ensures.after ∙ ap (λ (l : List ℕ). take n l) is in (
       sym (ap (λ (v : SourceState). v.left) c.self.view_is) ∙ moved_front whole c.args.room.now c.copy_from_slice.new.self at n front (omega (arith, long)),
-      λ none some. none_left whole at n c.self.inside.most (length c.args.room.now) (omega arith) (omega (arith, some, length-append c.copy_from_slice.new.self (drop n c.args.room.now), length-drop n c.args.room.now, ap length front, length-take-le n (drop at whole) (omega (arith, long)))) (omega (arith, long)) none,
+      λ none some. none_left whole at n c.self.inside.most (length c.args.room.now) (omega arith)
+          (omega (
+            arith,
+            some,
+            length-append c.copy_from_slice.new.self (drop n c.args.room.now),
+            length-drop n c.args.room.now,
+            ap length front,
+            length-take-le n (drop at whole) (omega (arith, long)),
+          )) (omega (arith, long)) none,
     )

@@ -12,5 +12,6 @@ invariant_of-self c =
     let other = eqb-false (length acks) 4 (sym c.is_full.ensures.value ∙ c.if-is_full.false) in
     let room : length acks < 4 = omega arith in
     let last : may_follow (slice_get acks (length acks - 1)) c.args.a ≡ true =
-    ap (λ (l : List Ask). may_follow (slice_get l (length l - 1)) c.args.a) (sym c.as_slice.ensures.value) ∙ ap (λ o. may_follow o c.args.a) (sym c.last.ensures.value) ∙ sym c.follows.ensures ∙ c.if-not-follows.false in
+    ap (λ (l : List Ask). may_follow (slice_get l (length l - 1)) c.args.a) (sym c.as_slice.ensures.value)
+    ∙ ap (λ o. may_follow o c.args.a) (sym c.last.ensures.value) ∙ sym c.follows.ensures ∙ c.if-not-follows.false in
     ap (λ l. are_acks l) c.push.ensures.items ∙ are_acks_push acks c.args.a c.self.invariant (and_from _ _ (lt-ltb (length acks) 4 room) last)

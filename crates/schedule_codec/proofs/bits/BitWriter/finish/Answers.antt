@@ -15,7 +15,8 @@ returns-then-held-gt0 c =
     let count = ap (λ (b : Bits). b.count) c.self.view_is in
     let value = ap (λ (b : Bits). b.value) c.self.view_is in
     c.push.ensures.items
-    ∙ filled_up w.bytes.items w.pending w.held (8 - w.held) c.args.self.count c.args.self.value count value c.if-held-gt0.true (omega arith) c.self.invariant.1 c.self.invariant.3
+    ∙ filled_up w.bytes.items w.pending w.held (8 - w.held) c.args.self.count c.args.self.value count value c.if-held-gt0.true
+    (omega arith) c.self.invariant.1 c.self.invariant.3
 
 pub returns-else-held-gt0 : goal.returns-else-held-gt0
 returns-else-held-gt0 c =

@@ -36,7 +36,8 @@ loop-self-preserved c =
     let byte = byte_out w.pending w.held k at c.loop-self.invariant.below in
     record {
       count = omega (arith, ap length out, length-append w.bytes.items (w.pending / 2 ^ k ∷ []));
-      value = ap (λ bs. number 8 bs * 2 ^ k + w.pending % (1 * 2 ^ k % 4294967296)) out ∙ value_out w.bytes.items w.pending w.held k at (omega arith) ∙ c.loop-self.invariant.value;
+      value = ap (λ bs. number 8 bs * 2 ^ k + w.pending % (1 * 2 ^ k % 4294967296)) out
+          ∙ value_out w.bytes.items w.pending w.held k at (omega arith) ∙ c.loop-self.invariant.value;
       below = below_out w.pending k (omega arith);
       bytes = ap (λ bs. fit 8 bs) out ∙ fit_push 8 w.bytes.items (w.pending / 2 ^ k) c.loop-self.invariant.bytes byte;
       few = omega arith;

@@ -12,5 +12,7 @@ invariant_of-self c =
     let other = eqb-false (length codes) 40 (sym c.is_full.ensures.value ∙ c.if-is_full.false) in
     let room : length codes < 40 = omega arith in
     let last : may_follow (slice_get codes (length codes - 1)) code ≡ true =
-    ap (λ (l : List ℕ). may_follow (slice_get l (length l - 1)) code) (sym c.as_slice.ensures.value) ∙ ap (λ o. may_follow o code) (sym c.last.ensures.value) ∙ sym c.follows.ensures ∙ c.if-not-follows.false in
-    ap (λ l. are_owners l) c.push.ensures.items ∙ are_owners_push codes code c.self.invariant (omega arith) (omega arith) (and_from _ _ (lt-ltb (length codes) 40 room) last)
+    ap (λ (l : List ℕ). may_follow (slice_get l (length l - 1)) code) (sym c.as_slice.ensures.value)
+    ∙ ap (λ o. may_follow o code) (sym c.last.ensures.value) ∙ sym c.follows.ensures ∙ c.if-not-follows.false in
+    ap (λ l. are_owners l) c.push.ensures.items ∙ are_owners_push codes code c.self.invariant (omega arith) (omega arith)
+    (and_from _ _ (lt-ltb (length codes) 40 room) last)

@@ -7,4 +7,5 @@ pub returns : goal.returns
 returns c =
     let codes = c.as_slice-codes.result.now in
     let value = c.as_slice-codes.ensures.value in
-    owner_at codes c.args.i c.from_code.result (ap (λ l. are_owners l) value ∙ c.self.invariant) (omega arith) c.from_code.ensures ∙ ap (λ l. slice_get l c.args.i) (value ∙ c.self.view_is)
+    owner_at codes c.args.i c.from_code.result (ap (λ l. are_owners l) value ∙ c.self.invariant) (omega arith) c.from_code.ensures
+    ∙ ap (λ l. slice_get l c.args.i) (value ∙ c.self.view_is)

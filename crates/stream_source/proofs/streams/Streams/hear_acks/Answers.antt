@@ -10,11 +10,13 @@ unwrap-ack-requires c = rw c.at.ensures (some_at c.args.acks.now c.loop-i.i (ome
 
 pub hear_ack-requires : goal.hear_ack-requires
 hear_ack-requires c =
-    let ranges : ask_in_range c.unwrap-ack.result ≡ true = passes_at ask_in_range c.args.acks.now c.loop-i.i c.unwrap-ack.result c.requires (sym c.at.ensures ∙ c.unwrap-ack.ensures) in
+    let ranges : ask_in_range c.unwrap-ack.result ≡ true =
+    passes_at ask_in_range c.args.acks.now c.loop-i.i c.unwrap-ack.result c.requires (sym c.at.ensures ∙ c.unwrap-ack.ensures) in
     let parts = and_parts _ _ (and_parts _ _ ranges).0 in
     leb-true c.unwrap-ack.result.stream 3 parts.1
 
 pub loop-i-preserved : goal.loop-i-preserved
 loop-i-preserved c =
-    fold_step (acknowledged c.args.node c.args.boot c.args.frame) c.args.self.now c.args.acks.now c.loop-i.i c.unwrap-ack.result c.loop-i.self c.hear_ack.new.self
+    fold_step (acknowledged c.args.node c.args.boot c.args.frame) c.args.self.now c.args.acks.now c.loop-i.i c.unwrap-ack.result c.loop-i.self
+    c.hear_ack.new.self
     (sym c.at.ensures ∙ c.unwrap-ack.ensures) c.loop-i.invariant c.hear_ack.ensures

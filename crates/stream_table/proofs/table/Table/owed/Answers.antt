@@ -11,8 +11,10 @@ returns-in-Ok c =
     let es = c.self.inside.entries.items in
     let owner = c.args.owner in
     let f : Entry → ℕ = owed_to c.args.seconds c.args.frame in
-    let here : IsAt code_in es c.code.result c.in-Ok.place = subst (λ (l : List Entry). IsAt code_in l c.code.result c.in-Ok.place) c.as_slice.ensures.value c.in-Ok.ensures.found in
+    let here : IsAt code_in es c.code.result c.in-Ok.place =
+    subst (λ (l : List Entry). IsAt code_in l c.code.result c.in-Ok.place) c.as_slice.ensures.value c.in-Ok.ensures.found in
     let at : IsAt code_in es owner c.in-Ok.place = subst (λ (d : ℕ). IsAt code_in es d c.in-Ok.place) c.code.ensures.value here in
     let x = c.index-deref-place.result in
     let read : x ≡ get_or es c.in-Ok.place x = c.index-deref-place.is ∙ ap (λ (l : List Entry). get_or l c.in-Ok.place x) c.deref.ensures.0 in
-    c.owed.ensures.value ∙ value_at f es owner c.in-Ok.place at x c.self.invariant read ∙ ap (λ (t : Table). option_map_or f (entry_of t.entries owner) 0) c.self.view_is
+    c.owed.ensures.value ∙ value_at f es owner c.in-Ok.place at x c.self.invariant read
+    ∙ ap (λ (t : Table). option_map_or f (entry_of t.entries owner) 0) c.self.view_is

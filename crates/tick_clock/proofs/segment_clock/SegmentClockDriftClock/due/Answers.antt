@@ -16,7 +16,8 @@ returns c =
     let wanted : ℕ = c.from.result * 1000000 in
     let t : ℕ = c.tick_of_count.result in
     let tame = tame_of first_segment ss self.kept in
-    let given : IsFirst (map entry_of c.deref.result.now) wanted t = record { reached = c.tick_of_count.ensures.reached; before = c.tick_of_count.ensures.before } in
+    let given : IsFirst (map entry_of c.deref.result.now) wanted t =
+    record { reached = c.tick_of_count.ensures.reached; before = c.tick_of_count.ensures.before } in
     let first : IsFirst (map entry_of ss) wanted t = subst (λ (xs : List Segment). IsFirst (map entry_of xs) wanted t) c.deref.ensures.value given in
     due_unique (segment_reading offset (map entry_of ss)) c.args.local t (kept_law offset ss self.early self.kept) c.requires
     (omega (arith, reading_is offset (map entry_of ss) t tame, first.reached))

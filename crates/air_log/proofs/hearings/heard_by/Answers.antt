@@ -3,7 +3,7 @@ use Rattle.std.proofs.lemmas.List.Sorted.{answers_always}
 use Rattle.air_log.specs.LogText.{in_order}
 use Rattle.air_log.proofs.StableSorts.{sorted_by_insertion}
 use Rattle.air_log.proofs.HearingsInAir.{place_of, before, is_order, sorted_ascends, received}
-use Rattle.air_log.proofs.trails.heard_by.Goals as goal
+use Rattle.air_log.proofs.hearings.heard_by.Goals as goal
 
 pub returns-clause-heard : goal.returns-clause-heard
 returns-clause-heard c =
@@ -14,4 +14,5 @@ returns-clause-heard c =
     received c.args.entries.now c.args.node c.in_ok-heard.heard.items c.sort_by_key.new.self.items c.in_ok-heard.ensures sorted
 
 pub returns-clause-ascends : goal.returns-clause-ascends
-returns-clause-ascends c = sorted_ascends c.sort_by_key.new.self.items (c.in_ok-sort_by_key.ensures.sorted place_of (answers_always _ _ _ (λ f a r g h. search rules)))
+returns-clause-ascends c =
+    sorted_ascends c.sort_by_key.new.self.items (c.in_ok-sort_by_key.ensures.sorted place_of (answers_always _ _ _ (λ f a r g h. search rules)))

@@ -1,0 +1,91 @@
+-- When a course shows a device: by its state and what was made, at a later tick, and through changes in turn.
+use Rattle.std.proofs.Common.{◌≡◌, ℕ, ◌≤◌, List, [], ◌∷◌, Option, Some}
+use Rattle.std.proofs.Common.{None, IfSome, refl, sym, subst, arith}
+use Rattle.radio_model.specs.OnAir.{Tuning}
+use Rattle.bus_rules.specs.Cores.{Setup}
+use Rattle.bus_rules.specs.declared.delivery.DropLine.{DropLine}
+use Rattle.air_log.specs.declared.entry.TunedEntry.{TunedEntry}
+use Rattle.air_log.specs.Devices.{Device, Listening}
+use Rattle.air_log.specs.DeviceStates.{DeviceState, whole}
+use Rattle.air_log.specs.DeviceStates.{EndedBefore, HappenedBy}
+use Rattle.air_log.specs.WindowLogs.{WindowLog}
+use Rattle.air_log.specs.WindowSums.{IsCounted}
+use Rattle.air_log.specs.Courses.{CourseState, made_in, Shows, IsShown, Goes}
+
+-- a device is shown still
+pub shown_still : (t : ℕ) (change : Setup → Device → Device) (old new : CourseState) → Goes t change old new → IsShown t old → IsShown t new
+shown_still t change old new goes shown = record {
+  setup = shown.setup;
+  device = change shown.setup shown.device;
+  shows = goes shown.setup shown.device shown.shows;
+}
+
+-- what a device shows, by its state and by what was made
+pub whole_shows : (q : Setup) (t : ℕ) (c : CourseState) (drops : List DropLine) (windows : List WindowLog) → c.device.setup ≡ q
+    → IsCounted q.profile q.sends windows c.windows → q.sends ≤ 4 → EndedBefore t c.tuned → HappenedBy t c.device → c.device.delivery ≡ None
+    → Shows q t c (whole c.device (made_in c drops windows))
+whole_shows q t c drops windows setup counted few ended happened taken = record {
+  drops = drops;
+  windows = windows;
+  is = refl;
+  setup = setup;
+  counted = counted;
+  few = few;
+  ended = ended;
+  happened = happened;
+  taken = taken;
+}
+
+-- a device of a trail by the one that is shown
+pub shows_as : (q : Setup) (t : ℕ) (c : CourseState) (d e : Device) → Shows q t c d → d ≡ e → Shows q t c e
+shows_as q t c d e shows same = subst (λ (x : Device). Shows q t c x) same shows
+
+pub goes_as : (t : ℕ) (change other : Setup → Device → Device) (old new : CourseState) → ((q : Setup) (d : Device) → Shows q t old d → change q d ≡ other q d)
+    → Goes t change old new → Goes t other old new
+goes_as t change other old new same goes = λ q d shows. shows_as q t new (change q d) (other q d) (goes q d shows) (same q d shows)
+
+-- a later tick
+pub ended_later : (t u : ℕ) (es : List Tuning) → t ≤ u → EndedBefore t es → EndedBefore u es
+ended_later t u [] le ended = tt
+ended_later t u (e ∷ es) le ended = omega (arith, le, ended)
+
+pub happened_later : (t u : ℕ) (s : DeviceState) → t ≤ u → HappenedBy t s → HappenedBy u s
+happened_later t u s le happened = record { closed = closed s.closed happened.closed; listening = listening s.listening happened.listening }
+  where
+    closed : (o : Option TunedEntry) → IfSome o (λ e. e.end ≤ t) → IfSome o (λ e. e.end ≤ u)
+    closed None h = tt
+    closed (Some e) h = omega (arith, le, h)
+
+    listening : (o : Option Listening) → IfSome o (λ l. l.since ≤ t) → IfSome o (λ l. l.since ≤ u)
+    listening None h = tt
+    listening (Some l) h = omega (arith, le, h)
+
+pub shows_later : (q : Setup) (t u : ℕ) (c : CourseState) (d : Device) → t ≤ u → Shows q t c d → Shows q u c d
+shows_later q t u c d le shows = record {
+  drops = shows.drops;
+  windows = shows.windows;
+  is = shows.is;
+  setup = shows.setup;
+  counted = shows.counted;
+  few = shows.few;
+  ended = ended_later t u c.tuned le shows.ended;
+  happened = happened_later t u c.device le shows.happened;
+  taken = shows.taken;
+}
+
+-- where what is set changes alone, all has happened as before
+pub set_happened : (t : ℕ) (state after : DeviceState) → after.closed ≡ state.closed → after.listening ≡ state.listening → HappenedBy t state
+    → HappenedBy t after
+set_happened t state after closed listening h = record {
+  closed = subst (λ (o : Option TunedEntry). IfSome o (λ e. e.end ≤ t)) (sym closed) h.closed;
+  listening = subst (λ (o : Option Listening). IfSome o (λ l. l.since ≤ t)) (sym listening) h.listening;
+}
+
+-- the same between courses that are known by equations
+pub goes_seen : (t : ℕ) (change : Setup → Device → Device) (old seen new other : CourseState) → old ≡ seen → new ≡ other → Goes t change old new
+    → Goes t change seen other
+goes_seen t change old seen new other p q goes = subst (λ (x : CourseState). Goes t change x other) p (subst (λ (y : CourseState). Goes t change old y) q goes)
+
+pub goes_then : (t : ℕ) (first second : Setup → Device → Device) (a b c : CourseState) → Goes t first a b → Goes t second b c
+    → Goes t (λ q d. second q (first q d)) a c
+goes_then t first second a b c one two = λ q d shows. two q (first q d) (one q d shows)

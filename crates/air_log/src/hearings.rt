@@ -1,0 +1,73 @@
+//! What a node heard, picked out of the entries of a log.
+
+ghost use Rattle.std.specs.Prelude.{◌≡◌, OnOk, IfOk, map, ◌++◌, option_to_list};
+ghost use Rattle.std.specs.Option.{option_map};
+ghost use Rattle.air_log.specs.Lawful.{heard_by, hearings_by};
+ghost use Rattle.air_log.specs.Courses.{Ascends, end_of, reception_in, hearing_of, hearing_with};
+
+use crate::{Entry, HeardEntry};
+use lwb_base::{Memory, NodeId};
+use std::alloc::Global;
+
+// The hearings of a node, by end, then sender, then place in the air.
+pub(crate) fn heard_by(
+    alloc: Global,
+    entries: &[Entry],
+    node: NodeId,
+) -> Result<Vec<HeardEntry>, Memory>
+    ensures heard { IfOk result (λ hs. map reception_in hs.items ≡ heard_by entries.now node) }
+    ensures ascends { IfOk result (λ hs. Ascends end_of hs.items) }
+{
+    let mut heard = hearings_by(alloc, entries, node)?;
+    heard.sort_by_key(|hearing| place(hearing))?;
+    Ok(heard)
+}
+
+// What the order goes by.
+fn place(hearing: &HeardEntry) -> (u64, u8)
+    ensures { result ≡ (hearing.now.end, hearing.now.from) }
+{
+    (hearing.end, hearing.from.number())
+}
+
+fn hearings_by(alloc: Global, entries: &[Entry], node: NodeId) -> Result<Vec<HeardEntry>, Memory>
+    ensures { IfOk result (λ hs. map hearing_of hs.items ≡ hearings_by entries.now node) }
+{
+    let mut heard = Vec::new(alloc);
+    for entry in entries {
+        let hearing = hearing_by(entry, node);
+        push_some(&mut heard, hearing)?;
+    }
+    Ok(heard)
+}
+
+fn push_some(heard: &mut Vec<HeardEntry>, hearing: Option<HeardEntry>) -> Result<(), Memory>
+    ensures { OnOk result (heard.new.items ≡ heard.old.items ++ option_to_list hearing) }
+{
+    if let Some(hearing) = hearing {
+        heard.push(hearing)?;
+    }
+    Ok(())
+}
+
+// The hearing that an entry says, if it is of this node.
+fn hearing_by(entry: &Entry, node: NodeId) -> Option<HeardEntry>
+    ensures { option_map hearing_of result ≡ hearing_with entry.now node }
+{
+    match entry {
+        Entry::Heard(hearing) => {
+            if hearing.node != node {
+                return None;
+            }
+            Some(HeardEntry {
+                rank: hearing.rank,
+                node: hearing.node,
+                from: hearing.from,
+                start: hearing.start,
+                end: hearing.end,
+                packet: hearing.packet.copy(),
+            })
+        }
+        Entry::Sent(_) | Entry::Tuned(_) => None,
+    }
+}
