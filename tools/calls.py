@@ -106,7 +106,7 @@ def calls(path, names, modules):
             if not clause:
                 break
             last = closing(text, place + clause.end() - 1)
-            words = " ".join(text[place + clause.end():last - 1].split())
+            words = " ".join(text[place + clause.end():last - 1].split()).replace("; }", " }")
             clauses.append((clause.group(1), clause.group(2) or "", words))
             place = last
         name = found.group(2)
@@ -122,7 +122,7 @@ def answers(result):
     if result.startswith("Option"):
         kinds.append("None")
     if result.startswith(("Result", "io::Result", "fmt::Result")):
-        error = result[result.find(",") + 1:].rstrip("> ").strip() if "," in result else "error"
+        error = result[result.rfind(",") + 1:].rstrip("> ").strip() if "," in result else "error"
         kinds.append("memory" if error in ("Memory", "AllocError") else f"`{error}`")
     return ", ".join(kinds) or "none"
 

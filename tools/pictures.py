@@ -390,7 +390,7 @@ def guard_picture():
 
 # The crates by what flows from one to the next: columns from left to right, each with its crates from top to bottom.
 RUNNING = [
-    ["scenario_text", "scenario_maker", "deadline_plan"],
+    ["text_readers", "scenario_text", "scenario_maker", "deadline_plan"],
     ["lwb_world", "lwb_flood", "bus_frames"],
     ["node_core", "radio_model", "event_calendar", "scenario_clocks", "plain_bus"],
     ["lwb_member", "round_runner", "glossy_relay", "time_reference"],
