@@ -1,11 +1,8 @@
 -- What rivals bring by masks: of none, of one, and of two lists of them.
-use Rattle.std.proofs.Common.{◌≡◌, ◌≢◌, ℕ, ◌<◌, ◌≤◌, List, [], ◌∷◌, ◌++◌, length, get_or, Bool, true, false, not, ◌&&◌, ◌||◌, ◌==◌, if◌then◌else◌, Option}
-use Rattle.std.proofs.Common.{Some, None, option_to_list, filter_map, bit_and, bit_or, min, nat_lt, eq-eqb, refl, sym, ◌∙◌, ap, subst, arith}
-use Rattle.std.proofs.Math.Nat.{min-le_left}
+use Rattle.std.proofs.Common.{◌≡◌, ◌≢◌, ℕ, List, [], ◌∷◌, ◌++◌, get_or, Bool, true, false, not, ◌&&◌, ◌||◌, ◌==◌, if◌then◌else◌, Option}
+use Rattle.std.proofs.Common.{Some, None, option_to_list, filter_map, bit_or, eq-eqb, refl, sym, ◌∙◌, ap, subst}
 use Rattle.std.proofs.lemmas.Bool.{and_parts, eqb-true, false≢true, false_from_ne_true}
 use Rattle.std.proofs.lemmas.List.Folds.{list_any-append}
-use Rattle.std.proofs.lemmas.Nat.Bits.{bit_at_and}
-use Rattle.std.specs.Int.{bit_at}
 use Rattle.std.specs.List.{list_any, cons_option}
 use Rattle.lwb_base.specs.Profile.{Numbers}
 use Rattle.link_trace.specs.Masks.{IsMask}
@@ -13,11 +10,10 @@ use Rattle.link_trace.specs.Passes.{Lines}
 use Rattle.link_trace.proofs.MaskBits.{empty_mask, joined, same_tests}
 use Rattle.radio_model.specs.Stations.{on_air, overlaps}
 use Rattle.radio_model.specs.Meetings.{rival_to, rivals_in, passes_at, reaches, comes_from, spoils, differs, repeats, IsPlaced}
-use Rattle.radio_model.specs.Meetings.{IsBrought, nothing, both_brought, brought_by, IsCrowd, no_crowd, both_crowds}
+use Rattle.radio_model.specs.Meetings.{IsBrought, nothing, both_brought, brought_by, IsCrowd, no_crowd}
 use Rattle.radio_model.specs.declared.sending.Sending.{Sending}
 use Rattle.radio_model.specs.declared.station.Station.{Station}
 use Rattle.radio_model.specs.declared.brought.Brought.{Brought}
-use Rattle.radio_model.specs.declared.crowd.Crowd.{Crowd}
 use Rattle.radio_model.specs.declared.rivals.Rival.{Rival}
 use Rattle.radio_model.proofs.Members.{some_of, from_filter}
 
@@ -71,12 +67,6 @@ module _ (lines : Lines) (nodes : List ℕ) where
     same = either_list (repeats lines) rs ss a.same b.same a_is.same b_is.same;
   }
 
-  pub both_crowd : (rs ss : List Rival) (a b : Crowd) → IsCrowd lines nodes rs a → IsCrowd lines nodes ss b → IsCrowd lines nodes (rs ++ ss) (both_crowds a b)
-  both_crowd rs ss a b a_is b_is = record {
-    mixed = either_list (differs lines) rs ss a.mixed b.mixed a_is.mixed b_is.mixed;
-    spoiled = either_list (spoils lines) rs ss a.spoiled b.spoiled a_is.spoiled b_is.spoiled;
-  }
-
   where_so : (test : ℕ → Bool) (b : Bool) (reach : ℕ) → IsMask test nodes reach → IsMask (λ v. (test v && b) || false) nodes (if b then reach else 0)
   where_so test true reach is = same_tests nodes test (λ v. (test v && true) || false) reach (λ v. with_true (test v)) is
   where_so test false reach is = same_tests nodes (λ v. false) (λ v. (test v && false) || false) 0 (λ v. with_false (test v)) (empty_mask nodes)
@@ -98,27 +88,6 @@ module _ (lines : Lines) (nodes : List ℕ) where
       let node : r.node ≡ st.node = of_sender ((y.rank == x.rank) && overlaps x y) _ r (sym is) in
       subst (λ (o : Option Rival). IsBrought lines nodes (option_to_list o) (brought_by r reach)) is
       (one_comes r reach (subst (λ (n : ℕ). IsMask (λ v. passes_at lines r.key n v) nodes reach) (placed.there ∙ sym node) reach_is))
-
--- a bit that both masks have, where one is all that they share
-bit_of_both : (a b i : ℕ) → bit_and a b ≡ b → bit_at b i ≡ 1 → 1 ≤ bit_at a i
-bit_of_both a b i both is =
-    let least : min (bit_at a i) (bit_at b i) ≡ bit_at b i = sym (bit_at_and a b i) ∙ ap (λ (n : ℕ). bit_at n i) both in
-    omega (arith, least, is, min-le_left (bit_at a i) (bit_at b i))
-
-some_bit : (b c : Bool) → 1 ≤ (if b && c then 1 else 0) → c ≡ true
-some_bit true true is = refl
-some_bit true false is = absurd (omega (arith, is))
-some_bit false c is = absurd (omega (arith, is))
-
--- those that are known spoil all that x reaches, and all others are more
-pub all_spoiled : (lines : Lines) (nodes : List ℕ) (known all : List Rival) (reached : ℕ) (c : Crowd) → IsCrowd lines nodes known c
-    → ((test : Rival → Bool) → list_any test known ≡ true → list_any test all ≡ true) → bit_and c.spoiled reached ≡ reached → (i : ℕ) → i < length nodes
-    → bit_at reached i ≡ 1
-    → list_any (spoils lines (get_or nodes i 0)) all ≡ true
-all_spoiled lines nodes known all reached c is more both i below bit =
-    more (spoils lines (get_or nodes i 0))
-    (some_bit (nat_lt i (length nodes)) (list_any (spoils lines (get_or nodes i 0)) known)
-    (subst (λ (b : ℕ). 1 ≤ b) (is.spoiled i) (bit_of_both c.spoiled reached i both bit)))
 
 same_any : {X Y : Type 0} (f : X → Option Y) (t u : Y → Bool) (xs : List X) → ((x : X) (y : Y) → f x ≡ Some y → t y ≡ u y)
     → list_any t (filter_map f xs) ≡ list_any u (filter_map f xs)

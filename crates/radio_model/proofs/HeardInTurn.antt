@@ -1,19 +1,18 @@
 -- Who hears, of the stations at places that are looked at one after the other.
 use Rattle.std.proofs.Common.{◌≡◌, ◌≢◌, ℕ, zero, suc, ◌-◌, ◌<◌, ◌≤◌, inl, inr, min, List, [], ◌∷◌, ◌++◌, length, get_or, Bool, true, false, ◌==◌, if◌then◌else◌}
 use Rattle.std.proofs.Common.{Option, Some, None, option_to_list, filter_map, refl, sym, ◌∙◌, ap, arith, length-append, append-nil, nat_lt, ◌&&◌}
-use Rattle.std.proofs.lemmas.Bool.{cond-false, cases_lt, le-ltb, eqb-true, false≢true, true≢false}
+use Rattle.std.proofs.lemmas.Bool.{cond-false, cases_lt, le-ltb, false≢true, true≢false}
 use Rattle.std.proofs.lemmas.List.{append_assoc}
 use Rattle.std.proofs.lemmas.Nat.Bits.{bit_at-zero, bit_at-lt}
 use Rattle.std.specs.Int.{bit_at}
-use Rattle.std.specs.List.{list_any, cons_option}
+use Rattle.std.specs.List.{cons_option}
 use Rattle.link_trace.specs.Masks.{IsMask}
 use Rattle.link_trace.specs.Passes.{Lines}
-use Rattle.radio_model.specs.Meetings.{heard_by, is_heard, hears_by, passes_at, spoils, differs, IsPlaced}
+use Rattle.radio_model.specs.Meetings.{heard_by, is_heard}
 use Rattle.radio_model.specs.OnAir.{Sending}
 use Rattle.radio_model.specs.declared.rivals.Key.{Key}
 use Rattle.radio_model.specs.declared.rivals.Rival.{Rival}
 use Rattle.radio_model.specs.declared.station.Station.{Station}
-use Rattle.radio_model.proofs.Reaching.{bit_tells, gone, heard_by_masks}
 use Rattle.radio_model.proofs.RestOfPlaces.{InOrder, next_one, same_filter, bit_cases}
 
 -- a bit of a mask is of one of the nodes
@@ -37,6 +36,13 @@ pub left_none : (r s : ℕ) → r < 2 → s < 2 → min r (1 - s) ≡ 0 → r �
 left_none r zero r_small s_small is one = absurd (omega arith)
 left_none r (suc zero) r_small s_small is one = refl
 left_none r (suc (suc s)) r_small s_small is one = absurd (omega arith)
+
+pub left_bits : (a b left k : ℕ) → ((i : ℕ) → i < 64 → bit_at left i ≡ min (bit_at a i) (1 - bit_at b i)) → ((i : ℕ) → 64 ≤ i → bit_at left i ≡ 0)
+    → bit_at left k ≡ 1 → (bit_at a k ≡ 1) × (bit_at b k ≡ 0)
+left_bits a b left k bits above one = elim (cases_lt k 64) [
+  | inl inside ↦ left_one (bit_at a k) (bit_at b k) (bit_at-lt a k) (bit_at-lt b k) (sym (bits k inside) ∙ one)
+  | inr past ↦ absurd (omega (arith, one, above k past))
+]
 
 module _ (lines : Lines) (u : ℕ) (x : Sending) (key : Key) (rs : List Rival) where
   -- who hears at a place that is left
@@ -65,28 +71,16 @@ module _ (lines : Lines) (u : ℕ) (x : Sending) (key : Key) (rs : List Rival) w
       ap (λ (l : List (ℕ × ℕ)). hearers ++ l) (none_heard sts d 0 (λ i below. let st = get_or sts i d in at_done 0 st st.place refl
       (bit_at-zero st.place))) ∙ append-nil hearers
 
-  -- all that hear are reached and not spoiled
-  pub heard_of_left : (nodes : List ℕ) (sts : List Station) (d : Station) (left reached spoiled : ℕ) → InOrder sts → length sts ≤ 64 → ((i : ℕ) → i < 64
-      → bit_at left i ≡ min (bit_at reached i) (1 - bit_at spoiled i)) → ((k : ℕ) (e : Station) → k < length sts
-      → IsPlaced nodes (get_or sts k e).place (get_or sts k e).node)
-      → IsMask (λ v. passes_at lines key u v) nodes reached → IsMask (λ v. list_any (spoils lines v) rs) nodes spoiled
+  -- all that hear are left
+  pub heard_of_left : (sts : List Station) (d : Station) (left : ℕ) → InOrder sts
+      → ((k : ℕ) → k < length sts → bit_at left k ≡ 0 → is_heard lines u x key rs (get_or sts k d) ≡ false)
       → filter_map (heard_at left) sts ≡ filter_map (heard_by lines u x key rs) sts
-  heard_of_left nodes sts d left reached spoiled in_order few bits placed r_is s_is =
+  heard_of_left sts d left in_order none_else =
       same_filter (heard_at left) (heard_by lines u x key rs) sts d (λ i below.
       let st = get_or sts i d in
-      let place = in_order i d below in
-      let bit = bits i (omega arith) in
       elim (bit_cases (bit_at left i) (bit_at-lt left i)) [
-        | inl none ↦
-            at_done left st i place none
-            ∙ sym (cond-false (is_heard lines u x key rs st) _ None
-            (gone (passes_at lines key u st.node) (list_any (spoils lines st.node) rs) _ _ _ (λ reaches.
-            sym (bit_tells nodes (λ v. list_any (spoils lines v) rs) spoiled st.place st.node s_is (placed i d below))
-            ∙ ap (λ (b : ℕ). b == 1) (ap (bit_at spoiled) place ∙ left_none (bit_at reached i) (bit_at spoiled i) (bit_at-lt reached i)
-            (bit_at-lt spoiled i) (sym bit ∙ none)
-            (ap (bit_at reached) (sym place) ∙ eqb-true (bit_at reached st.place) 1 (bit_tells nodes
-            (λ v. passes_at lines key u v) reached st.place st.node r_is (placed i d below) ∙ reaches))))))
-        | inr one ↦ at_left left st i place one
+        | inl none ↦ at_done left st i (in_order i d below) none ∙ sym (cond-false (is_heard lines u x key rs st) _ None (none_else i below none))
+        | inr one ↦ at_left left st i (in_order i d below) one
       ])
 
   -- the lowest of those that are left is the next that may hear
@@ -102,19 +96,6 @@ module _ (lines : Lines) (u : ℕ) (x : Sending) (key : Key) (rs : List Rival) w
       (λ i more inside. at_same rest new (get_or sts i st) i (in_order i st inside) (others i (λ is. omega (arith, is))))
       ∙ ap (λ (o : Option (ℕ × ℕ)). option_to_list o ++ filter_map (heard_at new) sts)
       (at_left rest (get_or sts k st) k (in_order k st below) was ∙ ap (heard_by lines u x key rs) (sym at))
-
--- a station that is reached, and where no copy spoils
-pub hears_there : (lines : Lines) (nodes : List ℕ) (u : ℕ) (x : Sending) (key : Key) (rs : List Rival) (st : Station) (k reached spoiled mixed : ℕ)
-    → IsPlaced nodes st.place st.node → st.place ≡ k
-    → bit_at reached k ≡ 1 → bit_at spoiled k ≡ 0
-    → IsMask (λ v. passes_at lines key u v) nodes reached → IsMask (λ v. list_any (spoils lines v) rs) nodes spoiled
-    → IsMask (λ v. list_any (differs lines v) rs) nodes mixed
-    → hears_by true false (bit_at mixed st.place == 1) lines x key rs st ≡ is_heard lines u x key rs st
-hears_there lines nodes u x key rs st k reached spoiled mixed placed place one none r s m =
-    ap (λ (b : ℕ). hears_by (b == 1) false (bit_at mixed st.place == 1) lines x key rs st) (sym one ∙ ap (bit_at reached) (sym place))
-    ∙ ap (λ (b : ℕ). hears_by (bit_at reached st.place == 1) (b == 1) (bit_at mixed st.place == 1) lines x key rs st) (sym none
-    ∙ ap (bit_at spoiled) (sym place))
-    ∙ heard_by_masks lines nodes u x key rs st reached spoiled mixed placed r s m
 
 -- one more has been looked at
 module _ {Y : Type 0} where

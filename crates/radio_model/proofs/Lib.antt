@@ -22,6 +22,10 @@ pub mod Crowds
 pub mod Marked
 pub mod Alike
 pub mod Early
+pub mod Close
+pub mod Gathered
+pub mod Those
+pub mod Ready
 pub mod Origins
 pub mod BegunOrigins
 pub mod RestOfPlaces

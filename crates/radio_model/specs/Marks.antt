@@ -41,6 +41,10 @@ comes_early opens x origin node mk =
     nat_le mk.before x.start && is_same mk.origin origin && (mk.rank == x.rank)
     && (nat_le opens mk.start && (nat_lt mk.start x.start || ((mk.start == x.start) && nat_lt node x.node)))
 
+-- by the mark, only the newest can overlap x, and it has the packet of x, and begins at one of these ticks
+abbrev pub comes_close : ℕ → ℕ → Sending → Origin → Mark → Bool
+comes_close opens latest x origin mk = nat_le mk.before x.start && is_same mk.origin origin && (nat_le opens mk.start && nat_le mk.start latest)
+
 -- the mark of these sendings, the oldest first
 pub record IsMark (ys : List Sending) (mk : Mark) : Type 0 where
   pub over : All (λ y. y.end ≤ mk.end) ys

@@ -1,8 +1,9 @@
 -- What decides whether a sending is heard, as the medium works it out from what it keeps.
-use Rattle.std.specs.Prelude.{◌≡◌, ℕ, ◌+◌, ◌/◌, ◌<◌, ◌≤◌, List, Bool, false, not, ◌&&◌, ◌||◌, ◌==◌, nat_lt, nat_le}
-use Rattle.std.specs.Prelude.{if◌then◌else◌, Option, Some, None, filter_map, length, slice_index}
+use Rattle.std.specs.Prelude.{◌≡◌, ℕ, ◌+◌, ◌/◌, ◌<◌, ◌≤◌, List, Bool, true, false, not, ◌&&◌, ◌||◌, ◌==◌, nat_lt, nat_le}
+use Rattle.std.specs.Prelude.{if◌then◌else◌, Option, Some, None, filter_map, length, slice_index, slice_index_or}
 use Rattle.std.specs.List.{list_any, flat_map}
 use Rattle.std.specs.Str.{bytes_eq}
+use Rattle.std.specs.Int.{bit_at}
 use Rattle.std.specs.Int.RustNames.{bit_or}
 use Rattle.lwb_base.specs.Profile.{Numbers}
 use Rattle.link_trace.specs.Passes.{Lines, passes}
@@ -121,3 +122,37 @@ no_crowd = record { mixed = 0; spoiled = 0 }
 
 abbrev pub both_crowds : Crowd → Crowd → Crowd
 both_crowds a b = record { mixed = bit_or a.mixed b.mixed; spoiled = bit_or a.spoiled b.spoiled }
+
+-- each bit is of a node to which one of these rivals brings so
+pub record IsFrom (lines : Lines) (nodes : List ℕ) (rs : List Rival) (c : Crowd) : Type 0 where
+  pub mixed : (i : ℕ) → bit_at c.mixed i ≡ 1 → list_any (differs lines (slice_index nodes i)) rs ≡ true
+  pub spoiled : (i : ℕ) → bit_at c.spoiled i ≡ 1 → list_any (spoils lines (slice_index nodes i)) rs ≡ true
+
+-- what these rivals bring to node i has its bit
+pub record Tells (lines : Lines) (nodes : List ℕ) (rs : List Rival) (i : ℕ) (c : Crowd) : Type 0 where
+  pub mixed : bit_at c.mixed i ≡ 0 → list_any (differs lines (slice_index nodes i)) rs ≡ false
+  pub spoiled : bit_at c.spoiled i ≡ 0 → list_any (spoils lines (slice_index nodes i)) rs ≡ false
+
+-- what the stations at these places bring to any node has its bit
+abbrev pub TellsAt : Lines → List ℕ → Numbers → Sending → List Station → (ℕ → Type 0) → Crowd → Type 0
+TellsAt lines nodes p x sts At c = (k i : ℕ) (d : Station) → i < length nodes → At k → Tells lines nodes (rivals_in p x (slice_index_or sts k d)) i c
+
+-- no bit is lost
+pub record AddsTo (old new : Crowd) : Type 0 where
+  pub mixed : (i : ℕ) → bit_at new.mixed i ≡ 0 → bit_at old.mixed i ≡ 0
+  pub spoiled : (i : ℕ) → bit_at new.spoiled i ≡ 0 → bit_at old.spoiled i ≡ 0
+
+-- from a node without its bit no link passes at the key to one of these
+abbrev pub IsNear : Lines → Key → List ℕ → (ℕ → Type 0) → ℕ → Type 0
+IsNear lines key nodes To near =
+    (i k : ℕ) → To i → k < length nodes → bit_at near k ≡ 0 → passes_at lines key (slice_index nodes k) (slice_index nodes i) ≡ false
+
+-- of the bits of a mask, those where a test holds
+pub record AreThose (test : ℕ → Bool) (mask those : ℕ) : Type 0 where
+  pub among : (k : ℕ) → bit_at those k ≡ 1 → bit_at mask k ≡ 1
+  pub so : (k : ℕ) → bit_at those k ≡ 1 → test k ≡ true
+  pub others : (k : ℕ) → bit_at mask k ≡ 1 → bit_at those k ≡ 0 → test k ≡ false
+
+-- the node of this station is on the channel of x all the time, and sends nothing beside it
+abbrev pub is_ready : Sending → Station → Bool
+is_ready x st = covers st x.rank x.start x.end && not (list_any (overlaps x) (on_air st))

@@ -1,23 +1,23 @@
-ghost use Rattle.std.specs.Prelude.{◌≡◌, ◌≤◌, ◌<◌, ◌^◌, ℕ, length, All, IfSome, IfNone, slice_index, slice_index_or, true};
+ghost use Rattle.std.specs.Prelude.{◌≡◌, ◌≤◌, ◌<◌, ◌^◌, ℕ, length, All, IfSome, IfNone, slice_index, slice_index_or, true, not};
 ghost use Rattle.std.specs.List.{list_any};
 ghost use Rattle.std.specs.Int.{bit_at};
-ghost use Rattle.link_trace.specs.Passes.{captured};
 ghost use Rattle.radio_model.specs.Stations.{on_air};
 ghost use Rattle.radio_model.specs.Ages.{IsAged, ByEnd};
-ghost use Rattle.radio_model.specs.Marks.{IsMark, AreMarks, IsAlike, AreAlikeTo};
+ghost use Rattle.radio_model.specs.Marks.{IsMark, AreMarks, IsAlike, AreAlikeTo, comes_close};
 ghost use Rattle.radio_model.specs.Recent.{AreAmong};
 ghost use Rattle.radio_model.specs.declared.station.Station.{Station};
-ghost use Rattle.radio_model.specs.Meetings.{key_of, IsFrameStart, rivals_in, rivals_to, spoils, comes_from};
-ghost use Rattle.radio_model.specs.Meetings.{is_chosen as chosen_by, IsPlaced, IsCrowd, no_crowd, both_crowds};
+ghost use Rattle.radio_model.specs.Meetings.{key_of, IsFrameStart, rivals_in, rivals_to, spoils};
+ghost use Rattle.radio_model.specs.Meetings.{IsPlaced, IsCrowd, no_crowd, both_crowds};
+ghost use Rattle.radio_model.specs.Meetings.{IsFrom, AddsTo, Tells, TellsAt, IsNear, AreThose};
 
-use crate::bits::{has_bit, lowest, without_bit};
+use crate::bits::{lowest, without_bit, without_bits};
 use crate::brought::brought_from;
 use crate::mark::{Mark, Origin};
-use crate::rivals::{Key, frame_start, reach_of};
+use crate::rivals::{Key, reach_of};
 use crate::sending::Sending;
 use crate::station::Station;
 use link_trace::Links;
-use lwb_base::{NodeId, Profile};
+use lwb_base::Profile;
 
 /// What keeps a sending from being heard: to which nodes other packets come while it does, and to which its own packet
 /// comes out of time, each node by the bit of its place.
@@ -71,7 +71,7 @@ fn crowd_at<M: Links>(
     requires alike { IsAlike (on_air station.now) station.now.node mark origin x.now }
     ensures { IsCrowd (M.lines links.now) (M.nodes links.now) (rivals_in profile.now x.now station.now) result }
 {
-    if mark.is_aside(x.start, x.end) || mark.comes_along(x, station.node, origin, delta) {
+    if mark.comes_along(x, station.node, origin, delta) || mark.is_aside(x.start, x.end) {
         return Crowd::none();
     }
     if mark.comes_early(x, station.node, origin, opens) {
@@ -87,10 +87,9 @@ fn crowd_at<M: Links>(
     }
 }
 
-/// What comes to the nodes while x does, which has that key, whose packet has that origin, whose rivals are at those
-/// places, and which reaches the nodes of the mask. None comes only where its packet comes out of time to each of these,
-/// so that nobody hears x.
-pub fn crowd_of<M: Links>(
+// With what is known, what the stations at these places bring that keeps x from being heard. None comes only where the
+// packet of x comes out of time to each node that is ready for it.
+fn crowd_with<M: Links>(
     links: &M,
     profile: &Profile,
     delta: u64,
@@ -100,24 +99,28 @@ pub fn crowd_of<M: Links>(
     x: &Sending,
     key: Key,
     origin: Origin,
-    reached: u64,
+    opens: u64,
+    ready: u64,
+    known: Crowd,
 ) -> Option<Crowd>
     requires key { key ≡ key_of profile.now x.now }
+    requires opens { IsFrameStart profile.now.frame x.now.start opens }
     requires delta { (delta ≡ profile.now.delta) × (delta ≤ 2 ^ 32) }
     requires start { x.now.start ≤ 2 ^ 46 }
     requires end { x.now.end ≤ 2 ^ 46 }
     requires aged { All (λ st. IsAged x.now.end st.ended.items) stations.now }
     requires places { All (λ st. IsPlaced (M.nodes links.now) st.place st.node) stations.now }
     requires marks { AreMarks stations.now marks.now }
-    requires in_order { (k : ℕ) (d : Station) → k < length stations.now → (slice_index_or stations.now k d).place ≡ k }
     requires alike { AreAlikeTo stations.now marks.now origin x.now }
-    requires among { AreAmong profile.now x.now stations.now places }
-    ensures some { IfSome result (IsCrowd (M.lines links.now) (M.nodes links.now) (rivals_to profile.now x.now stations.now)) }
-    ensures none { IfNone result ((i : ℕ) → i < length (M.nodes links.now) → bit_at reached i ≡ 1
+    requires within { (k : ℕ) → bit_at places k ≡ 1 → k < length stations.now }
+    requires known { IsFrom (M.lines links.now) (M.nodes links.now) (rivals_to profile.now x.now stations.now) known }
+    ensures from { IfSome result (IsFrom (M.lines links.now) (M.nodes links.now) (rivals_to profile.now x.now stations.now)) }
+    ensures adds { IfSome result (AddsTo known) }
+    ensures tells { IfSome result (TellsAt (M.lines links.now) (M.nodes links.now) profile.now x.now stations.now (λ k. bit_at places k ≡ 1)) }
+    ensures none { IfNone result ((i : ℕ) → bit_at ready i ≡ 1
         → list_any (spoils (M.lines links.now) (slice_index (M.nodes links.now) i)) (rivals_to profile.now x.now stations.now) ≡ true) }
 {
-    let opens = frame_start(profile, x.start);
-    let mut crowd = Crowd::none();
+    let mut crowd = known;
     let mut rest = places;
     while rest != 0 {
         let place = lowest(rest);
@@ -128,58 +131,145 @@ pub fn crowd_of<M: Links>(
             links, profile, delta, station, marks[i], x, origin, key, opens,
         );
         crowd = crowd.with(other);
-        if crowd.spoiled & reached == reached {
+        if crowd.spoiled & ready == ready {
             return None;
         }
     }
     Some(crowd)
 }
 
-/// Whether the sender that the trace names for the node at that key sends the packet of x, and that comes to the node.
-pub fn is_chosen<M: Links>(
+// The places of the nodes from which a link passes at the key to one of those that are ready.
+fn near_of<M: Links>(links: &M, key: Key, ready: u64) -> u64
+    requires within { (i : ℕ) → bit_at ready i ≡ 1 → i < length (M.nodes links.now) }
+    ensures { IsNear (M.lines links.now) key (M.nodes links.now) (λ i. bit_at ready i ≡ 1) result }
+{
+    let mut near = 0;
+    let mut rest = ready;
+    while rest != 0 {
+        let place = lowest(rest);
+        rest = without_bit(rest, place);
+        near |= links.from_mask(key.frame, key.slot, key.counter, place);
+    }
+    near
+}
+
+// Those of the places whose marks do not show that what is sent there beside x is the packet of x, and begins at one of
+// the ticks from `opens` to `latest`.
+fn strangers(
+    marks: &[Mark],
+    places: u64,
+    x: &Sending,
+    origin: Origin,
+    opens: u64,
+    latest: u64,
+) -> u64
+    requires within { (k : ℕ) → bit_at places k ≡ 1 → k < length marks.now }
+    ensures { (d : Mark) → AreThose (λ k. not (comes_close opens latest x.now origin (slice_index_or marks.now k d))) places result }
+{
+    let mut strange = places;
+    let mut rest = places;
+    while rest != 0 {
+        let place = lowest(rest);
+        rest = without_bit(rest, place);
+        if marks[usize::from(place)].comes_close(x, origin, opens, latest) {
+            strange = without_bit(strange, place);
+        }
+    }
+    strange
+}
+
+/// What keeps x from being heard by the nodes that are ready for it. x has that key, its packet has that origin, its frame
+/// began at `opens`, and its rivals are at those places. None comes only where its packet comes out of time to each of
+/// these nodes. First come the stations from which a link passes to one of them. For the others a look at their marks is
+/// mostly enough.
+pub fn crowd_of<M: Links>(
+    links: &M,
+    profile: &Profile,
+    delta: u64,
+    stations: &[Station],
+    marks: &[Mark],
+    places: u64,
+    x: &Sending,
+    key: Key,
+    origin: Origin,
+    opens: u64,
+    ready: u64,
+) -> Option<Crowd>
+    requires key { key ≡ key_of profile.now x.now }
+    requires opens { IsFrameStart profile.now.frame x.now.start opens }
+    requires delta { (delta ≡ profile.now.delta) × (delta ≤ 2 ^ 32) }
+    requires start { x.now.start ≤ 2 ^ 46 }
+    requires end { x.now.end ≤ 2 ^ 46 }
+    requires aged { All (λ st. IsAged x.now.end st.ended.items) stations.now }
+    requires places { All (λ st. IsPlaced (M.nodes links.now) st.place st.node) stations.now }
+    requires marks { AreMarks stations.now marks.now }
+    requires alike { AreAlikeTo stations.now marks.now origin x.now }
+    requires in_order { (k : ℕ) (d : Station) → k < length stations.now → (slice_index_or stations.now k d).place ≡ k }
+    requires among { AreAmong profile.now x.now stations.now places }
+    requires few { length stations.now ≤ 64 }
+    requires within { (i : ℕ) → bit_at ready i ≡ 1 → i < length (M.nodes links.now) }
+    ensures from { IfSome result (IsFrom (M.lines links.now) (M.nodes links.now) (rivals_to profile.now x.now stations.now)) }
+    ensures tells { IfSome result (λ c. (i : ℕ) → bit_at ready i ≡ 1
+        → Tells (M.lines links.now) (M.nodes links.now) (rivals_to profile.now x.now stations.now) i c) }
+    ensures none { IfNone result ((i : ℕ) → bit_at ready i ≡ 1
+        → list_any (spoils (M.lines links.now) (slice_index (M.nodes links.now) i)) (rivals_to profile.now x.now stations.now) ≡ true) }
+{
+    if ready == 0 {
+        return None;
+    }
+    let near = near_of(links, key, ready);
+    let crowd = crowd_with(
+        links,
+        profile,
+        delta,
+        stations,
+        marks,
+        places & near,
+        x,
+        key,
+        origin,
+        opens,
+        ready,
+        Crowd::none(),
+    )?;
+    let far = without_bits(places, near);
+    let strange = strangers(marks, far, x, origin, opens, x.start + delta);
+    if strange == 0 {
+        return Some(crowd);
+    }
+    crowd_with(
+        links, profile, delta, stations, marks, strange, x, key, origin, opens, ready, crowd,
+    )
+}
+
+/// To which nodes the packet of x comes out of time from the node that began it, as far as the mark of this one tells.
+/// Where many hear each other, these are nearly all.
+pub fn lost_early<M: Links>(
     links: &M,
     profile: &Profile,
     stations: &[Station],
-    at: &Station,
+    marks: &[Mark],
     x: &Sending,
     key: Key,
-) -> bool
-    requires start { x.now.start ≤ 2 ^ 46 }
-    requires end { x.now.end ≤ 2 ^ 46 }
-    requires few { length (M.nodes links.now) ≤ 64 }
-    requires aged { All (λ st. IsAged x.now.end st.ended.items) stations.now }
+    origin: Origin,
+    opens: u64,
+) -> u64
+    requires key { key ≡ key_of profile.now x.now }
+    requires opens { IsFrameStart profile.now.frame x.now.start opens }
     requires places { All (λ st. IsPlaced (M.nodes links.now) st.place st.node) stations.now }
-    requires at { IsPlaced (M.nodes links.now) at.now.place at.now.node }
-    ensures { result ≡ chosen_by (M.lines links.now) at.now.node (rivals_to profile.now x.now stations.now)
-        (captured (M.lines links.now) key.frame key.slot key.counter at.now.node) }
+    requires marks { AreMarks stations.now marks.now }
+    requires alike { AreAlikeTo stations.now marks.now origin x.now }
+    ensures { (i : ℕ) → bit_at result i ≡ 1
+        → list_any (spoils (M.lines links.now) (slice_index (M.nodes links.now) i)) (rivals_to profile.now x.now stations.now) ≡ true }
 {
-    let Some(named) = links.captured(key.frame, key.slot, key.counter, at.node) else {
-        return false;
-    };
-    for station in stations {
-        if sends_same(links, profile, station, named, at, x) {
-            return true;
-        }
+    let first = usize::from(origin.place);
+    if first >= stations.len() {
+        return 0;
     }
-    false
-}
-
-// Whether the station is the named node's and brings the packet of x to the node at `at`.
-fn sends_same<M: Links>(
-    links: &M,
-    profile: &Profile,
-    station: &Station,
-    named: NodeId,
-    at: &Station,
-    x: &Sending,
-) -> bool
-    requires start { x.now.start ≤ 2 ^ 46 }
-    requires end { x.now.end ≤ 2 ^ 46 }
-    requires few { length (M.nodes links.now) ≤ 64 }
-    requires by_end { ByEnd station.now.ended.items }
-    requires station { IsPlaced (M.nodes links.now) station.now.place station.now.node }
-    requires at { IsPlaced (M.nodes links.now) at.now.place at.now.node }
-    ensures { result ≡ list_any (comes_from (M.lines links.now) at.now.node named) (rivals_in profile.now x.now station.now) }
-{
-    station.node == named && has_bit(brought_from(links, profile, station, x).same, at.place)
+    let station = &stations[first];
+    let mark = &marks[first];
+    if mark.is_aside(x.start, x.end) || !mark.comes_early(x, station.node, origin, opens) {
+        return 0;
+    }
+    reach_of(links, key, station.place)
 }

@@ -3,6 +3,7 @@
 
 mod bits;
 mod brought;
+mod chosen;
 mod crowd;
 mod hearers;
 pub mod laws;

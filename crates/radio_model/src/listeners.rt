@@ -1,18 +1,20 @@
-ghost use Rattle.std.specs.Prelude.{◌≡◌, ◌≤◌, ◌<◌, ◌^◌, All, length, map, ◌++◌, ◌==◌, not, ℕ, true, false, slice_index_or, option_to_list};
+ghost use Rattle.std.specs.Prelude.{◌≡◌, ◌≤◌, ◌<◌, ◌^◌, All, length, map, ◌||◌, ◌==◌, not, ℕ, slice_index_or};
 ghost use Rattle.std.specs.List.{list_any};
 ghost use Rattle.radio_model.specs.Stations.{node_of, on_air, overlaps};
 ghost use Rattle.radio_model.specs.Ages.{IsAged};
 ghost use Rattle.radio_model.specs.Marks.{IsMark, AreMarks, AreAlikeTo};
 ghost use Rattle.radio_model.specs.Recent.{AreAmong};
 ghost use Rattle.std.specs.Int.{bit_at};
+ghost use Rattle.link_trace.specs.Passes.{captured};
 ghost use Rattle.radio_model.specs.declared.station.Station.{Station};
-ghost use Rattle.radio_model.specs.Meetings.{hears_by, hearers_to, IsPlaced, rivals_to};
+ghost use Rattle.radio_model.specs.Meetings.{hearers_to, is_chosen as is_chosen_by, is_ready as ready_for, AreThose, IsPlaced, rivals_to};
 
 use crate::bits::{has_bit, lowest, without_bit, without_bits};
-use crate::crowd::{crowd_of, is_chosen};
+use crate::chosen::is_chosen;
+use crate::crowd::{crowd_of, lost_early};
 use crate::hearers::Hearers;
 use crate::mark::{Mark, Origin};
-use crate::rivals::{Key, reach_of};
+use crate::rivals::{Key, frame_start, reach_of};
 use crate::sending::Sending;
 use crate::station::Station;
 use link_trace::Links;
@@ -46,44 +48,65 @@ pub fn listeners<M: Links>(
     ensures { result ≡ hearers_to profile.now (M.lines links.now) from.now.node x.now stations.now }
 {
     let key = Key::of(profile, x);
+    let opens = frame_start(profile, x.start);
     let reached = reach_of(links, key, from.place);
+    let lost = lost_early(links, profile, stations, marks, x, key, origin, opens);
+    let left = without_bits(reached, lost);
+    let ready = ready_of(stations, marks, left, x);
     let Some(crowd) = crowd_of(
-        links, profile, delta, stations, marks, places, x, key, origin, reached,
+        links, profile, delta, stations, marks, places, x, key, origin, opens, ready,
     ) else {
         return Hearers::none();
     };
     let mut hearers = Hearers::none();
-    let mut rest = without_bits(reached, crowd.spoiled);
+    let mut rest = without_bits(ready, crowd.spoiled);
     while rest != 0 {
         let place = lowest(rest);
         rest = without_bit(rest, place);
-        let i = usize::from(place);
-        let at = &stations[i];
-        if hears(
-            links,
-            profile,
-            stations,
-            at,
-            place,
-            marks[i],
-            x,
-            key,
-            crowd.mixed,
-        ) {
+        let at = &stations[usize::from(place)];
+        if is_taken(links, profile, stations, at, place, x, key, crowd.mixed) {
             hearers.push(at.node, from.node);
         }
     }
     hearers
 }
 
-// Whether the node at `at` hears x, which reaches it, which no copy spoils there, and which ends now.
-fn hears<M: Links>(
+// Those of the nodes at these places that are tuned to the channel of x all the time and send nothing beside it.
+fn ready_of(stations: &[Station], marks: &[Mark], places: u64, x: &Sending) -> u64
+    requires aged { All (λ st. IsAged x.now.end st.ended.items) stations.now }
+    requires marks { AreMarks stations.now marks.now }
+    requires within { (k : ℕ) → bit_at places k ≡ 1 → k < length stations.now }
+    ensures { (d : Station) → AreThose (λ k. ready_for x.now (slice_index_or stations.now k d)) places result }
+{
+    let mut ready = places;
+    let mut rest = places;
+    while rest != 0 {
+        let place = lowest(rest);
+        rest = without_bit(rest, place);
+        let i = usize::from(place);
+        if !is_ready(&stations[i], &marks[i], x) {
+            ready = without_bit(ready, place);
+        }
+    }
+    ready
+}
+
+// Whether the node at `at` is tuned to the channel of x all the time and sends nothing beside it.
+fn is_ready(at: &Station, mark: &Mark, x: &Sending) -> bool
+    requires own { IsAged x.now.end at.now.ended.items }
+    requires mark { IsMark (on_air at.now) mark.now }
+    ensures { result ≡ ready_for x.now at.now }
+{
+    at.was_tuned(x.rank, x.start, x.end) && was_quiet(at, mark, x)
+}
+
+// Whether the node at `at`, which is ready and reached by x in time, takes it: another packet may come to it too.
+fn is_taken<M: Links>(
     links: &M,
     profile: &Profile,
     stations: &[Station],
     at: &Station,
     place: u8,
-    mark: Mark,
     x: &Sending,
     key: Key,
     mixed: u64,
@@ -95,20 +118,16 @@ fn hears<M: Links>(
     requires places { All (λ st. IsPlaced (M.nodes links.now) st.place st.node) stations.now }
     requires at { IsPlaced (M.nodes links.now) at.now.place at.now.node }
     requires place { place ≡ at.now.place }
-    requires own { IsAged x.now.end at.now.ended.items }
-    requires mark { IsMark (on_air at.now) mark }
-    ensures { result ≡ hears_by true false (bit_at mixed at.now.place == 1)
-        (M.lines links.now) x.now key (rivals_to profile.now x.now stations.now) at.now }
+    ensures { result ≡ (not (bit_at mixed place == 1) || is_chosen_by (M.lines links.now) at.now.node (rivals_to profile.now x.now stations.now)
+        (captured (M.lines links.now) key.frame key.slot key.counter at.now.node)) }
 {
-    at.was_tuned(x.rank, x.start, x.end)
-        && was_quiet(at, mark, x)
-        && (!has_bit(mixed, place) || is_chosen(links, profile, stations, at, x, key))
+    !has_bit(mixed, place) || is_chosen(links, profile, stations, at, x, key)
 }
 
 // Whether no sending of the node at `at` overlaps x, which ends now. Mostly its mark tells.
-fn was_quiet(at: &Station, mark: Mark, x: &Sending) -> bool
+fn was_quiet(at: &Station, mark: &Mark, x: &Sending) -> bool
     requires own { IsAged x.now.end at.now.ended.items }
-    requires mark { IsMark (on_air at.now) mark }
+    requires mark { IsMark (on_air at.now) mark.now }
     ensures { result ≡ not (list_any (overlaps x.now) (on_air at.now)) }
 {
     mark.is_aside(x.start, x.end) || at.is_quiet(x)

@@ -1,6 +1,7 @@
 ghost use Rattle.std.specs.Int.{bit_at};
 ghost use Rattle.std.specs.Prelude.{ℕ, ◌≡◌, ◌≤◌, ◌<◌, ◌^◌, if◌then◌else◌, length, slice_index_or, slice_set};
-ghost use Rattle.radio_model.specs.Marks.{no_mark, next_mark, next_marks, comes_early, is_aside, is_same, comes_along, sends_packet as packet_sent, IsOrigin};
+ghost use Rattle.radio_model.specs.Marks.{no_mark, next_mark, next_marks, comes_close, comes_early, is_aside, is_same, comes_along, IsOrigin};
+ghost use Rattle.radio_model.specs.Marks.{sends_packet as packet_sent};
 
 use crate::bits::{lowest, without_bit};
 use crate::sending::Sending;
@@ -94,6 +95,16 @@ impl Mark {
             && self.origin.is_same(origin)
             && self.rank == x.rank
             && (opens <= self.start && comes_first)
+    }
+
+    /// Whether the mark shows that what this node sends beside x, whose packet has that origin, is the packet of x, and
+    /// that it begins at one of the ticks from `opens` to `latest`.
+    pub(crate) fn comes_close(&self, x: &Sending, origin: Origin, opens: u64, latest: u64) -> bool
+        ensures { result ≡ comes_close opens latest x.now origin self.now }
+    {
+        self.before <= x.start
+            && self.origin.is_same(origin)
+            && (opens <= self.start && self.start <= latest)
     }
 }
 

@@ -1,111 +1,62 @@
-use Rattle.std.proofs.Common.{◌≡◌, ◌<◌, ℕ, ◌∙◌, List, [], get_or, length, inl, inr, sym, subst, ap, arith}
-use Rattle.std.proofs.lemmas.Bool.{cases_eq}
+use Rattle.std.proofs.Common.{◌≡◌, ℕ, ◌∙◌, Option, Some, None, IfSome, get_or, sym, ap, arith}
+use Rattle.std.proofs.lemmas.Nat.Bits.{bit_at-zero}
 use Rattle.std.specs.Int.{bit_at}
-use Rattle.radio_model.specs.Ages.{IsAged}
-use Rattle.radio_model.specs.Stations.{on_air, fresh}
-use Rattle.radio_model.specs.Marks.{IsMark}
-use Rattle.radio_model.specs.declared.mark.Mark.{Mark}
-use Rattle.radio_model.specs.Meetings.{IsCrowd, rivals_to}
-use Rattle.radio_model.specs.declared.crowd.Crowd.{Crowd}
-use Rattle.radio_model.specs.declared.rivals.Rival.{Rival}
-use Rattle.radio_model.specs.declared.station.Station.{Station}
-use Rattle.radio_model.proofs.Crowds.{all_spoiled, nobody_comes}
-use Rattle.radio_model.proofs.RestOfPlaces.{rivals_but, but_none, but_these, but_fewer, crowd_more}
+use Rattle.radio_model.specs.Marks.{no_mark}
+use Rattle.radio_model.specs.Meetings.{passes_at, rivals_in, rivals_to, AddsTo, Tells, TellsAt}
+use Rattle.radio_model.specs.declared.rivals.Key.{Key}
+use Rattle.radio_model.proofs.Gathered.{both_bits, first_bit, near_and_far, tells_more_of}
+use Rattle.radio_model.proofs.HeardInTurn.{left_bits}
 use Rattle.radio_model.proofs.crowd.crowd_of.Goals as goal
 
-pub bounds-stations-i : goal.bounds-stations-i
-bounds-stations-i g c =
-    let i = c.from-i.ensures in
-    omega (arith, i, c.loop-rest.invariant.within c.lowest-place.result c.lowest-place.ensures.set)
+both_some : {X : Type 0} (P Q R : X → Type 0) (o : Option X) → IfSome o P → IfSome o Q → ((x : X) → P x → Q x → R x) → IfSome o R
+both_some P Q R None p q then = p
+both_some P Q R (Some x) p q then = then x p q
 
-pub bounds-marks-i : goal.bounds-marks-i
-bounds-marks-i g c =
-    let i = c.from-i.ensures in
-    omega (arith, i, c.requires.marks.one_each, c.loop-rest.invariant.within c.lowest-place.result c.lowest-place.ensures.set)
+pub crowd_with-requires-clause-within : goal.crowd_with-requires-clause-within
+crowd_with-requires-clause-within g c = λ k one. c.requires.among.within k (first_bit c.args.places c.near_of-near.result k one)
 
-pub crowd_at-other-requires-clause-by_end : goal.crowd_at-other-requires-clause-by_end
-crowd_at-other-requires-clause-by_end g c =
-    let i = c.from-i.ensures in
-    let below : c.from-i.result < length c.args.stations.now = omega
-    (arith, i, c.loop-rest.invariant.within c.lowest-place.result c.lowest-place.ensures.set) in
-    (subst (λ (st : Station). IsAged c.args.x.now.end st.ended.items) (sym c.index-stations-i.is)
-    (c.requires.aged c.from-i.result c.index-stations-i.result below)).by_end
-
-pub crowd_at-other-requires-clause-mark : goal.crowd_at-other-requires-clause-mark
-crowd_at-other-requires-clause-mark g c =
-    let i = c.from-i.ensures in
-    let below : c.from-i.result < length c.args.stations.now = omega
-    (arith, i, c.loop-rest.invariant.within c.lowest-place.result c.lowest-place.ensures.set) in
-    subst (λ (m : Mark). IsMark (on_air c.index-stations-i.result) m) (sym c.index-marks-i.is)
-    (subst (λ (st : Station). IsMark (on_air st) (get_or c.args.marks.now c.from-i.result c.index-marks-i.result)) (sym c.index-stations-i.is)
-    (c.requires.marks.each c.from-i.result c.index-stations-i.result c.index-marks-i.result below))
-
-pub crowd_at-other-requires-clause-alike : goal.crowd_at-other-requires-clause-alike
-crowd_at-other-requires-clause-alike g c =
-    let i = c.from-i.ensures in
-    let below : c.from-i.result < length c.args.stations.now = omega
-    (arith, i, c.loop-rest.invariant.within c.lowest-place.result c.lowest-place.ensures.set) in
-    c.requires.alike c.from-i.result c.index-stations-i.result c.index-marks-i.result
-    (record { below = below; station = sym c.index-stations-i.is; mark = sym c.index-marks-i.is })
-
-pub returns-then-crowd-reached-clause-none : goal.returns-then-crowd-reached-clause-none
-returns-then-crowd-reached-clause-none g c =
+pub returns-then-strange-eq0-clause-tells : goal.returns-then-strange-eq0-clause-tells
+returns-then-strange-eq0-clause-tells g c =
     let lines = g.M.Links.lines c.args.links.now in
     let nodes = g.M.Links.nodes c.args.links.now in
     let p = c.args.profile.now in
     let x = c.args.x.now in
     let sts = c.args.stations.now in
-    let k = c.lowest-place.result in
-    let left = c.without_bit-rest.result in
-    let st = c.index-stations-i.result in
-    let at : st ≡ get_or sts k st = c.index-stations-i.is ∙ ap (λ (n : ℕ). get_or sts n st) c.from-i.ensures in
-    all_spoiled lines nodes (rivals_but p x left sts) (rivals_to p x sts) c.args.reached c.with-crowd.result
-    (subst (λ (w : Crowd). IsCrowd lines nodes (rivals_but p x left sts) w) (sym c.with-crowd.ensures)
-    (crowd_more p x sts c.requires.in_order c.loop-rest.rest left k st
-    (c.loop-rest.invariant.within k c.lowest-place.ensures.set) at c.lowest-place.ensures.set c.without_bit-rest.ensures.cleared
-    c.without_bit-rest.ensures.others
-    lines nodes c.loop-rest.crowd c.crowd_at-other.result c.loop-rest.invariant.crowd c.crowd_at-other.ensures))
-    (λ test. but_fewer p x test left sts) c.if-crowd-reached.true
+    let near = c.near_of-near.result in
+    let strange = c.strangers-strange.result in
+    let crowd = c.in_ok-crowd.crowd in
+    λ i one.
+    let inside = c.requires.within i one in
+    near_and_far lines nodes p x sts c.args.marks.now c.args.origin c.args.opens c.args.delta c.args.places near c.without_bits-far.result strange i inside
+    c.requires.few c.requires.opens c.requires.delta.0 c.requires.places c.requires.in_order c.requires.marks c.requires.alike c.requires.among
+    (λ k below none. ap (λ (q : Key). passes_at lines q (get_or nodes k 0) (get_or nodes i 0)) (sym c.requires.key) ∙ c.near_of-near.ensures i k one below none)
+    c.without_bits-far.ensures.bits c.strangers-strange.ensures crowd
+    (λ k d in_places in_near. c.in_ok-crowd.ensures.tells k i d inside (both_bits c.args.places near k in_places in_near))
+    (λ k d there. absurd (omega (arith, there, ap (λ (n : ℕ). bit_at n k) c.if-strange-eq0.true, bit_at-zero k)))
 
-pub loop-rest-init : goal.loop-rest-init
-loop-rest-init g c =
-    let lines = g.M.Links.lines c.args.links.now in
-    let nodes = g.M.Links.nodes c.args.links.now in
-    record {
-      crowd = subst (λ (rs : List Rival). IsCrowd lines nodes rs c.none-crowd.result)
-          (sym (but_these c.args.profile.now c.args.x.now c.args.stations.now c.args.places (fresh 0 0) c.requires.in_order c.requires.among))
-          (subst (λ (w : Crowd). IsCrowd lines nodes [] w) (sym c.none-crowd.ensures) (nobody_comes lines nodes));
-      within = c.requires.among.within;
-    }
+pub crowd_with-requires-2-clause-within : goal.crowd_with-requires-2-clause-within
+crowd_with-requires-2-clause-within g c =
+    λ k one. c.requires.among.within k (left_bits c.args.places c.near_of-near.result c.without_bits-far.result k c.without_bits-far.ensures.bits
+    c.without_bits-far.ensures.above ((c.strangers-strange.ensures no_mark).among k one)).0
 
-pub loop-rest-preserved : goal.loop-rest-preserved
-loop-rest-preserved g c =
+pub returns-clause-tells : goal.returns-clause-tells
+returns-clause-tells g c =
     let lines = g.M.Links.lines c.args.links.now in
     let nodes = g.M.Links.nodes c.args.links.now in
     let p = c.args.profile.now in
     let x = c.args.x.now in
     let sts = c.args.stations.now in
-    let k = c.lowest-place.result in
-    let left = c.without_bit-rest.result in
-    let st = c.index-stations-i.result in
-    let at : st ≡ get_or sts k st = c.index-stations-i.is ∙ ap (λ (n : ℕ). get_or sts n st) c.from-i.ensures in
-    record {
-      crowd = subst (λ (w : Crowd). IsCrowd lines nodes (rivals_but p x left sts) w) (sym c.with-crowd.ensures)
-          (crowd_more p x sts c.requires.in_order c.loop-rest.rest left k st
-          (c.loop-rest.invariant.within k c.lowest-place.ensures.set) at c.lowest-place.ensures.set c.without_bit-rest.ensures.cleared
-          c.without_bit-rest.ensures.others
-          lines nodes c.loop-rest.crowd c.crowd_at-other.result c.loop-rest.invariant.crowd c.crowd_at-other.ensures);
-      within = λ j one. elim (cases_eq j k) [
-        | inl here ↦ absurd (omega (arith, one, c.without_bit-rest.ensures.cleared, ap (bit_at left) here))
-        | inr other ↦ c.loop-rest.invariant.within j (sym (c.without_bit-rest.ensures.others j other) ∙ one)
-      ];
-    }
-
-pub returns-clause-some : goal.returns-clause-some
-returns-clause-some g c =
-    let p = c.args.profile.now in
-    let x = c.args.x.now in
-    let sts = c.args.stations.now in
-    let over : c.loop-rest.rest ≡ 0 = c.loop-rest-test.false in
-    subst (λ (rs : List Rival). IsCrowd (g.M.Links.lines c.args.links.now) (g.M.Links.nodes c.args.links.now) rs c.loop-rest.crowd)
-    (ap (λ (n : ℕ). rivals_but p x n sts) over ∙ but_none p x sts (fresh 0 0)) c.loop-rest.invariant.crowd
+    let near = c.near_of-near.result in
+    let strange = c.strangers-strange.result in
+    let first = c.in_ok-crowd.crowd in
+    both_some (AddsTo first) (TellsAt lines nodes p x sts (λ k. bit_at strange k ≡ 1))
+    (λ w. (i : ℕ) → bit_at c.args.ready i ≡ 1 → Tells lines nodes (rivals_to p x sts) i w) c.crowd_with-2.result c.crowd_with-2.ensures.adds
+    c.crowd_with-2.ensures.tells (λ crowd adds tells i one.
+    let inside = c.requires.within i one in
+    near_and_far lines nodes p x sts c.args.marks.now c.args.origin c.args.opens c.args.delta c.args.places near c.without_bits-far.result strange i inside
+    c.requires.few c.requires.opens c.requires.delta.0 c.requires.places c.requires.in_order c.requires.marks c.requires.alike c.requires.among
+    (λ k below none. ap (λ (q : Key). passes_at lines q (get_or nodes k 0) (get_or nodes i 0)) (sym c.requires.key) ∙ c.near_of-near.ensures i k one below none)
+    c.without_bits-far.ensures.bits c.strangers-strange.ensures crowd
+    (λ k d in_places in_near. tells_more_of lines nodes (rivals_in p x (get_or sts k d)) i first crowd adds
+    (c.in_ok-crowd.ensures.tells k i d inside (both_bits c.args.places near k in_places in_near)))
+    (λ k d there. tells k i d inside there))

@@ -9,7 +9,7 @@ invariant-loop-rest g l = record {
   pairs : l.hearers ++ filter_map (heard_at (g.M.Links.lines l.links) l.from.node l.x (key_of l.profile l.x)
       (rivals_to l.profile l.x l.stations) l.rest) l.stations
       ≡ hearers_to l.profile (g.M.Links.lines l.links) l.from.node l.x l.stations;
-  reached : (k : ℕ) → bit_at l.rest k ≡ 1 → (bit_at l.reached k ≡ 1) × (bit_at l.crowd.spoiled k ≡ 0);
+  left : (k : ℕ) → bit_at l.rest k ≡ 1 → (bit_at l.ready k ≡ 1) × (bit_at l.crowd.spoiled k ≡ 0);
 }
 
 abbrev pub decreases-loop-rest : goal.decreases-loop-rest

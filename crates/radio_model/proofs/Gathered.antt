@@ -1,0 +1,225 @@
+-- What stations bring to nodes, gathered bit by bit: of one station more, and of all but those from which nothing comes.
+use Rattle.std.proofs.Common.{◌≡◌, ◌≢◌, ℕ, ◌<◌, ◌≤◌, ◌-◌, ◌⊎◌, inl, inr, max, min, [], List, length, get_or, Bool, true, false, not, ◌&&◌, ◌+◌}
+use Rattle.std.proofs.Common.{nat_lt, if◌then◌else◌, bit_and, bit_or, All, refl, sym, ◌∙◌, ap, subst, arith}
+use Rattle.std.proofs.lemmas.Bool.{cases_eq, lt-ltb, both_ways, false_from_ne_true}
+use Rattle.std.proofs.lemmas.Nat.Bits.{bit_at_or, bit_at_and, bit_at-lt}
+use Rattle.std.specs.Int.{bit_at}
+use Rattle.std.specs.List.{list_any}
+use Rattle.lwb_base.specs.Profile.{Numbers}
+use Rattle.link_trace.specs.Masks.{IsMask}
+use Rattle.link_trace.specs.Passes.{Lines, passes}
+use Rattle.radio_model.specs.Marks.{AreMarks, AreAlikeTo, comes_close, no_mark}
+use Rattle.radio_model.specs.Meetings.{rivals_in, rivals_to, differs, spoils, passes_at, key_of, IsCrowd, IsFrameStart, IsPlaced, both_crowds}
+use Rattle.radio_model.specs.Meetings.{IsFrom, AddsTo, Tells, TellsAt, IsNear, AreThose}
+use Rattle.radio_model.specs.Recent.{AreAmong}
+use Rattle.radio_model.specs.declared.crowd.Crowd.{Crowd}
+use Rattle.radio_model.specs.declared.mark.Mark.{Mark}
+use Rattle.radio_model.specs.declared.mark.Origin.{Origin}
+use Rattle.radio_model.specs.declared.rivals.Key.{Key}
+use Rattle.radio_model.specs.declared.rivals.Rival.{Rival}
+use Rattle.radio_model.specs.declared.sending.Sending.{Sending}
+use Rattle.radio_model.specs.declared.station.Station.{Station}
+use Rattle.radio_model.proofs.Members.{any_of, some_of, in_flat, from_flat, same_default}
+use Rattle.radio_model.proofs.Close.{close_same, close_harmless}
+use Rattle.radio_model.proofs.RestOfPlaces.{InOrder, bit_cases}
+
+set_so : (b c : Bool) → ◌≡◌ {A = ℕ} (if b && c then 1 else 0) 1 → c ≡ true
+set_so true true is = refl
+set_so true false is = absurd (omega (arith, is))
+set_so false c is = absurd (omega (arith, is))
+
+unset_so : (b c : Bool) → b ≡ true → ◌≡◌ {A = ℕ} (if b && c then 1 else 0) 0 → c ≡ false
+unset_so true true inside is = absurd (omega (arith, is))
+unset_so true false inside is = refl
+unset_so false true inside is = sym inside
+unset_so false false inside is = refl
+
+-- what a bit of a mask tells
+module _ (nodes : List ℕ) (test : ℕ → Bool) (mask : ℕ) (is : IsMask test nodes mask) (i : ℕ) where
+  pub if_set : bit_at mask i ≡ 1 → test (get_or nodes i 0) ≡ true
+  if_set one = set_so (nat_lt i (length nodes)) (test (get_or nodes i 0)) (sym (is i) ∙ one)
+
+  pub if_unset : i < length nodes → bit_at mask i ≡ 0 → test (get_or nodes i 0) ≡ false
+  if_unset inside none = unset_so (nat_lt i (length nodes)) (test (get_or nodes i 0)) (lt-ltb i (length nodes) inside) (sym (is i) ∙ none)
+
+either_one : (a b : ℕ) → a < 2 → b < 2 → max a b ≡ 1 → (a ≡ 1) ⊎ (b ≡ 1)
+either_one a b a_small b_small is = elim (bit_cases a a_small) [ inl none ↦ inr (omega (arith, is, none)) | inr one ↦ inl one ]
+
+neither : (a b : ℕ) → max a b ≡ 0 → (a ≡ 0) × (b ≡ 0)
+neither a b is = (omega (arith, is), omega (arith, is))
+
+pub either_bit : (a b i : ℕ) → bit_at (bit_or a b) i ≡ 1 → (bit_at a i ≡ 1) ⊎ (bit_at b i ≡ 1)
+either_bit a b i is = either_one (bit_at a i) (bit_at b i) (bit_at-lt a i) (bit_at-lt b i) (sym (bit_at_or a b i) ∙ is)
+
+pub neither_bit : (a b i : ℕ) → bit_at (bit_or a b) i ≡ 0 → (bit_at a i ≡ 0) × (bit_at b i ≡ 0)
+neither_bit a b i is = neither (bit_at a i) (bit_at b i) (sym (bit_at_or a b i) ∙ is)
+
+-- a bit that both masks have
+pub both_bits : (a b i : ℕ) → bit_at a i ≡ 1 → bit_at b i ≡ 1 → bit_at (bit_and a b) i ≡ 1
+both_bits a b i one two = bit_at_and a b i ∙ omega (arith, one, two)
+
+pub first_bit : (a b i : ℕ) → bit_at (bit_and a b) i ≡ 1 → bit_at a i ≡ 1
+first_bit a b i is =
+    elim (bit_cases (bit_at a i) (bit_at-lt a i)) [
+      | inl none ↦ absurd (omega (arith, bit_at_and a b i, is, none))
+      | inr one ↦ one
+    ]
+
+-- a bit of the second mask, where both share all of it
+pub bit_of_first : (a b i : ℕ) → bit_and a b ≡ b → bit_at b i ≡ 1 → bit_at a i ≡ 1
+bit_of_first a b i both one = first_bit a b i (ap (λ (n : ℕ). bit_at n i) both ∙ one)
+
+module _ (lines : Lines) (nodes : List ℕ) (p : Numbers) (x : Sending) (sts : List Station) where
+  abbrev all : List Rival
+  all = rivals_to p x sts
+
+  pub from_one : (k : ℕ) (st : Station) (test : Rival → Bool) → k < length sts → st ≡ get_or sts k st → list_any test (rivals_in p x st) ≡ true
+      → list_any test all ≡ true
+  from_one k st test below at some =
+      let r = some_of test (rivals_in p x st) some in
+      any_of test all r.0 (in_flat (rivals_in p x) sts st r.0 (k, below, sym at) r.1) r.2
+
+  none_in : (test : Rival → Bool) → ((k : ℕ) (d : Station) → k < length sts → list_any test (rivals_in p x (get_or sts k d)) ≡ false)
+      → list_any test all ≡ false
+  none_in test none =
+      false_from_ne_true (list_any test all) (λ some.
+      let r = some_of test all some in
+      let st = from_flat (rivals_in p x) sts r.0 r.1 in
+      both_ways (list_any test (rivals_in p x st.0))
+      (ap (λ (s : Station). list_any test (rivals_in p x s)) (sym st.1.2) ∙ none st.1.0 st.0 st.1.1) (any_of test (rivals_in p x st.0) r.0 st.2 r.2))
+
+  -- all stations, one by one
+  pub tells_all : (i : ℕ) (c : Crowd) → ((k : ℕ) (d : Station) → k < length sts → Tells lines nodes (rivals_in p x (get_or sts k d)) i c)
+      → Tells lines nodes all i c
+  tells_all i c each = record {
+    mixed = λ none. none_in (differs lines (get_or nodes i 0)) (λ k d below. (each k d below).mixed none);
+    spoiled = λ none. none_in (spoils lines (get_or nodes i 0)) (λ k d below. (each k d below).spoiled none);
+  }
+
+  pub adds_none : (c : Crowd) → AddsTo c c
+  adds_none c = record { mixed = λ i none. none; spoiled = λ i none. none }
+
+  -- with a station more
+  module _ (k : ℕ) (st : Station) (below : k < length sts) (at : st ≡ get_or sts k st) (a b : Crowd) (is : IsCrowd lines nodes (rivals_in p x st) b) where
+    pub from_more : IsFrom lines nodes all a → IsFrom lines nodes all (both_crowds a b)
+    from_more was = record {
+      mixed = λ i one. elim (either_bit a.mixed b.mixed i one) [
+        | inl old ↦ was.mixed i old
+        | inr new ↦
+            from_one k st (differs lines (get_or nodes i 0)) below at
+            (if_set nodes (λ v. list_any (differs lines v) (rivals_in p x st)) b.mixed is.mixed i new)
+      ];
+      spoiled = λ i one. elim (either_bit a.spoiled b.spoiled i one) [
+        | inl old ↦ was.spoiled i old
+        | inr new ↦
+            from_one k st (spoils lines (get_or nodes i 0)) below at
+            (if_set nodes (λ v. list_any (spoils lines v) (rivals_in p x st)) b.spoiled is.spoiled i new)
+      ];
+    }
+
+    pub adds_more : (known : Crowd) → AddsTo known a → AddsTo known (both_crowds a b)
+    adds_more known was = record {
+      mixed = λ i none. was.mixed i (neither_bit a.mixed b.mixed i none).0;
+      spoiled = λ i none. was.spoiled i (neither_bit a.spoiled b.spoiled i none).0;
+    }
+
+    tells_one : (i : ℕ) (d : Station) → i < length nodes → Tells lines nodes (rivals_in p x (get_or sts k d)) i (both_crowds a b)
+    tells_one i d inside =
+        subst (λ (s : Station). Tells lines nodes (rivals_in p x s) i (both_crowds a b)) (at ∙ same_default sts k st d below) (record {
+          mixed = λ none. if_unset nodes (λ v. list_any (differs lines v) (rivals_in p x st)) b.mixed is.mixed i inside (neither_bit a.mixed b.mixed i none).1;
+          spoiled = λ none. if_unset nodes (λ v. list_any (spoils lines v) (rivals_in p x st)) b.spoiled is.spoiled i inside
+              (neither_bit a.spoiled b.spoiled i none).1;
+        })
+
+    pub tells_more : (places rest new : ℕ) → ((j : ℕ) → j ≢ k → bit_at new j ≡ bit_at rest j)
+        → TellsAt lines nodes p x sts (λ j. (bit_at places j ≡ 1) × (bit_at rest j ≡ 0)) a
+        → TellsAt lines nodes p x sts (λ j. (bit_at places j ≡ 1) × (bit_at new j ≡ 0)) (both_crowds a b)
+    tells_more places rest new others was j i d inside done = elim (cases_eq j k) [
+      | inl here ↦ subst (λ (n : ℕ). Tells lines nodes (rivals_in p x (get_or sts n d)) i (both_crowds a b)) (sym here) (tells_one i d inside)
+      | inr other ↦
+          let old = was j i d inside (done.0, sym (others j other) ∙ done.1) in
+          record {
+            mixed = λ none. old.mixed (neither_bit a.mixed b.mixed i none).0;
+            spoiled = λ none. old.spoiled (neither_bit a.spoiled b.spoiled i none).0;
+          }
+    ]
+
+-- one more node is near
+pub near_more : (lines : Lines) (key : Key) (nodes : List ℕ) (ready rest new place near mask : ℕ)
+    → IsNear lines key nodes (λ i. (bit_at ready i ≡ 1) × (bit_at rest i ≡ 0)) near
+    → ((i : ℕ) → i ≢ place → bit_at new i ≡ bit_at rest i)
+    → IsMask (λ from. passes lines key.frame key.slot key.counter from (get_or nodes place 0)) nodes mask
+    → IsNear lines key nodes (λ i. (bit_at ready i ≡ 1) × (bit_at new i ≡ 0)) (bit_or near mask)
+near_more lines key nodes ready rest new place near mask was others is i k to inside none =
+    let both = neither_bit near mask k none in
+    elim (cases_eq i place) [
+      | inl here ↦
+          ap (λ (n : ℕ). passes_at lines key (get_or nodes k 0) (get_or nodes n 0)) here
+          ∙ if_unset nodes (λ from. passes lines key.frame key.slot key.counter from (get_or nodes place 0)) mask is k inside both.1
+      | inr other ↦ was i k (to.0, sym (others i other) ∙ to.1) inside both.0
+    ]
+
+-- what is told stays so
+pub tells_more_of : (lines : Lines) (nodes : List ℕ) (rs : List Rival) (i : ℕ) (old new : Crowd) → AddsTo old new → Tells lines nodes rs i old
+    → Tells lines nodes rs i new
+tells_more_of lines nodes rs i old new adds was = record {
+  mixed = λ none. was.mixed (adds.mixed i none);
+  spoiled = λ none. was.spoiled (adds.spoiled i none);
+}
+
+-- the stations from which no link passes to a node tell nothing, where their marks show that they come close
+module _ (lines : Lines) (nodes : List ℕ) (p : Numbers) (x : Sending) (sts : List Station) (mks : List Mark) (origin : Origin) (opens delta places near far
+    strange : ℕ) (i : ℕ) (inside : i < length nodes) (few : length sts ≤ 64) (starts : IsFrameStart p.frame x.start opens) (by : delta ≡ p.delta)
+    (placed : All (λ (st : Station). IsPlaced nodes st.place st.node) sts) (in_order : InOrder sts) (marks : AreMarks sts mks)
+    (alike : AreAlikeTo sts mks origin x) (among : AreAmong p x sts places)
+    (no_link : (k : ℕ) → k < length nodes → bit_at near k ≡ 0 → passes_at lines (key_of p x) (get_or nodes k 0) (get_or nodes i 0) ≡ false)
+    (is_far : (k : ℕ) → k < 64 → bit_at far k ≡ min (bit_at places k) (1 - bit_at near k))
+    (those : (d : Mark) → AreThose (λ k. not (comes_close opens (x.start + delta) x origin (get_or mks k d))) far strange) (c : Crowd) where
+  no_rivals : (rs : List Rival) → rs ≡ [] → Tells lines nodes rs i c
+  no_rivals rs is = record {
+    mixed = λ none. ap (list_any (differs lines (get_or nodes i 0))) is;
+    spoiled = λ none. ap (list_any (spoils lines (get_or nodes i 0))) is;
+  }
+
+  far_tells : (k : ℕ) (d : Station) → k < length sts → bit_at near k ≡ 0 → bit_at far k ≡ 1 → bit_at strange k ≡ 0
+      → Tells lines nodes (rivals_in p x (get_or sts k d)) i c
+  far_tells k d below not_near far_one none =
+      let st = get_or sts k d in
+      let mk = get_or mks k no_mark in
+      let so = not_false (comes_close opens (x.start + delta) x origin mk) ((those no_mark).others k far_one none) in
+      let is = marks.each k d no_mark below in
+      let stands = alike k st mk (record {
+        below = below;
+        station = same_default sts k st d below;
+        mark = same_default mks k mk no_mark (omega (arith, below, marks.one_each));
+      }) in
+      let at = placed k d below in
+      let place = in_order k d below in
+      let node : get_or nodes k 0 ≡ st.node = ap (λ (n : ℕ). get_or nodes n 0) (sym place) ∙ at.there in
+      let cut : passes_at lines (key_of p x) st.node (get_or nodes i 0) ≡ false =
+      ap (λ (n : ℕ). passes_at lines (key_of p x) n (get_or nodes i 0)) (sym node) ∙ no_link k (omega (arith, at.below, place)) not_near in
+      record {
+        mixed = λ unset. close_same p x st mk origin opens delta is stands starts by so lines (get_or nodes i 0);
+        spoiled = λ unset. close_harmless p x st mk origin opens delta is stands starts by so lines (get_or nodes i 0) cut;
+      }
+    where
+      not_false : (b : Bool) → not b ≡ false → b ≡ true
+      not_false true is = refl
+      not_false false is = sym is
+
+  pub near_and_far : ((k : ℕ) (d : Station) → bit_at places k ≡ 1 → bit_at near k ≡ 1 → Tells lines nodes (rivals_in p x (get_or sts k d)) i c)
+      → ((k : ℕ) (d : Station) → bit_at strange k ≡ 1 → Tells lines nodes (rivals_in p x (get_or sts k d)) i c)
+      → Tells lines nodes (rivals_to p x sts) i c
+  near_and_far near_tells strange_tells = tells_all lines nodes p x sts i c each
+    where
+      each : (k : ℕ) (d : Station) → k < length sts → Tells lines nodes (rivals_in p x (get_or sts k d)) i c
+      each k d below = elim (bit_cases (bit_at places k) (bit_at-lt places k)) [
+        | inl none ↦ no_rivals (rivals_in p x (get_or sts k d)) (among.others k d below none)
+        | inr one ↦ elim (bit_cases (bit_at near k) (bit_at-lt near k)) [
+          | inl not_near ↦ elim (bit_cases (bit_at strange k) (bit_at-lt strange k)) [
+            | inl none ↦ far_tells k d below not_near (is_far k (omega arith) ∙ omega (arith, one, not_near)) none
+            | inr one ↦ strange_tells k d one
+          ]
+          | inr is_near ↦ near_tells k d one is_near
+        ]
+      ]
