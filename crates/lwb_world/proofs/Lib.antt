@@ -24,6 +24,7 @@ mod EndsInCode
 mod EndsOfSendings
 mod EventsInCode
 mod FieldClosing
+mod FilledPlaces
 mod FirstField
 mod FramesInCode
 mod GoesOn

@@ -1,6 +1,6 @@
 //! What a device orders of its radio in one event.
 
-ghost use Rattle.std.specs.Prelude.{◌≡◌, ◌≤◌, ◌∷◌, [], length, slice_get, option_map, option_copied, is_some, Some, None};
+ghost use Rattle.std.specs.Prelude.{◌≡◌, ◌≤◌, ◌∷◌, [], length, slice_get, option_map, option_copied, is_some, Some, None, true};
 ghost use Rattle.lwb_base.specs.Orders.{Gives};
 ghost use Rattle.lwb_base.specs.declared.order.Order.{Order as OrderOf};
 ghost use Rattle.lwb_world.specs.EventOrders.{no_orders, order_of, order_with};
@@ -54,12 +54,6 @@ impl Place {
         }
     }
 
-    fn is_filled(&self) -> bool
-        ensures { result ≡ is_some self.now }
-    {
-        self.order().is_some()
-    }
-
     #[inline]
     fn order(&self) -> Option<OrderRef<'_>>
         ensures { option_map order_of result ≡ self.now }
@@ -82,9 +76,16 @@ impl Place {
     {
         self.kept = Some(kept);
         if let Some(packet) = packet {
-            self.packet = Some(packet.copy());
+            put(&mut self.packet, packet);
         }
     }
+}
+
+// A copy of the packet goes there. It stands by itself, since the room for it is only to be made ready where one comes.
+fn put(there: &mut Option<Packet>, packet: &Packet)
+    ensures { there.new ≡ Some packet.now }
+{
+    *there = Some(packet.copy());
 }
 
 // A radio that keeps the orders of one event, at most 4. Contracts see the list of those it keeps, and how many more it
@@ -95,17 +96,20 @@ pub(crate) struct EventRadio {
     second: Place,
     third: Place,
     fourth: Place,
+    // How many of them are filled.
+    count: u8,
 }
 
 impl Model for EventRadio {
     ghost use Rattle.lwb_base.specs.Orders.{Told};
+    ghost use Rattle.std.specs.Prelude.{◌≡◌, ◌+◌};
     ghost use Rattle.lwb_world.specs.EventOrders.{kept_in, room_in, IsFilled};
 
     ghost Value = { Told };
 
     ghost view = { λ r. record { given = kept_in r.first r.second r.third r.fourth; room = room_in r.first r.second r.third r.fourth } };
 
-    ghost invariant = { λ r. IsFilled r.first r.second r.third r.fourth };
+    ghost invariant = { λ r. IsFilled r.first r.second r.third r.fourth × (r.count + room_in r.first r.second r.third r.fourth ≡ 4) };
 }
 
 impl EventRadio {
@@ -118,6 +122,7 @@ impl EventRadio {
             second: Place::empty(),
             third: Place::empty(),
             fourth: Place::empty(),
+            count: 0,
         }
     }
 
@@ -137,19 +142,19 @@ impl EventRadio {
 
     // One more order, behind all others, with the packet of a SendAt.
     #[inline]
+    #[tactic(auto, using(crate::proofs::FilledPlaces::first_filled))]
     fn keep(&mut self, kept: Kept, packet: Option<&Packet>)
-        requires { 1 ≤ self.old.room }
+        requires room { 1 ≤ self.old.room }
+        requires order { is_some (order_with (Some kept) (option_copied packet)) ≡ true }
         ensures { (order : OrderOf) → order_with (Some kept) (option_copied packet.entry) ≡ Some order → Gives self.old self.new (order ∷ []) }
     {
-        if self.third.is_filled() {
-            self.fourth.fill(kept, packet);
-        } else if self.second.is_filled() {
-            self.third.fill(kept, packet);
-        } else if self.first.is_filled() {
-            self.second.fill(kept, packet);
-        } else {
-            self.first.fill(kept, packet);
+        match self.count {
+            0 => self.first.fill(kept, packet),
+            1 => self.second.fill(kept, packet),
+            2 => self.third.fill(kept, packet),
+            _ => self.fourth.fill(kept, packet),
         }
+        self.count += 1;
     }
 }
 
