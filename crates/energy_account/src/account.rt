@@ -42,7 +42,6 @@ impl Model for Account {
 impl Account {
     /// The account of a run of this scenario, by the log of the run. Err is want of memory.
     pub fn of(alloc: Global, s: &Scenario, a: &Air) -> Result<Account, Memory>
-        requires scenario { IsScenario s.now }
         requires lawful { Lawful s.now (scenario_clock s.now) a.now }
         ensures { IfOk result (λ account. IsAccount s.now (scenario_clock s.now) a.now account) }
     {
@@ -64,7 +63,6 @@ impl Account {
         a: &Air,
         charges: &[NodeCharge],
     ) -> Result<Account, Memory>
-        requires scenario { IsScenario s.now }
         requires lawful { Lawful s.now (scenario_clock s.now) a.now }
         requires charges { charges.now ≡ charges_in s.now (scenario_clock s.now) a.now }
         ensures { IfOk result (λ account. IsAccount s.now (scenario_clock s.now) a.now account) }

@@ -13,13 +13,13 @@ use Rattle.energy_account.proofs.StatedPlaces.{stated_place}
 use Rattle.energy_account.proofs.account.Account.of.Goals as goal
 
 pub stated_clocks-requires : goal.stated_clocks-requires
-stated_clocks-requires c = rw (c.nodes-nodes.ensures.value, c.rates.ensures) (scenario_states c.args.s.now c.requires.scenario)
+stated_clocks-requires c = rw (c.nodes-nodes.ensures.value, c.rates.ensures) (scenario_states c.args.s.now c.nodes-nodes.ensures.said)
 
 pub energy_of_node-requires-clause-clock : goal.energy_of_node-requires-clause-clock
 energy_of_node-requires-clause-clock c =
     let s = c.args.s.now in
     let clocks = c.in_ok-clocks.ensures in
-    stated_place s c.nodes-nodes.result.now c.rates.result.now c.in_ok-clocks.clocks.items (sound s c.requires.scenario) c.nodes-nodes.ensures.value
+    stated_place s c.nodes-nodes.result.now c.rates.result.now c.in_ok-clocks.clocks.items (sound s c.nodes-nodes.ensures.said) c.nodes-nodes.ensures.value
     c.rates.ensures clocks.count clocks.stated
     c.loop-i.i c.index-nodes-i.result c.index.result.now (omega arith) c.index.ensures
 

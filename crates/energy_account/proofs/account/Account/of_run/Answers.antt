@@ -32,7 +32,7 @@ loop-place-preserved c =
       energy =
           record { sent = c.sent.result; windows = c.charge_at-charge.result.windows; scanned = c.charge_at-charge.result.scanned; on = c.on.result };
     } in
-    let is = line_counted s (scenario_clock s) c.args.a.now (sound s c.requires.scenario) c.requires.lawful nodes c.args.charges.now i n
+    let is = line_counted s (scenario_clock s) c.args.a.now (sound s c.nodes-nodes.ensures.said) c.requires.lawful nodes c.args.charges.now i n
     c.charge_at-charge.result c.nodes-nodes.ensures.value c.requires.charges (omega arith)
     (ap (λ (d : NodeLine). get_or nodes i d) c.index-nodes-place.is) c.charge_at-charge.ensures
     c.in_ok-times.times c.in_ok-times.ensures.times c.in_ok-times.ensures.early c.sent.result c.on.result c.sent.ensures c.on.ensures in
