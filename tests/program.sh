@@ -1,7 +1,7 @@
 #!/usr/bin/env bash
 # Runs the built program and says what it does other than it should: on each example, whose report in examples/expected was
-# worked out from the rules; on words that are no command, texts that are refused, ends that fail, and the greatest sizes;
-# and, built by the second compiler, on each example again. The last line is 'N passed, M failed', and the status is 0 where
+# worked out from the rules; on words that are no command, texts that are rejected, streams that fail, and the greatest sizes;
+# built by the second compiler, on each example again; and by the front end ./foldcairn. The last line is 'N passed, M failed', and the status is 0 where
 # M is 0.
 # Usage: tests/program.sh [PROGRAM [OTHER]]. OTHER is the same program as the second compiler builds it. By default they are
 # what the gate built, or they are built.
@@ -222,5 +222,7 @@ ends_that_fail
 greatest_sizes
 little_memory
 [ -n "$other" ] && by_both
+. "$top/tests/front_end.sh"
+front_end
 echo "$passed passed, $failed failed"
 [ "$failed" -eq 0 ]
