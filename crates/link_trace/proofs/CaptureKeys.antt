@@ -1,10 +1,10 @@
 -- Where the capture line of a key is.
 use Rattle.std.proofs.Common.{◌≡◌, ℕ, zero, suc, ◌<◌, List, [], ◌∷◌, Bool, true, false, length, get_or, Result, Ok, Err}
-use Rattle.std.proofs.Common.{IfOk, IfErr, Some, None, ◌||◌, cond, refl, sym, ◌∙◌, ap, subst, arith}
+use Rattle.std.proofs.Common.{IfOk, IfErr, Option, Some, None, ◌||◌, cond, refl, sym, ◌∙◌, ap, subst, arith}
 use Rattle.std.proofs.lemmas.Bool.{false≢true}
 use Rattle.std.proofs.lemmas.Cmp.{alike_right}
 use Rattle.std.proofs.lemmas.List.Folds.{list_any_at}
-use Rattle.std.specs.List.{find, list_any}
+use Rattle.std.specs.List.{filter, find, list_any}
 use Rattle.std.specs.List.Sorted.{IsSearchInRange, IsBinarySearchResult}
 use Rattle.std.specs.Ordering.{nat_cmp, ordering_then, is_eq}
 use Rattle.std.specs.declared.cmp.Ordering.{Ordering}
@@ -38,6 +38,22 @@ find_none test (x ∷ xs) none = by (test x) none (λ rest. find_none test xs re
     by : (b : Bool) → (b || list_any test xs) ≡ false → (list_any test xs ≡ false → find test xs ≡ None) → cond b (Some x) (find test xs) ≡ None
     by true none rest = absurd (false≢true (sym none))
     by false none rest = rest none
+
+-- the first line that passes is the first of those that pass
+abbrev front : {L : Type 0} → List L → Option L
+front [] = None
+front (x ∷ xs) = Some x
+
+find_front : {L : Type 0} (test : L → Bool) (ls : List L) → find test ls ≡ front (filter test ls)
+find_front test [] = refl
+find_front {L} test (x ∷ xs) = by (test x) (find_front test xs)
+  where
+    by : (b : Bool) → find test xs ≡ front (filter test xs) → cond b (Some x) (find test xs) ≡ front (cond b (x ∷ filter test xs) (filter test xs))
+    by true rest = refl
+    by false rest = rest
+
+pub same_find : {L : Type 0} (test : L → Bool) (part ls : List L) → filter test part ≡ filter test ls → find test part ≡ find test ls
+same_find test part ls same = find_front test part ∙ ap front same ∙ sym (find_front test ls)
 
 -- the order of a tuple goes by its first three parts, and then the last
 abbrev pub by_four : ℕ × ℕ × ℕ × ℕ → ℕ × ℕ × ℕ × ℕ → Ordering

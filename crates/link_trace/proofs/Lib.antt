@@ -5,6 +5,8 @@ pub mod SmallSeals
 -- for this crate alone
 pub mod Inserted
 pub mod Together
+pub mod SlotParts
+pub mod SlotNumbers
 pub mod CaptureKeys
 pub mod MaskReads
 pub mod MasksOfPassing

@@ -16,7 +16,7 @@ use Rattle.link_trace.specs.Order.{Ascends, by_cut, by_loss}
 use Rattle.link_trace.specs.Passes.{cuts_by, is_of_step}
 
 module _ {L : Type 0} (q : L → Bool) where
-  none_pass : (xs : List L) → AllWithin (λ x. q x ≡ false) xs 0 (length xs) → filter q xs ≡ []
+  pub none_pass : (xs : List L) → AllWithin (λ x. q x ≡ false) xs 0 (length xs) → filter q xs ≡ []
   none_pass [] none = refl
   none_pass (x ∷ xs) none = rw (none 0 x (omega arith) (omega arith)) (none_pass xs (λ k d low high. none (suc k) d (omega arith) (omega arith)))
 
@@ -29,7 +29,7 @@ module _ {L : Type 0} (q : L → Bool) where
       (ap (λ (ys : List L). x ∷ ys) (front_passes n xs (omega arith) (λ k d low high. pass (suc k) d (omega arith) (omega arith))
       (λ k d low high. none (suc k) d (omega arith) (omega arith))))
 
-  front_fails : (m : ℕ) (xs : List L) → m ≤ length xs → AllWithin (λ x. q x ≡ false) xs 0 m → filter q xs ≡ filter q (drop m xs)
+  pub front_fails : (m : ℕ) (xs : List L) → m ≤ length xs → AllWithin (λ x. q x ≡ false) xs 0 m → filter q xs ≡ filter q (drop m xs)
   front_fails zero xs within none = refl
   front_fails (suc m) [] within none = absurd (omega arith)
   front_fails (suc m) (x ∷ xs) within none =
@@ -73,12 +73,12 @@ then_less : (a x : ℕ) (rest : Ordering) → ordering_then (nat_cmp a x) rest �
 then_less a x rest less = then_less_by a x (nat_cmp a x) rest (ranked a x (nat_cmp a x) refl) less
 
 -- the steps of two lines, the first of which is below the second
-record Rises (f j k g i h : ℕ) : Type 0 where
-  frames : f ≤ g
-  slots : f ≡ g → j ≤ i
-  steps : f ≡ g → j ≡ i → k ≤ h
+pub record Rises (f j k g i h : ℕ) : Type 0 where
+  pub frames : f ≤ g
+  pub slots : f ≡ g → j ≤ i
+  pub steps : f ≡ g → j ≡ i → k ≤ h
 
-steps_rise : (f j k g i h : ℕ) (rest : Ordering)
+pub steps_rise : (f j k g i h : ℕ) (rest : Ordering)
     → ordering_then (nat_cmp f g) (ordering_then (nat_cmp j i) (ordering_then (nat_cmp k h) rest)) ≡ Less → Rises f j k g i h
 steps_rise f j k g i h rest less =
     elim (then_less f g _ less) [

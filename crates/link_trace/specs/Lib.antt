@@ -1,4 +1,5 @@
 pub mod Passes
 pub mod Order
 pub mod Sealed
+pub mod Starts
 pub mod Masks

@@ -6,6 +6,8 @@ use Rattle.link_trace.specs.declared.lines.LinkLine.{LinkLine}
 use Rattle.link_trace.specs.declared.masks.LinkMasks.{LinkMasks}
 use Rattle.link_trace.specs.Order.{AreInOrder}
 use Rattle.link_trace.specs.Passes.{Lines, is_link}
+use Rattle.link_trace.specs.Starts.{AreStartsOf}
+use Rattle.link_trace.specs.declared.starts.Starts.{Starts}
 
 -- 1 to 64 ids, each below those after it
 pub record AreNodes (nodes : List ℕ) : Type 0 where
@@ -30,8 +32,9 @@ pub record AreLinkMasks (links : List LinkLine) (nodes : List ℕ) (masks : List
       → IsMask (λ to. list_any (is_link (slice_index nodes at) to) links) nodes (slice_index_or masks at d).from_it
 
 -- what is true of each trace
-pub record AreKept (t : Lines) (nodes : List ℕ) (masks : List LinkMasks) : Type 0 where
+pub record AreKept (t : Lines) (nodes : List ℕ) (masks : List LinkMasks) (starts : Starts) : Type 0 where
   pub in_order : AreInOrder t
   pub few : length nodes ≤ 64
   pub ascending : AllPairs (λ a b. a < b) nodes
   pub link_masks : AreLinkMasks t.links nodes masks
+  pub line_starts : AreStartsOf t starts

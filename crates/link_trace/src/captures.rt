@@ -3,9 +3,11 @@ ghost use Rattle.std.specs.List.{list_any, find};
 ghost use Rattle.std.specs.Option.{option_map};
 ghost use Rattle.link_trace.specs.Passes.{is_capture};
 ghost use Rattle.link_trace.specs.Order.{Ascends, HasPlace, IsFirst, with_line, by_capture};
+ghost use Rattle.link_trace.specs.Starts.{AreStarts, of_capture};
 ghost use Rattle.link_trace.specs.declared.lines.CaptureLine.{CaptureLine};
 
 use crate::CaptureLine;
+use crate::starts::{of_slots, slot_number};
 use lwb_base::{Memory, NodeId};
 
 /// Adds a line where it stands by its key. `Ok(false)` comes exactly where a line of that key is there already.
@@ -34,16 +36,20 @@ pub fn add_capture(lines: &mut Vec<CaptureLine>, line: CaptureLine) -> Result<bo
 /// The sender that the line of the key names. None comes exactly where there is no such line.
 pub fn captured_sender(
     lines: &[CaptureLine],
+    starts: &[usize],
     frame: u32,
     slot: u8,
     step: u8,
     at: NodeId,
 ) -> Option<NodeId>
-    requires { Ascends by_capture lines.now }
+    requires ascends { Ascends by_capture lines.now }
+    requires starts { AreStarts of_capture lines.now starts.now }
     ensures { result ≡ option_map (λ (l : CaptureLine). l.from) (find (is_capture frame slot step at) lines.now) }
 {
-    match find_capture(lines, frame, slot, step, at) {
-        Ok(place) => Some(lines[place].from),
+    let number = slot_number(frame, slot);
+    let of_slot = of_slots(lines, starts, number, number);
+    match find_capture(of_slot, frame, slot, step, at) {
+        Ok(place) => Some(of_slot[place].from),
         Err(_) => None,
     }
 }

@@ -7,6 +7,7 @@ mod lines;
 mod links;
 mod masks;
 mod ranges;
+mod starts;
 mod trace;
 
 pub use lines::{CaptureLine, CutLine, LinkLine, LoseLine};

@@ -2,12 +2,47 @@ ghost use Rattle.std.specs.Prelude.{◌≡◌, ◌==◌};
 ghost use Rattle.std.specs.List.{filter, list_any};
 ghost use Rattle.link_trace.specs.Order.{Ascends, by_loss, by_cut};
 ghost use Rattle.link_trace.specs.Passes.{cut_off, cuts_by, is_of_step};
+ghost use Rattle.link_trace.specs.Starts.{AreStarts, of_cut, of_loss};
 
+use crate::starts::{of_slots, slot_number};
 use crate::{CutLine, LoseLine};
 use lwb_base::NodeId;
 
-/// The cut lines of the frame at or before that slot and step, which stand together.
-pub fn cuts_so_far(cuts: &[CutLine], frame: u32, slot: u8, step: u8) -> &[CutLine]
+/// The cut lines of the frame at or before that slot and step, which are next to each other.
+pub fn cuts_so_far<'a>(
+    cuts: &'a [CutLine],
+    starts: &[usize],
+    frame: u32,
+    slot: u8,
+    step: u8,
+) -> &'a [CutLine]
+    requires ascends { Ascends by_cut cuts.now }
+    requires starts { AreStarts of_cut cuts.now starts.now }
+    ensures { result.now ≡ filter (cuts_by frame slot step) cuts.now }
+{
+    let first = slot_number(frame, 0);
+    let last = slot_number(frame, slot);
+    find_cuts(of_slots(cuts, starts, first, last), frame, slot, step)
+}
+
+/// The lose lines of that frame, slot and step, which are next to each other.
+pub fn losses_of_step<'a>(
+    losses: &'a [LoseLine],
+    starts: &[usize],
+    frame: u32,
+    slot: u8,
+    step: u8,
+) -> &'a [LoseLine]
+    requires ascends { Ascends by_loss losses.now }
+    requires starts { AreStarts of_loss losses.now starts.now }
+    ensures { result.now ≡ filter (is_of_step frame slot step) losses.now }
+{
+    let number = slot_number(frame, slot);
+    find_losses(of_slots(losses, starts, number, number), frame, slot, step)
+}
+
+// The cut lines of the frame at or before that slot and step.
+fn find_cuts(cuts: &[CutLine], frame: u32, slot: u8, step: u8) -> &[CutLine]
     requires { Ascends by_cut cuts.now }
     ensures { result.now ≡ filter (cuts_by frame slot step) cuts.now }
 {
@@ -19,8 +54,8 @@ pub fn cuts_so_far(cuts: &[CutLine], frame: u32, slot: u8, step: u8) -> &[CutLin
     &rest[..count]
 }
 
-/// The lose lines of that frame, slot and step, which stand together.
-pub fn losses_of_step(losses: &[LoseLine], frame: u32, slot: u8, step: u8) -> &[LoseLine]
+// The lose lines of that frame, slot and step.
+fn find_losses(losses: &[LoseLine], frame: u32, slot: u8, step: u8) -> &[LoseLine]
     requires { Ascends by_loss losses.now }
     ensures { result.now ≡ filter (is_of_step frame slot step) losses.now }
 {
@@ -45,5 +80,5 @@ pub fn is_cut_off(cuts: &[CutLine], frame: u32, slot: u8, step: u8, node: NodeId
     requires { Ascends by_cut cuts.now }
     ensures { result ≡ cut_off cuts.now frame slot step node }
 {
-    names(cuts_so_far(cuts, frame, slot, step), node)
+    names(find_cuts(cuts, frame, slot, step), node)
 }

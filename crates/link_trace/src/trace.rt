@@ -3,12 +3,14 @@ ghost use Rattle.std.specs.List.{list_any};
 ghost use Rattle.link_trace.specs.Passes.{is_link, is_loss, is_cut, is_capture};
 ghost use Rattle.link_trace.specs.Order.{Ascends, by_link, by_loss, by_cut, by_capture, with_link, with_loss, with_cut, with_capture};
 ghost use Rattle.link_trace.specs.Sealed.{unsealed, no_lines};
+ghost use Rattle.link_trace.specs.Starts.{AreNone};
 ghost use Rattle.link_trace.specs.Masks.{AreNodes, IsMask};
 
 use crate::captures::{add_capture, captured_sender};
 use crate::in_order::{add_in_order, has_link, has_loss};
 use crate::masks::{LinkMasks, cut_mask, link_masks, lost_from_mask, lost_mask};
 use crate::ranges::{cuts_so_far, is_cut_off, losses_of_step, names};
+use crate::starts::{Starts, starts_of};
 use crate::{CaptureLine, CutLine, LinkLine, LoseLine};
 use lwb_base::{Memory, NodeId};
 use std::alloc::Global;
@@ -24,6 +26,7 @@ pub struct Trace {
     captures: Vec<CaptureLine>,
     nodes: Vec<NodeId>,
     masks: Vec<LinkMasks>,
+    starts: Starts,
     alloc: Global,
 }
 
@@ -40,7 +43,7 @@ impl Model for Trace {
 
     ghost invariant = { λ t. AreKept
         (record { links = t.links.items; losses = t.losses.items; cuts = t.cuts.items; captures = t.captures.items })
-        t.nodes.items t.masks.items };
+        t.nodes.items t.masks.items t.starts };
 }
 
 impl Trace {
@@ -57,6 +60,7 @@ impl Trace {
             captures: Vec::new(alloc),
             nodes: Vec::new(alloc),
             masks: Vec::new(alloc),
+            starts: Starts::new(alloc),
             alloc,
         }
     }
@@ -75,7 +79,7 @@ impl Trace {
         let line = LinkLine { from, to };
         let is_new = add_in_order(&mut self.links, line)?;
         if is_new {
-            unseal(&mut self.nodes, &mut self.masks);
+            unseal(&mut self.nodes, &mut self.masks, &mut self.starts);
         }
         Ok(is_new)
     }
@@ -108,7 +112,7 @@ impl Trace {
         };
         let is_new = add_in_order(&mut self.losses, line)?;
         if is_new {
-            unseal(&mut self.nodes, &mut self.masks);
+            unseal(&mut self.nodes, &mut self.masks, &mut self.starts);
         }
         Ok(is_new)
     }
@@ -132,7 +136,7 @@ impl Trace {
         };
         let is_new = add_in_order(&mut self.cuts, line)?;
         if is_new {
-            unseal(&mut self.nodes, &mut self.masks);
+            unseal(&mut self.nodes, &mut self.masks, &mut self.starts);
         }
         Ok(is_new)
     }
@@ -165,7 +169,7 @@ impl Trace {
         };
         let is_new = add_capture(&mut self.captures, line)?;
         if is_new {
-            unseal(&mut self.nodes, &mut self.masks);
+            unseal(&mut self.nodes, &mut self.masks, &mut self.starts);
         }
         Ok(is_new)
     }
@@ -175,7 +179,7 @@ impl Trace {
     pub fn captured(&self, frame: u32, slot: u8, step: u8, at: NodeId) -> Option<NodeId>
         ensures { result ≡ captured_by self.now.lines frame slot step at }
     {
-        captured_sender(&self.captures, frame, slot, step, at)
+        captured_sender(&self.captures, &self.starts.captures, frame, slot, step, at)
     }
 
     /// Whether the pair is a link, no line loses it in that frame, slot and step, and neither of its nodes is cut off
@@ -190,22 +194,25 @@ impl Trace {
     }
 
     /// Seals the trace with these nodes, 1 to 64 ascending ids: it keeps, for each of them, which of them have a link
-    /// to it and to which it has one. The lines stay. After Memory the trace is as it was.
+    /// to it and to which it has one, and where the lines of each slot begin. The lines stay. After Memory the trace is
+    /// as it was.
     pub fn seal(&mut self, nodes: &[NodeId]) -> Result<(), Memory>
         requires { AreNodes nodes.now }
         ensures sealed { OnOk result (self.new ≡ record { lines = self.old.lines; nodes = nodes.now }) }
         ensures err { OnErr result (self.new ≡ self.old) }
     {
         let masks = link_masks(self.alloc, &self.links, nodes)?;
+        let starts = starts_of(self.alloc, &self.losses, &self.cuts, &self.captures)?;
         let kept = Vec::from_slice(self.alloc, nodes)?;
         self.nodes = kept;
         self.masks = masks;
+        self.starts = starts;
         Ok(())
     }
 
     /// The nodes from which a link to node `at` passes in that frame, slot and step: bit i is that of node i, and bits
     /// past the nodes are 0. Nodes are counted from 0, as the seal names them. The time that this takes grows with
-    /// the lines of the frame, and hardly with those of other frames.
+    /// the lines of the frame, and not with those of other frames below 4,096.
     pub fn from_mask(&self, frame: u32, slot: u8, step: u8, at: u8) -> u64
         requires { at < length self.now.nodes }
         ensures { IsMask (λ from. passes_by self.now.lines frame slot step from (slice_index self.now.nodes at))
@@ -216,11 +223,11 @@ impl Trace {
             return links.to_it;
         }
         let to = self.nodes[usize::from(at)];
-        let cuts = cuts_so_far(&self.cuts, frame, slot, step);
+        let cuts = cuts_so_far(&self.cuts, &self.starts.cuts, frame, slot, step);
         if names(cuts, to) {
             return 0;
         }
-        let losses = losses_of_step(&self.losses, frame, slot, step);
+        let losses = losses_of_step(&self.losses, &self.starts.losses, frame, slot, step);
         let lost = lost_mask(losses, &self.nodes, to);
         let cut = cut_mask(cuts, &self.nodes);
         links.to_it & !lost & !cut
@@ -238,11 +245,11 @@ impl Trace {
             return links.from_it;
         }
         let node = self.nodes[usize::from(from)];
-        let cuts = cuts_so_far(&self.cuts, frame, slot, step);
+        let cuts = cuts_so_far(&self.cuts, &self.starts.cuts, frame, slot, step);
         if names(cuts, node) {
             return 0;
         }
-        let losses = losses_of_step(&self.losses, frame, slot, step);
+        let losses = losses_of_step(&self.losses, &self.starts.losses, frame, slot, step);
         let lost = lost_from_mask(losses, &self.nodes, node);
         let cut = cut_mask(cuts, &self.nodes);
         links.from_it & !lost & !cut
@@ -281,14 +288,17 @@ impl Trace {
     }
 }
 
-// A trace with another line is no longer sealed: it has no nodes and no masks.
-fn unseal(nodes: &mut Vec<NodeId>, masks: &mut Vec<LinkMasks>)
+// A trace with another line is no longer sealed: it has no nodes, no masks and no starts.
+fn unseal(nodes: &mut Vec<NodeId>, masks: &mut Vec<LinkMasks>, starts: &mut Starts)
     ensures nodes { nodes.new.items ≡ [] }
     ensures masks { masks.new.items ≡ [] }
+    ensures starts { AreNone starts.new }
 {
     nodes.clear();
     masks.clear();
+    starts.clear();
 }
+
 // Whether there is neither a lose line nor a cut line, so that each link passes.
 fn are_none(losses: &[LoseLine], cuts: &[CutLine]) -> bool
     ensures losses { result ≡ true → losses.now ≡ [] }

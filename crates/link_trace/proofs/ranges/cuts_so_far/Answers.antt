@@ -1,22 +1,18 @@
-use Rattle.std.proofs.Common.{◌≡◌, ◌-◌, nat_lt, length, take, drop, arith, rules, length-drop}
-use Rattle.std.proofs.lemmas.List.{take_all}
-use Rattle.std.proofs.lemmas.List.Sorted.{IsPartitionPoint-from_clause}
-use Rattle.link_trace.specs.declared.lines.CutLine.{CutLine}
+use Rattle.std.proofs.Common.{◌≡◌, ◌∙◌, arith}
+use Rattle.link_trace.specs.Order.{by_cut}
 use Rattle.link_trace.specs.Passes.{cuts_by}
-use Rattle.link_trace.proofs.Together.{first_cuts, next_cuts, cuts_are}
+use Rattle.link_trace.proofs.SlotNumbers.{in_frame_to}
 use Rattle.link_trace.proofs.ranges.cuts_so_far.Goals as goal
+
+pub find_cuts-requires : goal.find_cuts-requires
+find_cuts-requires c = c.of_slots.ensures.ascends by_cut c.requires.ascends
 
 pub returns : goal.returns
 returns c =
     let f = c.args.frame in
     let j = c.args.slot in
     let k = c.args.step in
-    let cuts = c.args.cuts.now in
-    let m = c.partition_point-begin.result in
-    let n = c.partition_point-count.result in
-    let first = IsPartitionPoint-from_clause (λ (l : CutLine). nat_lt l.frame f) cuts m c.partition_point-begin.ensures.partitioned
-    (first_cuts f j k cuts c.requires) (λ a r g called. search rules) in
-    let rest : take (length cuts - m) (drop m cuts) ≡ drop m cuts = take_all (length cuts - m) (drop m cuts) (omega (arith, length-drop m cuts)) in
-    let next = IsPartitionPoint-from_clause (cuts_by f j k) (take (length cuts - m) (drop m cuts)) n
-    c.partition_point-count.ensures.partitioned (rw rest (next_cuts f j k cuts c.requires m first.1)) (λ a r g called. search rules) in
-    cuts_are f j k cuts c.requires m n c.partition_point-begin.ensures.bound (rw rest at c.partition_point-count.ensures.bound) first (rw rest at next)
+    let first = c.slot_number-first.ensures.value in
+    let last = c.slot_number-last.ensures.value in
+    c.find_cuts.ensures
+    ∙ c.of_slots.ensures.all (cuts_by f j k) (λ l is. let place = in_frame_to f j k l is in (omega (arith, place.0, first), omega (arith, place.1, last)))

@@ -67,7 +67,7 @@ returns c =
     let cuts_are : c.cuts_so_far-cuts.result.now ≡ filter (cuts_by f j k) t.cuts =
     c.cuts_so_far-cuts.ensures ∙ ap (λ (ls : List CutLine). filter (cuts_by f j k) ls) c.deref-3.ensures.value in
     let losses_are : c.losses_of_step-losses.result.now ≡ filter (is_of_step f j k) t.losses =
-    c.losses_of_step-losses.ensures ∙ ap (λ (ls : List LoseLine). filter (is_of_step f j k) ls) c.deref-4.ensures.value in
+    c.losses_of_step-losses.ensures ∙ ap (λ (ls : List LoseLine). filter (is_of_step f j k) ls) c.deref-5.ensures.value in
     let none = named t.cuts c.cuts_so_far-cuts.result.now f j k c.index-to.result.now v cuts_are to_is ∙ sym c.names.ensures ∙ c.if-names.false in
     let links = c.index-links.result.now in
     let links_is : links ≡ get_or kept.masks.items c.args.at links = c.index-links.ensures ∙ ap (λ (n : ℕ). get_or kept.masks.items n links) c.from.ensures in
@@ -75,11 +75,11 @@ returns c =
     subst (λ (m : LinkMasks). IsMask (λ from. list_any (is_link from v) t.links) nodes m.to_it) (sym links_is)
     (c.self.invariant.link_masks.to_each c.args.at links inside) in
     let lost : IsMask (λ from. list_any (λ l. (l.from == from) && (l.to == v)) (filter (is_of_step f j k) t.losses)) nodes c.lost_mask-lost.result =
-    lost_at nodes c.deref-5.result.now c.losses_of_step-losses.result.now (filter (is_of_step f j k) t.losses) c.index-to.result.now v
-    c.lost_mask-lost.result c.deref-5.ensures.value losses_are to_is c.lost_mask-lost.ensures in
+    lost_at nodes c.deref-7.result.now c.losses_of_step-losses.result.now (filter (is_of_step f j k) t.losses) c.index-to.result.now v
+    c.lost_mask-lost.result c.deref-7.ensures.value losses_are to_is c.lost_mask-lost.ensures in
     let cut : IsMask (λ node. list_any (λ l. l.node == node) (filter (cuts_by f j k) t.cuts)) nodes c.cut_mask-cut.result =
-    cut_at nodes c.deref-6.result.now c.cuts_so_far-cuts.result.now (filter (cuts_by f j k) t.cuts) c.cut_mask-cut.result
-    c.deref-6.ensures.value cuts_are c.cut_mask-cut.ensures in
+    cut_at nodes c.deref-8.result.now c.cuts_so_far-cuts.result.now (filter (cuts_by f j k) t.cuts) c.cut_mask-cut.result
+    c.deref-8.ensures.value cuts_are c.cut_mask-cut.ensures in
     rw (← c.self.view_is)
     (mask_of_passing t f j k v nodes c.self.invariant.few c.index-links.result.now.to_it c.lost_mask-lost.result c.cut_mask-cut.result c.lost_mask-lost.type_inv
     c.cut_mask-cut.type_inv none linked lost cut)

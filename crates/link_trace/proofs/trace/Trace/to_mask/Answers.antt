@@ -69,7 +69,7 @@ returns c =
     let cuts_are : c.cuts_so_far-cuts.result.now ≡ filter (cuts_by f j k) t.cuts =
     c.cuts_so_far-cuts.ensures ∙ ap (λ (ls : List CutLine). filter (cuts_by f j k) ls) c.deref-3.ensures.value in
     let losses_are : c.losses_of_step-losses.result.now ≡ filter (is_of_step f j k) t.losses =
-    c.losses_of_step-losses.ensures ∙ ap (λ (ls : List LoseLine). filter (is_of_step f j k) ls) c.deref-4.ensures.value in
+    c.losses_of_step-losses.ensures ∙ ap (λ (ls : List LoseLine). filter (is_of_step f j k) ls) c.deref-5.ensures.value in
     let none = named t.cuts c.cuts_so_far-cuts.result.now f j k c.index-node.result.now v cuts_are node_is ∙ sym c.names.ensures ∙ c.if-names.false in
     let links = c.index-links.result.now in
     let links_is : links ≡ get_or kept.masks.items c.args.from links = c.index-links.ensures ∙ ap (λ (n : ℕ). get_or kept.masks.items n links) c.from.ensures in
@@ -77,11 +77,11 @@ returns c =
     subst (λ (m : LinkMasks). IsMask (λ to. list_any (is_link v to) t.links) nodes m.from_it) (sym links_is)
     (c.self.invariant.link_masks.from_each c.args.from links inside) in
     let lost : IsMask (λ to. list_any (λ l. (l.from == v) && (l.to == to)) (filter (is_of_step f j k) t.losses)) nodes c.lost_from_mask-lost.result =
-    lost_from_at nodes c.deref-5.result.now c.losses_of_step-losses.result.now (filter (is_of_step f j k) t.losses) c.index-node.result.now v
-    c.lost_from_mask-lost.result c.deref-5.ensures.value losses_are node_is c.lost_from_mask-lost.ensures in
+    lost_from_at nodes c.deref-7.result.now c.losses_of_step-losses.result.now (filter (is_of_step f j k) t.losses) c.index-node.result.now v
+    c.lost_from_mask-lost.result c.deref-7.ensures.value losses_are node_is c.lost_from_mask-lost.ensures in
     let cut : IsMask (λ node. list_any (λ l. l.node == node) (filter (cuts_by f j k) t.cuts)) nodes c.cut_mask-cut.result =
-    cut_at nodes c.deref-6.result.now c.cuts_so_far-cuts.result.now (filter (cuts_by f j k) t.cuts) c.cut_mask-cut.result
-    c.deref-6.ensures.value cuts_are c.cut_mask-cut.ensures in
+    cut_at nodes c.deref-8.result.now c.cuts_so_far-cuts.result.now (filter (cuts_by f j k) t.cuts) c.cut_mask-cut.result
+    c.deref-8.ensures.value cuts_are c.cut_mask-cut.ensures in
     rw (← c.self.view_is)
     (mask_of_reaching t f j k v nodes c.self.invariant.few c.index-links.result.now.from_it c.lost_from_mask-lost.result c.cut_mask-cut.result
     c.lost_from_mask-lost.type_inv c.cut_mask-cut.type_inv none linked lost cut)
