@@ -1,0 +1,5 @@
+-- for this crate alone
+mod SoleVoices
+mod SaidByParts
+mod DeliveredData
+mod WorkedReach
