@@ -47,7 +47,8 @@ module _ (s : ScenarioParts) (x : Slot) (f j : ℕ) (limit_is : x.flood.limit �
     pub accepts : (k v : ℕ) → IsWithin s x u (suc k) v → Accepts x.flood v u k
     accepts k v within =
         let enough : 1 ≤ x.flood.limit = omega (arith, limit_is, some) in
-        (accepts_at_distance x.flood u (is_linked s) initiates takes enough steady k v within.there (is_another s x u k v within)).1 (within.distance, within.few)
+        let other = is_another s x u k v within in
+        (accepts_at_distance x.flood u (is_linked s) initiates takes enough steady k v within.there other).1 (within.distance, within.few)
 
     pub accepts_said : (k v : ℕ) → IsWithin s x u (suc k) v → accepted_at x v ≡ Some m
     accepts_said k v within =

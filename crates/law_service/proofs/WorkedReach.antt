@@ -39,7 +39,7 @@ abbrev turned_on : ℕ → ScriptLine
 turned_on v = at 0 v On
 
 -- nodes in a line, of which one hosts and one has a packet
-abbrev line : List ℕ → ℕ → ℕ → List LoseLine → ScenarioParts
+abbrev pub line : List ℕ → ℕ → ℕ → List LoseLine → ScenarioParts
 line nodes host source lost = record {
   profile = one;
   frames = 12;
@@ -51,7 +51,7 @@ line nodes host source lost = record {
   script = map turned_on nodes ++ at 0 source (Declare 0 4) ∷ at 0 source (Put 0 (0xaa ∷ [])) ∷ [];
 }
 
-abbrev three : List LoseLine → ScenarioParts
+abbrev pub three : List LoseLine → ScenarioParts
 three lost = line (1 ∷ 2 ∷ 3 ∷ []) 1 3 lost
 
 abbrev fourteen : ScenarioParts

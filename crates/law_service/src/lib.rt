@@ -5,5 +5,7 @@
 #![tactic(auto)]
 
 mod data_laws;
+mod schedule_laws;
 
 pub use data_laws::data_is_delivered_within_reach;
+pub use schedule_laws::schedules_are_accepted_within_reach;
