@@ -1,0 +1,249 @@
+-- In a slot of schedules without losses who listens within reach of the host accepts, and goes by what it accepted.
+use Rattle.std.proofs.Common.{◌≡◌, ◌<◌, ◌+◌, ◌==◌, ℕ, suc, List, Bool, true, false, Option, Some, None, if◌then◌else◌, nat_le, ◌||◌, ◌&&◌}
+use Rattle.std.proofs.Common.{is_some, refl, sym, ◌∙◌, ap, subst, arith, sum_by, AllPairs, add-one}
+use Rattle.std.proofs.lemmas.Bool.{false≢true, and_parts, cond_both, cond-true, cond-false, ne_eqb}
+use Rattle.lwb_base.specs.Profile.{Numbers}
+use Rattle.lwb_base.specs.Messages.{Ask, Plan, Schedule}
+use Rattle.scenario_text.specs.ScenarioParts.{ScenarioParts}
+use Rattle.scenario_text.specs.ScenarioFacts.{IsSoundScenario}
+use Rattle.scenario_text.proofs.SoundScenarios.{sound}
+use Rattle.bus_rules.specs.declared.part.Part.{Part}
+use Rattle.bus_rules.specs.declared.part.Part.TheVariants.{Opening, Closing}
+use Rattle.bus_rules.specs.declared.tune.Tune.{Tune}
+use Rattle.bus_rules.specs.declared.tune.Tune.TheVariants.{Scan, Hold, Host}
+use Rattle.bus_rules.specs.Cores.{Core, is_member, is_fresh, schedule_accepted, opening_accepted, closing_accepted}
+use Rattle.bus_rules.specs.Granting.{Grants, grants_for, gap_of, owed_to, total, plan_round}
+use Rattle.bus_rules.specs.HostPlans.{host_plan, HostPlan}
+use Rattle.bus_rules.specs.Plans.{last_slot, opening}
+use Rattle.bus_rules.specs.Slots.{Message, ScheduleOf, Opened, opened, part_of, hosts_now, host_closes, silent, is_schedule_part}
+use Rattle.bus_rules.specs.States.{State, StateOff, StateOn}
+use Rattle.bus_rules.specs.Streams.{Streams}
+use Rattle.bus_rules.specs.Tables.{Table, Entry}
+use Rattle.bus_rules.specs.Tuning.{hosts_in, holds_in, scans, rank_of}
+use Rattle.bus_model.specs.Bus.{state_at}
+use Rattle.bus_model.specs.FloodOfText.{ids}
+use Rattle.bus_model.specs.Flooding.{Accepts}
+use Rattle.bus_model.specs.Rounds.{Slot, opened_at, said_in, accepted_at, closed_by, left_by, before_slot, takes_part}
+use Rattle.bus_model.specs.ScriptedStates.{is_on, setup_in}
+use Rattle.bus_model.proofs.ReceivedByPaths.{in_filtered, of_filtered}
+use Rattle.bus_model.proofs.ReceivedInRounds.{ids_rise}
+use Rattle.law_service.specs.Reach.{TakesPart, LosesNothing, IsWithin}
+use Rattle.law_service.specs.ScheduleService.{IsHosted, slot_in, node_after, OpeningsAreAccepted, ClosingsAreAccepted}
+use Rattle.law_service.proofs.HostsOfRanks.{due_rank}
+use Rattle.law_service.proofs.HostedRounds.{Hosting, leads, sole_host, said_message, now_due, host_member, left_windowed, initiator_accepts_none, closing_last}
+use Rattle.law_service.proofs.SaidByParts.{windowed}
+use Rattle.law_service.proofs.SoleVoices.{accepts, accepts_said}
+
+-- the state of a node that takes part and accepts a schedule
+heard_schedule : (s : ScenarioParts) (rank f : ℕ) (part : Part) (v : ℕ) (x : State) (y : Schedule) → is_schedule_part part ≡ true
+    → takes_part rank part x (opened_at s rank f part v x) ≡ true
+    → (d : Core) × (left_by x (closed_by s f part v (opened_at s rank f part v x) (Some (ScheduleOf y)) x) ≡ StateOn (schedule_accepted v f y d))
+heard_schedule s rank f part v (StateOff boots) y schedule takes = absurd (false≢true (and_parts (is_schedule_part part) _ takes).1)
+heard_schedule s rank f part v (StateOn c) y schedule takes = by_member (is_member rank f c)
+  where
+    by_member : (b : Bool) → (d : Core) × (left_by (StateOn c)
+        (closed_by s f part v (if b then Some (opened (setup_in s v) f part c) else None) (Some (ScheduleOf y)) (StateOn c))
+        ≡ StateOn (schedule_accepted v f y d))
+    by_member true = ((opened (setup_in s v) f part c).core, refl)
+    by_member false = (c, refl)
+
+-- the next round comes later
+gap_from : (seconds f : ℕ) (es : List Entry) → 0 < gap_of seconds f es
+gap_from seconds f es =
+    cond_both (nat_le (total seconds (f + 4) es) 40) 4 _ (λ (g : ℕ). 0 < g) (λ _. omega arith)
+    (λ _. cond_both (nat_le (total seconds (f + 3) es) 40) 3 _ (λ (g : ℕ). 0 < g) (λ _. omega arith)
+    (λ _. cond_both (nat_le (total seconds (f + 2) es) 40) 2 1 (λ (g : ℕ). 0 < g) (λ _. omega arith) (λ _. omega arith)))
+
+grants_gap : (owes : Entry → ℕ) (gap : ℕ) (t : Table) → (grants_for owes gap t).gap ≡ gap
+grants_gap owes gap t = cond_both (nat_le (sum_by owes t.entries) 40) _ _ (λ (g : Grants). g.gap ≡ gap) (λ _. refl) (λ _. refl)
+
+round_gap : (seconds f : ℕ) (t : Table) → 0 < (plan_round seconds f t).gap
+unfolding plan_round
+round_gap seconds f t =
+    let gap = gap_of seconds f t.entries in
+    subst (λ (g : ℕ). 0 < g) (sym (grants_gap (owed_to seconds (f + gap)) gap t)) (gap_from seconds f t.entries)
+
+plan_gap : (n : Numbers) (node boot rank f : ℕ) (kept : List Ask) (t : Table) (x : Streams) → 0 < (host_plan n node boot rank f kept t x).gap
+unfolding host_plan
+plan_gap n node boot rank f kept t x = round_gap n.seconds f _
+
+plan_rank : (n : Numbers) (node boot rank f : ℕ) (kept : List Ask) (t : Table) (x : Streams) → (host_plan n node boot rank f kept t x).plan.rank ≡ rank
+unfolding host_plan
+plan_rank n node boot rank f kept t x = refl
+
+module _ (s : ScenarioParts) (scenario : IsSoundScenario s) (rank f : ℕ) (p : Plan) (host : ℕ) (hosted : IsHosted s rank f p host) where
+  abbrev before : ℕ → ℕ → State
+  before j = before_slot s rank f p (state_at s f) j
+
+  rise : AllPairs (λ a b. a < b) (ids s.nodes)
+  rise = ids_rise s.nodes scenario.ascending
+
+  -- slot j is one of schedules, in which a host with its round due says this
+  module _ (j : ℕ) (part : Part) (at : part_of p j ≡ part) (is : Hosting rank f p (before j host)) (y : Schedule)
+      (says : (opened (setup_in s host) f part is.core).message ≡ Some (ScheduleOf y))
+      (only_hosts : (v : ℕ) (c : Core) (m : Message) → (opened (setup_in s v) f part c).message ≡ Some m → hosts_now f c ≡ true)
+      (only_members : (c : Core) → is_member rank f c ≡ true → hosts_now f c ≡ true → hosts_in rank f c.tune ≡ true) where
+    abbrev x : Slot
+    x = slot_in s rank f p j
+
+    window_is : (v : ℕ) → x.window v ≡ opened_at s rank f part v (before j v)
+    window_is v = ap (λ (q : Part). opened_at s rank f q v (before j v)) at
+
+    host_window : x.window host ≡ Some (opened (setup_in s host) f part is.core)
+    host_window = window_is host ∙ ap (λ (z : State). opened_at s rank f part host z) is.on
+        ∙ windowed s rank f part host is.core (host_member rank f is.core is.due)
+
+    pub message : said_in (x.window host) ≡ Some (ScheduleOf y)
+    message = ap said_in host_window ∙ says
+
+    takes : TakesPart x host
+    takes = in_filtered (λ v. takes_part rank x.part (before j v) (x.window v)) (ids s.nodes) host hosted.known
+        (ap (λ (w : Option Opened). takes_part rank x.part (before j host) w) host_window)
+
+    alone : (v : ℕ) → is_some (said_in (x.window v)) ≡ true → v ≡ host
+    alone v some = by_message (said_in (x.window v)) refl some
+      where
+        by_message : (m : Option Message) → said_in (x.window v) ≡ m → is_some m ≡ true → v ≡ host
+        by_message None said some = absurd (false≢true some)
+        by_message (Some m) said some =
+            let c = said_message s rank f part v (before j v) m (ap said_in (sym (window_is v)) ∙ said) in
+            let due = only_members c.0 c.2 (only_hosts v c.0 m c.3) in
+            sole_host s rank f p host hosted j v (ap (λ (z : State). is_on (λ c. hosts_in rank f c.tune) z) c.1 ∙ due)
+
+    pub host_accepts_none : accepted_at x host ≡ None
+    host_accepts_none = initiator_accepts_none x host
+        (in_filtered (λ v. is_some (said_in (x.window v))) (ids s.nodes) host hosted.known (ap (λ (o : Option Message). is_some o) message))
+
+    module _ (lossless : LosesNothing s x) (k v : ℕ) (within : IsWithin s x host (suc k) v) where
+      pub accepts_here : Accepts x.flood v host k
+      accepts_here = accepts s x f j refl (λ k u v. refl) refl scenario.some_sends rise lossless host (ScheduleOf y) hosted.known takes message alone k v within
+
+      heard : accepted_at x v ≡ Some (ScheduleOf y)
+      heard = accepts_said s x f j refl (λ k u v. refl) refl scenario.some_sends rise lossless host (ScheduleOf y) hosted.known takes message alone k v within
+
+      pub goes_by : is_schedule_part part ≡ true → (d : Core) × (before_slot s rank f p (state_at s f) (suc j) v ≡ StateOn (schedule_accepted v f y d))
+      unfolding before_slot
+      goes_by schedule =
+          let there = of_filtered (λ v. takes_part rank x.part (before j v) (x.window v)) (ids s.nodes) v within.there in
+          let takes_here : takes_part rank part (before j v) (opened_at s rank f part v (before j v)) ≡ true =
+          ap (λ (q : Part). takes_part rank q (before j v) (opened_at s rank f q v (before j v))) (sym at) ∙ there in
+          let told = heard_schedule s rank f part v (before j v) y schedule takes_here in (
+            told.0,
+            ap (λ (h : Option Message). left_by (before j v) (closed_by s f (part_of p j) v (x.window v) h (before j v))) heard
+                ∙ ap (λ (q : Part). left_by (before j v) (closed_by s f q v (opened_at s rank f q v (before j v)) (Some (ScheduleOf y)) (before j v))) at
+                ∙ told.1,
+          )
+
+-- in the first slot and the last one who says something hosts its own round
+opening_hosts : (s : ScenarioParts) (f v : ℕ) (c : Core) (m : Message) → (opened (setup_in s v) f Opening c).message ≡ Some m → hosts_now f c ≡ true
+opening_hosts s f v c m said = by_test (hosts_now f c) refl said
+  where
+    by_test : (b : Bool) → hosts_now f c ≡ b → (if b then Some (ScheduleOf (opening c.plan)) else None) ≡ Some m → hosts_now f c ≡ true
+    by_test true at said = at
+    by_test false at said = absurd (cc)
+
+closing_hosts : (s : ScenarioParts) (f v : ℕ) (c : Core) (m : Message) → (opened (setup_in s v) f Closing c).message ≡ Some m → hosts_now f c ≡ true
+closing_hosts s f v c m said = by_test (hosts_now f c) refl said
+  where
+    by_test : (b : Bool) → hosts_now f c ≡ b → (if b then host_closes (setup_in s v) f c else silent c).message ≡ Some m → hosts_now f c ≡ true
+    by_test true at said = at
+    by_test false at said = absurd (cc)
+
+or_none : (a : Bool) → (a || false) ≡ true → a ≡ true
+or_none true is = refl
+or_none false is = is
+
+-- a member that hosts its own round hosts this one
+member_hosts : (rank f : ℕ) (c : Core) → is_member rank f c ≡ true → hosts_now f c ≡ true → hosts_in rank f c.tune ≡ true
+member_hosts rank f c member now = by_tune c.tune member now
+  where
+    by_tune : (t : Tune) → (hosts_in rank f t || holds_in rank f t || (scans rank t && is_fresh c)) ≡ true → hosts_in (rank_of t) f t ≡ true
+        → hosts_in rank f t ≡ true
+    by_tune (Host r due) member now = or_none (hosts_in rank f (Host r due)) (or_none (hosts_in rank f (Host r due) || false) member)
+    by_tune (Hold r due) member now = absurd (false≢true now)
+    by_tune (Scan r w) member now = absurd (false≢true now)
+
+pub openings : OpeningsAreAccepted
+unfolding before_slot
+openings s accepted rank f p host hosted lossless k v within =
+    let scenario = sound s accepted in
+    let is = leads s rank f p host hosted 0 (omega arith) in
+    let says : (opened (setup_in s host) f Opening is.core).message ≡ Some (ScheduleOf (opening is.core.plan)) =
+    cond-true (hosts_now f is.core) _ None (now_due rank f is.core.tune is.due) in
+    let told = goes_by s scenario rank f p host hosted 0 Opening refl is (opening is.core.plan) says (opening_hosts s f) (member_hosts rank f)
+    lossless k v within refl in
+    record {
+      accepts = accepts_here s scenario rank f p host hosted 0 Opening refl is (opening is.core.plan) says (opening_hosts s f) (member_hosts rank f)
+          lossless k v within;
+      core = schedule_accepted v f (opening is.core.plan) told.0;
+      on = told.1;
+      plan = is.plan;
+      fresh = refl;
+    }
+
+pub closings : ClosingsAreAccepted
+unfolding before_slot
+closings s accepted rank f p host hosted lossless k v within = record {
+  accepts = accepts_here s scenario rank f p host hosted j Closing at is y says (closing_hosts s f) (member_hosts rank f) lossless k v within;
+  hosting = planned.core;
+  host_on = after host ∙ host_after;
+  holding = closing_accepted v f y told.0;
+  on = after v ∙ told.1 ∙ ap (λ (c : Core). StateOn c) (cond-false (y.gap == 0) (opening_accepted v f y told.0) (closing_accepted v f y told.0) some);
+  due = f + plan.gap;
+  later = (let more = gap_some in omega (arith, more));
+  hosts = ap (λ (r : ℕ). Host r (f + plan.gap)) own_rank_is;
+  holds = ap (λ (r : ℕ). Hold r (f + plan.gap))
+      (plan_rank s.profile host is.core.boot (rank_of is.core.tune) f is.core.kept is.core.table is.core.streams ∙ own_rank_is);
+  plan = refl;
+}
+  where
+    scenario : IsSoundScenario s
+    scenario = sound s accepted
+
+    j : ℕ
+    j = last_slot p
+
+    after : (v : ℕ) → node_after s rank f p v ≡ before_slot s rank f p (state_at s f) (suc j) v
+    after v = ap (λ (i : ℕ). before_slot s rank f p (state_at s f) i v) (add-one (last_slot p))
+
+    at : part_of p j ≡ Closing
+    at = closing_last p
+
+    is : Hosting rank f p (before_slot s rank f p (state_at s f) j host)
+    is = leads s rank f p host hosted j (omega arith)
+
+    own_rank_is : rank_of is.core.tune ≡ rank
+    own_rank_is = due_rank rank f is.core.tune is.due
+
+    plan : HostPlan
+    plan = host_plan s.profile host is.core.boot (rank_of is.core.tune) f is.core.kept is.core.table is.core.streams
+
+    y : Schedule
+    y = record { plan = plan.plan; gap = plan.gap }
+
+    planned : Opened
+    planned = host_closes (setup_in s host) f is.core
+
+    opens : opened (setup_in s host) f Closing is.core ≡ planned
+    opens = cond-true (hosts_now f is.core) planned (silent is.core) (now_due rank f is.core.tune is.due)
+
+    says : (opened (setup_in s host) f Closing is.core).message ≡ Some (ScheduleOf y)
+    says = ap (λ (o : Opened). o.message) opens
+
+    gap_some : 0 < plan.gap
+    gap_some = plan_gap s.profile host is.core.boot (rank_of is.core.tune) f is.core.kept is.core.table is.core.streams
+
+    some : (y.gap == 0) ≡ false
+    some = ne_eqb plan.gap 0 (λ none. (let more = gap_some in absurd (omega (arith, more, none))))
+
+    told : (d : Core) × (before_slot s rank f p (state_at s f) (suc j) v ≡ StateOn (schedule_accepted v f y d))
+    told = goes_by s scenario rank f p host hosted j Closing at is y says (closing_hosts s f) (member_hosts rank f) lossless k v within refl
+
+    host_after : before_slot s rank f p (state_at s f) (suc j) host ≡ StateOn planned.core
+    host_after =
+        let before = before_slot s rank f p (state_at s f) j host in
+        let none = host_accepts_none s scenario rank f p host hosted j Closing at is y says (closing_hosts s f) (member_hosts rank f) in
+        ap (λ (h : Option Message). left_by before (closed_by s f (part_of p j) host (opened_at s rank f (part_of p j) host before) h before)) none
+        ∙ ap (λ (q : Part). left_by before (closed_by s f q host (opened_at s rank f q host before) None before)) at
+        ∙ left_windowed s rank f Closing host before is.core None is.on (host_member rank f is.core is.due)
+        ∙ ap (λ (o : Opened). StateOn o.core) opens

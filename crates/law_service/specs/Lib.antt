@@ -1,0 +1,3 @@
+pub mod Reach
+pub mod DataService
+pub mod ScheduleService

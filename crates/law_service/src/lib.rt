@@ -1,0 +1,11 @@
+//! What may be relied on where nothing is lost: laws on the bus as it is defined, so of every run. They say who receives
+//! schedules, data and requests in a slot in which every link passes, and which contenders meet again.
+//!
+//! Each law is the contract of a function that does nothing.
+#![tactic(auto)]
+
+mod data_laws;
+mod schedule_laws;
+
+pub use data_laws::data_is_delivered_within_reach;
+pub use schedule_laws::schedules_are_accepted_within_reach;
