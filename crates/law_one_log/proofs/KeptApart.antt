@@ -1,0 +1,69 @@
+-- Elements with a number each, of which no two have the same one: in another order, and put together from parts.
+use Rattle.std.proofs.Common.{◌≡◌, ◌≢◌, ℕ, inl, inr, List, [], ◌∷◌, Bool, true, false, ◌==◌, filter, Contains, AllPairs, get_or, refl, sym, ◌∙◌, subst, arith}
+use Rattle.std.specs.Prelude.{IsPermutation}
+use Rattle.std.proofs.lemmas.Bool.{cond_both, cond-true, eq-eqb, eqb-true, eqb-false, ne_eqb}
+use Rattle.std.proofs.lemmas.List.Elements.{Contains-get_or}
+use Rattle.std.proofs.lemmas.Map.Keys.{IsDistinct-IsPermutation, IsDistinct-from_apart, apart_from_distinct}
+use Rattle.radio_model.proofs.Members.{not_in_none, in_head, in_tail, in_either, pairs_cons, pairs_tail, pairs_head}
+
+turned : (a b : ℕ) → (a == b) ≡ (b == a)
+turned a b = by_test (a == b) refl
+  where
+    by_test : (c : Bool) → (a == b) ≡ c → (a == b) ≡ (b == a)
+    by_test true is = is ∙ sym (eq-eqb b a (sym (eqb-true a b is)))
+    by_test false is = is ∙ sym (ne_eqb b a (λ same. eqb-false a b is (sym same)))
+
+module _ {X : Type 0} (key : X → ℕ) where
+  abbrev together : X → X → Bool
+  together x y = key x == key y
+
+  abbrev pub Apart : X → X → Type 0
+  Apart x y = key x ≢ key y
+
+  pub in_other_order : (xs ys : List X) → IsPermutation xs ys → AllPairs Apart xs → AllPairs Apart ys
+  in_other_order xs ys moved all i j d less within =
+      let before = IsDistinct-from_apart together xs (λ i j d less within. ne_eqb (key (get_or xs i d)) (key (get_or xs j d)) (all i j d less within)) in
+      let after = IsDistinct-IsPermutation together (λ x y. turned (key x) (key y)) xs ys moved before in
+      eqb-false (key (get_or ys i d)) (key (get_or ys j d)) (apart_from_distinct together ys i j d after less within)
+
+-- what holds of any two of a list, by what is known of its elements
+pub weaker_pairs : {X : Type 0} (R Q : X → X → Type 0) (xs : List X) → AllPairs R xs
+    → ((x y : X) → Contains xs x → Contains xs y → R x y → Q x y) → AllPairs Q xs
+weaker_pairs R Q xs all gives i j d less within =
+    gives (get_or xs i d) (get_or xs j d) (Contains-get_or xs i d (omega (arith, less, within))) (Contains-get_or xs j d within) (all i j d less within)
+
+-- elements of nodes, of which any two of one node stand so
+module _ {X : Type 0} (node : X → ℕ) (R : X → X → Type 0) where
+  abbrev of_node : ℕ → X → Bool
+  of_node v x = node x == v
+
+  abbrev pub AtNode : X → X → Type 0
+  AtNode x y = node x ≡ node y → R x y
+
+  rest_of : (v : ℕ) (x : X) (xs : List X) → AllPairs R (filter (of_node v) (x ∷ xs)) → AllPairs R (filter (of_node v) xs)
+  rest_of v x xs =
+      cond_both (of_node v x) (x ∷ filter (of_node v) xs) (filter (of_node v) xs)
+      (λ (ys : List X). AllPairs R ys → AllPairs R (filter (of_node v) xs))
+      (λ own. pairs_tail R x (filter (of_node v) xs))
+      (λ other all. all)
+
+  in_part : (v : ℕ) (xs : List X) (y : X) → Contains xs y → node y ≡ v → Contains (filter (of_node v) xs) y
+  in_part v [] y there is = absurd (not_in_none y there)
+  in_part v (x ∷ xs) y there is =
+      elim (in_either xs x y there) [
+        | inl same ↦ subst (λ (l : List X). Contains l y) (sym (cond-true (of_node v x) (x ∷ filter (of_node v) xs) (filter (of_node v) xs)
+            (subst (λ (z : X). of_node v z ≡ true) (sym same) (eq-eqb (node y) v is))))
+            (subst (Contains (x ∷ filter (of_node v) xs)) same (in_head (filter (of_node v) xs) x))
+        | inr rest ↦ cond_both (of_node v x) (x ∷ filter (of_node v) xs) (filter (of_node v) xs) (λ (l : List X). Contains l y)
+            (λ at. in_tail (filter (of_node v) xs) x y (in_part v xs y rest is)) (λ not. in_part v xs y rest is)
+      ]
+
+  pub of_all_nodes : (xs : List X) → ((v : ℕ) → AllPairs R (filter (λ x. node x == v) xs)) → AllPairs AtNode xs
+  of_all_nodes [] each = λ i j d less within. absurd (omega (arith, within))
+  of_all_nodes (x ∷ xs) each =
+      let v = node x in
+      let kept : filter (of_node v) (x ∷ xs) ≡ x ∷ filter (of_node v) xs = cond-true (of_node v x) _ _ (eq-eqb v v refl) in
+      let own = subst (AllPairs R) kept (each v) in
+      pairs_cons AtNode x xs
+      (λ y there same. pairs_head R x (filter (of_node v) xs) own y (in_part v xs y there (sym same)))
+      (of_all_nodes xs (λ u. rest_of u x xs (each u)))

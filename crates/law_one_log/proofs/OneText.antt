@@ -1,0 +1,127 @@
+-- Entries of which no two have the same start, kind and node stand in one order in the log text.
+use Rattle.std.proofs.Common.{◌≡◌, ℕ, ◌<◌, Bool, true, inl, inr, List, [], ◌∷◌, filter, flat_map, Contains, AllPairs}
+use Rattle.std.proofs.Common.{Ordering, Less, Equal, refl, sym, ◌∙◌, ap, arith, true≢false}
+use Rattle.std.specs.Prelude.{IsPermutation}
+use Rattle.std.specs.Cmp.{IsTotalOrder, IsStrictWeakOrder, nat_cmp_is, nat_cmp_total, on_total, then_total}
+use Rattle.std.specs.List.Sorted.{ties}
+use Rattle.std.specs.Ordering.{nat_cmp, ordering_then, is_lt}
+use Rattle.std.proofs.lemmas.Bool.{cases_order}
+use Rattle.std.proofs.lemmas.List.Kept.{AllPairs-filter}
+use Rattle.std.proofs.lemmas.List.Sorted.{ranks_by, Contains-permutation, IsPermutation-sym}
+use Rattle.radio_model.proofs.Members.{not_in_none, in_head, in_either}
+use Rattle.air_log.specs.declared.entry.Entry.{Entry}
+use Rattle.air_log.specs.Entries.{node_of}
+use Rattle.air_log.specs.LogText.{start_of, kind_of, is_before, entry_line}
+use Rattle.air_log.proofs.DeliveryOrder.{neither}
+use Rattle.air_log.proofs.Elements.{in_filtered, filtered}
+use Rattle.air_log.proofs.StableSorts.{same_in_order}
+use Rattle.law_one_log.specs.OneLog.{SamePlace, EntriesApartLaw, OneTextLaw}
+use Rattle.law_one_log.proofs.EntriesApart.{EntriesApart, HearingsApart, all_apart, apart_placed}
+use Rattle.law_one_log.proofs.HeardApart.{hearings_apart}
+use Rattle.law_one_log.proofs.KeptApart.{weaker_pairs}
+use Rattle.law_one_log.proofs.OfTrails.{sent_differ, tuned_differ}
+use Rattle.law_one_log.proofs.OneLog.{one_log}
+
+pub entries_apart : EntriesApartLaw
+entries_apart s clocks air run =
+    weaker_pairs (EntriesApart HearingsApart) (λ d e. SamePlace d e → ⊥) air
+    (all_apart HearingsApart air (sent_differ s clocks air run.sound run.lawful) (hearings_apart s clocks air run)
+    (tuned_differ s clocks air run.sound run.lawful))
+    (λ d e there also apart. apart_placed d e apart)
+
+-- what the order goes by
+abbrev place_of : Entry → ℕ × ℕ × ℕ
+place_of e = (start_of e, kind_of e, node_of e)
+
+abbrev by_place : ℕ × ℕ × ℕ → ℕ × ℕ × ℕ → Ordering
+by_place a b = ordering_then (ordering_then (nat_cmp a.0 b.0) (nat_cmp a.1 b.1)) (nat_cmp a.2 b.2)
+
+is_total : IsTotalOrder by_place
+is_total = then_total (then_total (on_total (λ (t : ℕ × ℕ × ℕ). t.0) nat_cmp_total) (on_total (λ (t : ℕ × ℕ × ℕ). t.1) nat_cmp_total))
+    (on_total (λ (t : ℕ × ℕ × ℕ). t.2) nat_cmp_total)
+
+is_order : IsStrictWeakOrder is_before
+is_order = ranks_by is_total place_of
+
+less_is : (x y : ℕ) → x < y → nat_cmp x y ≡ Less
+less_is x y less = sym (nat_cmp_is x y Less less)
+
+same_is : (x y : ℕ) → x ≡ y → nat_cmp x y ≡ Equal
+same_is x y same = sym (nat_cmp_is x y Equal same)
+
+module _ (d e : Entry) where
+  abbrev then_so : Ordering → Ordering → Ordering → Bool
+  then_so a b c = is_lt (ordering_then (ordering_then a b) c)
+
+  abbrev Before : Type 0
+  Before = is_before d e ≡ true
+
+  by_start : start_of d < start_of e → Before
+  by_start less = ap (λ (c : Ordering). then_so c (nat_cmp (kind_of d) (kind_of e)) (nat_cmp (node_of d) (node_of e))) (less_is (start_of d) (start_of e) less)
+
+  by_kind : start_of d ≡ start_of e → kind_of d < kind_of e → Before
+  by_kind start less =
+      ap (λ (c : Ordering). then_so c (nat_cmp (kind_of d) (kind_of e)) (nat_cmp (node_of d) (node_of e))) (same_is (start_of d) (start_of e) start)
+      ∙ ap (λ (c : Ordering). then_so Equal c (nat_cmp (node_of d) (node_of e))) (less_is (kind_of d) (kind_of e) less)
+
+  by_node : start_of d ≡ start_of e → kind_of d ≡ kind_of e → node_of d < node_of e → Before
+  by_node start kind less =
+      ap (λ (c : Ordering). then_so c (nat_cmp (kind_of d) (kind_of e)) (nat_cmp (node_of d) (node_of e))) (same_is (start_of d) (start_of e) start)
+      ∙ ap (λ (c : Ordering). then_so Equal c (nat_cmp (node_of d) (node_of e))) (same_is (kind_of d) (kind_of e) kind)
+      ∙ ap (λ (c : Ordering). then_so Equal Equal c) (less_is (node_of d) (node_of e) less)
+
+-- two numbers, neither below the other
+one_number : (x y : ℕ) → (x < y → ⊥) → (y < x → ⊥) → x ≡ y
+one_number x y up down = elim (cases_order x y) [ inl same ↦ same | inr (inl less) ↦ absurd (up less) | inr (inr more) ↦ absurd (down more) ]
+
+tied_place : (d e : Entry) → ties is_before d e ≡ true → SamePlace d e
+tied_place d e tied =
+    let so = neither (is_before d e) (is_before e d) tied in
+    let up : is_before d e ≡ true → ⊥ = λ is. true≢false (sym is ∙ so.0) in
+    let down : is_before e d ≡ true → ⊥ = λ is. true≢false (sym is ∙ so.1) in
+    let start = one_number (start_of d) (start_of e) (λ less. up (by_start d e less)) (λ less. down (by_start e d less)) in
+    let kind = one_number (kind_of d) (kind_of e) (λ less. up (by_kind d e start less)) (λ less. down (by_kind e d (sym start) less)) in
+    let node = one_number (node_of d) (node_of e) (λ less. up (by_node d e start kind less)) (λ less. down (by_node e d (sym start) (sym kind) less)) in
+    record { start = start; kind = kind; node = node }
+
+abbrev PlacesApart : Entry → Entry → Type 0
+PlacesApart d e = SamePlace d e → ⊥
+
+abbrev Never : Entry → Entry → Type 0
+Never d e = ⊥
+
+-- lists of at most one element
+alone : (xs ys : List Entry) → AllPairs Never xs → AllPairs Never ys → ((e : Entry) → Contains xs e → Contains ys e)
+    → ((e : Entry) → Contains ys e → Contains xs e) → xs ≡ ys
+alone [] [] one also to from = refl
+alone [] (y ∷ ys) one also to from = absurd (not_in_none y (from y (in_head ys y)))
+alone (x ∷ xs) [] one also to from = absurd (not_in_none x (to x (in_head xs x)))
+alone (x ∷ []) (y ∷ []) one also to from =
+    elim (in_either [] y x (to x (in_head [] x))) [ inl is ↦ ap (λ (e : Entry). e ∷ []) (sym is) | inr none ↦ absurd (not_in_none x none) ]
+alone (x ∷ z ∷ xs) (y ∷ ys) one also to from = absurd (one 0 1 x (omega arith) (omega arith))
+alone (x ∷ []) (y ∷ z ∷ ys) one also to from = absurd (also 0 1 y (omega arith) (omega arith))
+
+one_tied : (z : Entry) (air : List Entry) → AllPairs PlacesApart air → AllPairs Never (filter (ties is_before z) air)
+one_tied z air apart =
+    weaker_pairs PlacesApart Never (filter tied air) (AllPairs-filter PlacesApart tied air apart)
+    (λ d e there also differ.
+    let first = tied_place z d (filtered tied air d there).1 in
+    let second = tied_place z e (filtered tied air e also).1 in
+    differ (record { start = sym first.start ∙ second.start; kind = sym first.kind ∙ second.kind; node = sym first.node ∙ second.node }))
+  where
+    tied : Entry → Bool
+    tied = ties is_before z
+
+tied_too : (z : Entry) (a b : List Entry) → IsPermutation a b → (e : Entry) → Contains (filter (ties is_before z) a) e
+    → Contains (filter (ties is_before z) b) e
+tied_too z a b moved e there =
+    let both = filtered (ties is_before z) a e there in
+    in_filtered (ties is_before z) b e (Contains-permutation a b e moved both.0) both.1
+
+pub one_text : OneTextLaw
+one_text s clocks a b of_a of_b =
+    let moved = one_log s clocks a b of_a of_b in
+    ap (flat_map entry_line) (same_in_order is_before is_order a b (λ z.
+    alone (filter (ties is_before z) a) (filter (ties is_before z) b)
+    (one_tied z a (entries_apart s clocks a of_a)) (one_tied z b (entries_apart s clocks b of_b))
+    (tied_too z a b moved) (tied_too z b a (IsPermutation-sym a b moved))))
