@@ -315,7 +315,7 @@ def _check_whole(words: Sequence[str], data: bytes, end: bytes, closing: int, si
         raise CutOutput(f"the output of `{command}` is cut: its last line has no end", words, 0)
     if not first:
         return
-    wanted = sum(1 for row in faults.split(data) if row[:1] == ["node"]) if for_each_node else 1
+    wanted = len(re.findall(rb"^[ \t]*node[ \t]", data, re.MULTILINE)) if for_each_node else 1
     if closing != wanted:
         word = first.decode().strip()
         raise CutOutput(f"the output of `{command}` is cut: it has {closing} of {wanted} `{word}` lines", words, 0)

@@ -30,14 +30,15 @@ def table(source: Any, name: str, required: tuple[str, ...]) -> pandas.DataFrame
     return frame
 
 
-def _rows(frame: pandas.DataFrame, name: str) -> Iterator[tuple[str, Mapping[str, Any]]]:
+def rows(frame: pandas.DataFrame, name: str) -> Iterator[tuple[str, Mapping[str, Any]]]:
     """Each row with its name for messages and the values that are given."""
     for number, row in enumerate(frame.to_dict("records"), 1):
         yield f"the table of {name}, row {number}", {str(key): value for key, value in row.items() if not pandas.isna(value)}
 
 
-def _whole(row: Mapping[str, Any], column: str, default: int = 0) -> int:
-    value = row.get(column, default)
+def whole(row: Mapping[str, Any], column: str, default: int | None = None) -> int:
+    """The whole number of a column, or the default where it isn't given; without one that is a `KeyError`."""
+    value = row[column] if default is None else row.get(column, default)
     if value != int(value):
         raise ValueError(f"the {column}, {value}, is no whole number")
     return int(value)
@@ -48,7 +49,7 @@ def scenario_of(scenario: AnyScenario, nodes: Any, links: Any, streams: Any = No
     from .scenario import ScenarioError
 
     def add(step: Any, source: Any, name: str, required: tuple[str, ...]) -> None:
-        for where, row in _rows(table(source, name, required), name):
+        for where, row in rows(table(source, name, required), name):
             try:
                 step(scenario, row)
             except (KeyError, ValueError) as error:
@@ -62,20 +63,20 @@ def scenario_of(scenario: AnyScenario, nodes: Any, links: Any, streams: Any = No
 
 
 def _add_node(scenario: Scenario, row: Mapping[str, Any]) -> None:
-    node = _whole(row, "id")
-    scenario.node(node, _whole(row, "offset"), _whole(row, "ppm"))
+    node = whole(row, "id")
+    scenario.node(node, whole(row, "offset", 0), whole(row, "ppm", 0))
     if "host" in row:
-        scenario.host(_whole(row, "host"), node)
+        scenario.host(whole(row, "host"), node)
     scenario.on(node, seconds=float(row.get("on", 0)))
 
 
 def _add_link(scenario: Scenario, row: Mapping[str, Any]) -> None:
     build = scenario.pair if row.get("both", False) not in _FALSE else scenario.link
-    build(_whole(row, "from"), _whole(row, "to"), float(row.get("prr", 1.0)))
+    build(whole(row, "from"), whole(row, "to"), float(row.get("prr", 1.0)))
 
 
 def _add_stream(scenario: Scenario, row: Mapping[str, Any]) -> None:
-    node, stream, start = _whole(row, "node"), _whole(row, "stream"), float(row.get("start", 0))
-    scenario.stream(node, _whole(row, "interval"), stream=stream, seconds=start)
+    node, stream, start = whole(row, "node"), whole(row, "stream", 0), float(row.get("start", 0))
+    scenario.stream(node, whole(row, "interval"), stream=stream, seconds=start)
     if "every" in row:
         scenario.every(float(row["every"]), node, stream=stream, start=start, until=row.get("until"))
