@@ -154,8 +154,10 @@ class _Streams:
             if len(frames) < _PUTS_LEAST or frames[-1] == frames[0]:
                 continue
             spacing = (frames[-1] - frames[0]) * self.scenario.frame_seconds / (len(frames) - 1)
+            # Puts are known to a frame, so it may be that much longer.
+            longest = spacing + self.scenario.frame_seconds / (len(frames) - 1)
             interval = self.intervals[node, stream]
-            if interval > spacing / _SLACK_LEAST:
+            if interval > longest / _SLACK_LEAST:
                 better = max(1, int(spacing / _SLACK))
                 advice = f"{better}" if better < interval else "two streams"
                 tight.append(f"stream {stream} of node {node} (every {spacing:.1f} s, interval {interval}: {advice})")

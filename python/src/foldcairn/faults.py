@@ -128,6 +128,8 @@ class _Fault:
         if not self.words:
             return None
         first, *rest = self.words
+        if any("\r" in word[:-1] for word in self.words):
+            return "lines end with a line feed, and this one has a carriage return inside"
         if first not in self.table:
             return self._unknown_word(first)
         if len(rest) != len(self.fields):
@@ -142,8 +144,6 @@ class _Fault:
     def _unknown_word(self, first: str) -> str:
         if first.startswith("\ufeff"):
             return "the text begins with a byte order mark; save it without one"
-        if "\r" in first:
-            return "lines end with a line feed, and this one has a carriage return inside"
         for grammar, commands in (("scenario", "run, log and bus"), ("flood", "flood"), ("deadlines", "deadlines")):
             if grammar != self.grammar and first in lines.fields(grammar):
                 return f"`{first}` is a line of another text, which is read by {commands}"
