@@ -6,6 +6,7 @@ import io
 import random
 from collections import Counter
 
+import networkx
 import numpy
 import pandas
 import pytest
@@ -90,11 +91,12 @@ def networks(seed: int) -> Scenario:
         made.off(ids[0], frame=frames // 4)
         if chance.random() < 0.5:
             made.on(ids[0], frame=frames // 4 + chance.randint(0, 4))
-    places = {(chance.randrange(frames), chance.randrange(8), chance.randrange(4)) for _ in range(8)}
+    # Rounds are in frames 5, 9, 13, and so on, where nothing is lost.
+    places = {(5 + 4 * chance.randrange((frames - 2) // 4), chance.randrange(8), chance.randrange(4)) for _ in range(8)}
     for place in sorted(places) if ends else ():
         made.lose(*place, *chance.choice(ends))
         made.capture(*place, *chance.choice(ends)[::-1])
-    for place in sorted(places)[:2]:
+    for place in sorted(places)[::3]:
         made.cut(*place, chance.choice(ids))
     return made
 
@@ -122,6 +124,33 @@ def test_drawn_losses_make_the_run_of_all_losses(seed):
     assert program.execute(["bus"], drawn.text(warn=False)) == program.execute(["bus"], everything.text(warn=False))
     assert losses.draw(drawn, seed).losses == drawn.losses
     assert scenario.losses == networks(seed).losses
+
+
+@pytest.mark.parametrize("seed", range(24, 36))
+def test_each_drawn_loss_is_needed(seed):
+    """Without any one of them somebody else receives; but for captures, where all are kept."""
+    scenario = networks(seed)
+    scenario.captures.clear()
+    drawn = losses.draw(scenario, seed)
+    received = receptions(drawn)
+    for number in range(len(scenario.losses), len(drawn.losses)):
+        fewer = drawn.copy()
+        del fewer.losses[number]
+        assert receptions(fewer) != received
+
+
+@pytest.mark.parametrize("seed", range(12))
+def test_losses_at_captures_and_cuts(seed):
+    """Three nodes ask at once and the host captures one of them, whose request may be lost; a node is cut off twice in a frame."""
+    scenario = Scenario.from_graph(networkx.complete_graph([1, 2, 3, 4]), 14, hosts=[1])
+    for node in (2, 3, 4):
+        scenario.stream(node, 8).put(node, bytes([node]))
+    scenario.capture(5, 1, 0, 1, 2).cut(9, 3, 0, 3).cut(9, 1, 0, 3)
+    for link in sorted(scenario.links):
+        scenario.link(*link, prr=0.9 if link[0] == 1 else 0.5)
+    everything = scenario.copy()
+    everything.losses = losses.every_loss(scenario, seed, slots=SLOTS)
+    assert receptions(losses.draw(scenario, seed)) == receptions(everything)
 
 
 def test_losses_are_of_links_with_ratios_only():

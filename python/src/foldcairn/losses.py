@@ -150,6 +150,9 @@ class _Links:
             cuts[place] = min(at, cuts.get(place, at))
         self.cut_places = numpy.array(sorted(cuts), numpy.int64)
         self.cut_from = numpy.array([cuts[place] for place in sorted(cuts)], numpy.int64)
+        # Of a capture all of the key of a loss but its sender.
+        captures = {pack(x.frame, x.slot, x.step, 0, x.at) for x in scenario.captures}
+        self.captured = numpy.array(sorted(int(key) >> 16 << 8 | int(key) & 255 for key in captures), numpy.int64)
 
     def reach(self, senders: Array) -> tuple[Array, Array]:
         """For each link from each of the senders: the number of the sender in the list, and the number of the link."""
@@ -189,7 +192,7 @@ def _needed(log: _Log, links: _Links, seed: int) -> Array:
 
     A receiver is one that a link leads to, whose radio is on at the channel all the while, and that doesn't transmit. Where all
     packets that reach it in a step are equal, it receives as long as one link passes: so losses count where all links fail.
-    Where they differ, as in contention slots, each loss counts.
+    Where they differ, as in contention slots, those count too whose packets differ from the one that is left.
     """
     which, link = links.reach(log.sender)
     receiver = links.receivers[link]
@@ -203,20 +206,29 @@ def _needed(log: _Log, links: _Links, seed: int) -> Array:
     listens = ~_among(place, numpy.sort(step_of * 256 + log.sender)) & links.passes(keys)
     which, link, keys, place = which[listens], link[listens], keys[listens], place[listens]
     lost = coin(seed, keys) >= links.ratios[link]
-    return numpy.sort(keys[lost & _counts(place, lost, log.packet[which])])
+    captured = _among(keys >> 16 << 8 | keys & 255, links.captured)
+    return numpy.sort(keys[_changing(place, lost, log.packet[which], captured)])
 
 
-def _counts(place: Array, lost: Array, packet: Array) -> Array:
-    """Whether, at its place (a step at a receiver), all packets are lost or two of them differ."""
+def _changing(place: Array, lost: Array, packet: Array, captured: Array) -> Array:
+    """Which of the losses change what is received at their place, which is a step at a receiver.
+
+    Where nothing is left, all do. Where equal packets are left, those of other packets do: they would have collided. Where
+    packets that differ are left, none does, since these collide anyway; only where a capture line may save one, all do.
+    """
     if not len(place):
-        return numpy.zeros(0, bool)
+        return lost
     order = numpy.argsort(place, kind="stable")
     starts = numpy.flatnonzero(numpy.diff(place[order], prepend=-1))
-    all_lost = numpy.logical_and.reduceat(lost[order], starts)
-    differ = numpy.maximum.reduceat(packet[order], starts) != numpy.minimum.reduceat(packet[order], starts)
-    counts = numpy.empty(len(place), bool)
-    counts[order] = numpy.repeat(all_lost | differ, numpy.diff(starts, append=len(place)))
-    return counts
+    sizes = numpy.diff(starts, append=len(place))
+    gone = numpy.int64(-1)
+    left = numpy.where(lost, gone, packet)[order]
+    most = numpy.repeat(numpy.maximum.reduceat(left, starts), sizes)
+    least = numpy.repeat(numpy.minimum.reduceat(numpy.where(left == gone, packet.max(), left), starts), sizes)
+    counts = (most == gone) | ((least == most) & (packet[order] != most)) | captured[order]
+    changing = numpy.empty(len(place), bool)
+    changing[order] = lost[order] & counts
+    return changing
 
 
 # Drawing.
