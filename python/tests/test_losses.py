@@ -139,15 +139,16 @@ def test_each_drawn_loss_is_needed(seed):
         assert receptions(fewer) != received
 
 
+@pytest.mark.parametrize("of_host", [0.5, 0.9])
 @pytest.mark.parametrize("seed", range(12))
-def test_losses_at_captures_and_cuts(seed):
+def test_losses_at_captures_and_cuts(seed, of_host):
     """Three nodes ask at once and the host captures one of them, whose request may be lost; a node is cut off twice in a frame."""
     scenario = Scenario.from_graph(networkx.complete_graph([1, 2, 3, 4]), 14, hosts=[1])
     for node in (2, 3, 4):
         scenario.stream(node, 8).put(node, bytes([node]))
     scenario.capture(5, 1, 0, 1, 2).cut(9, 3, 0, 3).cut(9, 1, 0, 3)
     for link in sorted(scenario.links):
-        scenario.link(*link, prr=0.9 if link[0] == 1 else 0.5)
+        scenario.link(*link, prr=of_host if link[0] == 1 else 0.5)
     everything = scenario.copy()
     everything.losses = losses.every_loss(scenario, seed, slots=SLOTS)
     assert receptions(losses.draw(scenario, seed)) == receptions(everything)
