@@ -7,9 +7,13 @@ import sys
 import warnings
 from collections.abc import Callable, Sequence
 from pathlib import Path
+from typing import TypeAlias
 
 from . import program
 from .scenario import Scenario, ScenarioError, ScenarioWarning
+
+# The type has no public name.
+Commands: TypeAlias = "argparse._SubParsersAction[argparse.ArgumentParser]"
 
 # Exit statuses: 0 done; 1 the text is rejected, or what was asked for can't be had; 2 the words are no command.
 _FAILED = 1
@@ -29,7 +33,8 @@ def main(arguments: Sequence[str] | None = None) -> int:
     warnings.showwarning = _show_warning
     warnings.simplefilter("always", ScenarioWarning)
     try:
-        return chosen.run(chosen)
+        status: int = chosen.run(chosen)
+        return status
     except (program.ProgramError, ScenarioError, OSError, ValueError) as error:
         print(f"foldcairn: {error}", file=sys.stderr)
     except KeyboardInterrupt:
@@ -42,7 +47,7 @@ def _show_warning(message: Warning | str, *_: object, **__: object) -> None:
     print(f"foldcairn: warning: {message}", file=sys.stderr)
 
 
-def _command(commands: argparse._SubParsersAction, name: str, run: Callable[[argparse.Namespace], int], about: str):
+def _command(commands: Commands, name: str, run: Callable[[argparse.Namespace], int], about: str) -> argparse.ArgumentParser:
     parser = commands.add_parser(name, help=about.split(".")[0], description=about)
     parser.set_defaults(run=run)
     return parser
@@ -65,7 +70,7 @@ def _with_ratios(path: str, table: str) -> Scenario:
     return scenario
 
 
-def _add_draw(commands: argparse._SubParsersAction) -> None:
+def _add_draw(commands: Commands) -> None:
     parser = _command(
         commands, "draw", _draw,
         "Writes the scenario with losses that are drawn from reception ratios. Only losses that change who receives are "
@@ -87,7 +92,7 @@ def _draw(chosen: argparse.Namespace) -> int:
     return 0
 
 
-def _add_sweep(commands: argparse._SubParsersAction) -> None:
+def _add_sweep(commands: Commands) -> None:
     parser = _command(
         commands, "sweep", _sweep,
         "Runs many scenarios and writes one table as CSV: of each file of a folder, or of one file with losses drawn by each "
@@ -112,6 +117,7 @@ def _sweep(chosen: argparse.Namespace) -> int:
 
     from . import sweep
 
+    build: sweep.Build
     if chosen.ratios:
         first, _, last = chosen.seeds.partition("-")
         seeds = range(int(first), int(last or first) + 1)
@@ -130,7 +136,7 @@ def _sweep(chosen: argparse.Namespace) -> int:
     return 0 if (table.status == "ok").all() else _FAILED
 
 
-def _add_explain(commands: argparse._SubParsersAction) -> None:
+def _add_explain(commands: Commands) -> None:
     parser = _command(
         commands, "explain", _explain,
         "Says why a text is rejected, by line, word and range; of a scenario that is accepted, what it hardly means.",

@@ -14,7 +14,7 @@ from operator import attrgetter
 from typing import TYPE_CHECKING
 
 from . import lines
-from .events import Leave, Off, On, Put, Stream
+from .events import Leave, Off, On, Put, ScriptLine, Stream
 
 if TYPE_CHECKING:
     from .scenario import Scenario
@@ -69,7 +69,7 @@ def _losses_without_link(scenario: Scenario) -> Iterator[str]:
 class _Streams:
     """The streams of a scenario: from when on each asks, and when its packets come."""
 
-    def __init__(self, scenario: Scenario, script: list) -> None:
+    def __init__(self, scenario: Scenario, script: list[ScriptLine]) -> None:
         self.scenario = scenario
         self.puts: dict[tuple[int, int], list[int]] = defaultdict(list)
         self.intervals: dict[tuple[int, int], int] = {}
@@ -78,7 +78,7 @@ class _Streams:
         self.most_streams = self.most_slots = 0.0
         self.restarts = self._walk(script)
 
-    def _walk(self, script: list) -> bool:
+    def _walk(self, script: list[ScriptLine]) -> bool:
         """Goes through the script once; whether a node that hosts is switched off in it."""
         on: set[int] = set()
         requested: dict[tuple[int, int], int] = {}

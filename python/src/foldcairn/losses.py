@@ -60,8 +60,8 @@ def splitmix64(state: Array) -> Array:
 
 def pack(frame: Array, slot: Array, step: Array, sender: Array, receiver: Array) -> Array:
     """One number for each (frame, slot, step, sender, receiver), in the order of these five (int64)."""
-    key = numpy.asarray(frame, numpy.int64) * 64 + slot
-    return ((key * 16 + step) * 256 + sender) * 256 + receiver
+    key: Array = ((frame.astype(numpy.int64) * 64 + slot) * 16 + step) * 256 + sender
+    return key * 256 + receiver
 
 
 def unpack(keys: Array) -> tuple[Array, Array, Array, Array, Array]:
@@ -150,9 +150,8 @@ class _Links:
             cuts[place] = min(at, cuts.get(place, at))
         self.cut_places = numpy.array(sorted(cuts), numpy.int64)
         self.cut_from = numpy.array([cuts[place] for place in sorted(cuts)], numpy.int64)
-        # Of a capture all of the key of a loss but its sender.
-        captures = {pack(x.frame, x.slot, x.step, 0, x.at) for x in scenario.captures}
-        self.captured = numpy.array(sorted(int(key) >> 16 << 8 | int(key) & 255 for key in captures), numpy.int64)
+        # Where captures are.
+        self.captured = numpy.sort(_place_of(_keys_of(Loss(x.frame, x.slot, x.step, x.sender, x.at) for x in scenario.captures)))
 
     def reach(self, senders: Array) -> tuple[Array, Array]:
         """For each link from each of the senders: the number of the sender in the list, and the number of the link."""
@@ -171,7 +170,14 @@ class _Links:
             return numpy.zeros(len(frame), bool)
         place = frame * 256 + node
         at = numpy.minimum(numpy.searchsorted(self.cut_places, place), len(self.cut_places) - 1)
-        return (self.cut_places[at] == place) & (self.cut_from[at] <= slot * 16 + step)
+        cut: Array = (self.cut_places[at] == place) & (self.cut_from[at] <= slot * 16 + step)
+        return cut
+
+
+def _place_of(keys: Array) -> Array:
+    """Of each key of `pack` all but the sender."""
+    place: Array = keys >> 16 << 8 | keys & 255
+    return place
 
 
 def _among(values: Array, ordered: Array) -> Array:
@@ -179,7 +185,8 @@ def _among(values: Array, ordered: Array) -> Array:
     if not len(ordered):
         return numpy.zeros(len(values), bool)
     at = numpy.minimum(numpy.searchsorted(ordered, values), len(ordered) - 1)
-    return ordered[at] == values
+    found: Array = ordered[at] == values
+    return found
 
 
 def _keys_of(losses: Iterable[Loss]) -> Array:
@@ -206,7 +213,7 @@ def _needed(log: _Log, links: _Links, seed: int) -> Array:
     listens = ~_among(place, numpy.sort(step_of * 256 + log.sender)) & links.passes(keys)
     which, link, keys, place = which[listens], link[listens], keys[listens], place[listens]
     lost = coin(seed, keys) >= links.ratios[link]
-    captured = _among(keys >> 16 << 8 | keys & 255, links.captured)
+    captured = _among(_place_of(keys), links.captured)
     return numpy.sort(keys[_changing(place, lost, log.packet[which], captured)])
 
 
@@ -296,6 +303,7 @@ def read_table(scenario: AnyScenario, source: Any) -> AnyScenario:
     of its range or a node isn't given.
     """
     frame = tables.table(source, "losses", ("slot",))
+    columns: tuple[str, ...]
     if {"counter", "from", "to"} <= set(frame.columns):
         columns = ("counter", "from", "to")
     elif "node" in frame.columns:

@@ -14,6 +14,7 @@ import subprocess
 import tempfile
 from collections.abc import Sequence
 from pathlib import Path
+from typing import IO
 
 from . import faults
 
@@ -215,7 +216,7 @@ def _bytes_of(text: str | bytes) -> bytes:
     return text.encode() if isinstance(text, str) else bytes(text)
 
 
-def _started(words: Sequence[str], program: Path | None, stdout: object) -> subprocess.Popen[bytes]:
+def _started(words: Sequence[str], program: Path | None, stdout: int | IO[bytes]) -> subprocess.Popen[bytes]:
     path = program if program is not None else find()
     try:
         return subprocess.Popen([str(path), *words], stdin=subprocess.PIPE, stdout=stdout, stderr=subprocess.PIPE)
@@ -296,14 +297,15 @@ def _closing_lines(words: Sequence[str], output: bytes) -> int:
     return count
 
 
-def _closing_lines_of_file(words: Sequence[str], sink: object) -> int:
+def _closing_lines_of_file(words: Sequence[str], sink: IO[bytes]) -> int:
     first, _ = _CLOSING.get(words[0] if words else "", (b"", False))
     count = 0
-    for row in sink if first else ():
-        if row.startswith(first):
-            count += 1
-        elif count:
-            break
+    if first:
+        for row in sink:
+            if row.startswith(first):
+                count += 1
+            elif count:
+                break
     return count
 
 

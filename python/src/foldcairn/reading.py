@@ -3,7 +3,7 @@
 from __future__ import annotations
 
 from collections.abc import Callable, Sequence
-from typing import TYPE_CHECKING, TypeVar
+from typing import TYPE_CHECKING, Any, TypeVar
 
 from . import faults, lines
 from .events import Capture, Cut, Leave, Loss, Off, On, Put, Rate, Stream
@@ -75,7 +75,7 @@ class _Reader:
         self.read_any, self.last = True, first
         return self._keep(first, values)
 
-    def _out_of_range(self, values: Sequence[int | bytes], fields: Sequence[Field]) -> str | None:
+    def _out_of_range(self, values: Sequence[Any], fields: Sequence[Field]) -> str | None:
         ids = [value for value, what in zip(values, fields) if what.kind == "id"]
         for value, what in zip(values, fields):
             size = len(value) if isinstance(value, bytes) else value
@@ -94,7 +94,7 @@ class _Reader:
             return "Order"
         return None
 
-    def _keep(self, first: str, values: Sequence[int | bytes]) -> str | None:
+    def _keep(self, first: str, values: Sequence[Any]) -> str | None:
         match first:
             case "profile" | "contend" | "frames" | "sends":
                 return _add(self.single, first, values[0])
@@ -144,7 +144,7 @@ def _value(word: str, what: Field) -> int | bytes:
     return int(word)
 
 
-def _add(where: dict, key: object, value: object) -> str | None:
+def _add(where: dict[Any, Any], key: object, value: object) -> str | None:
     """Adds what is new, and gives the fault where the key is there already."""
     if key in where:
         return "Twice"

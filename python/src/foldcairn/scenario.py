@@ -122,8 +122,9 @@ class Scenario:
                 if len(value) > what.high:
                     raise ScenarioError(f"`{shown}`: {what.range_in_words()} in profile {self.profile}")
                 continue
-            if isinstance(value, float) and not value.is_integer() or not what.low <= value <= what.high:
-                raise ScenarioError(f"`{shown}`: {value}, the {what.range_in_words()[4:]}")
+            if not hasattr(value, "__index__") or not what.low <= value <= what.high:
+                whole = "" if hasattr(value, "__index__") else "a whole number "
+                raise ScenarioError(f"`{shown}`: {value}, {what.range_in_words().replace(', is from', f', is {whole}from')}")
             if what.kind == "id":
                 ids.append(value)
         for node in ids:

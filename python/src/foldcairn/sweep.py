@@ -16,7 +16,6 @@ import tempfile
 import time
 from collections.abc import Callable, Iterable, Iterator, Mapping, Sequence
 from concurrent.futures import FIRST_COMPLETED, Executor, Future, ProcessPoolExecutor, wait
-from contextlib import nullcontext
 from dataclasses import dataclass
 from pathlib import Path
 from typing import Any, TextIO
@@ -109,18 +108,16 @@ def sweep(
     done = {key: outcome for key in keys if (outcome := store.take(key)) is not None}
     left = [(key, case) for key, case in zip(keys, listed) if key not in done]
     bar = _Progress(len(listed), len(done), progress)
-    pool = nullcontext(executor) if executor is not None else ProcessPoolExecutor()
-    with pool as runner:
-        try:
-            for key, outcome in _finished(runner, build, measure, left):
-                done[key] = outcome
-                store.keep(key, outcome)
-                bar.show(len(done))
-        except BaseException:
-            runner.shutdown(wait=False, cancel_futures=True) if executor is None else None
-            raise
-        finally:
-            bar.close(len(done))
+    runner = ProcessPoolExecutor() if executor is None else executor
+    try:
+        for key, outcome in _finished(runner, build, measure, left):
+            done[key] = outcome
+            store.keep(key, outcome)
+            bar.show(len(done))
+    finally:
+        bar.close(len(done))
+        if executor is None:
+            runner.shutdown(cancel_futures=True)
     return _table(listed, [done[key] for key in keys])
 
 
@@ -256,7 +253,7 @@ class _Progress:
 
 def _table(cases: Sequence[Case], outcomes: Sequence[_Outcome]) -> pandas.DataFrame:
     """One table of all outcomes, in the order of the cases."""
-    rows = []
+    rows: list[dict[str, Any]] = []
     for case, outcome in zip(cases, outcomes):
         told = {"message": outcome.message} if outcome.status != "ok" else {}
         rows.extend({**case, "status": outcome.status, **row, **told} for row in outcome.rows or [{}])
