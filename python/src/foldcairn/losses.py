@@ -1,0 +1,338 @@
+"""Losses of links: drawn from reception ratios, or read from a recorded table.
+
+`draw` throws a coin for each frame, slot, step and link by a written hash of the seed, so a coin depends on nothing else: not
+on the run, on other links, or on the order of anything. To write all losses would take millions of lines. So `draw` runs
+the program, looks who transmitted to whom, writes those losses alone that change who receives, and runs again until nothing
+changes. What is delivered is then the same as with all losses written. Nothing is simulated here. Tested, not proved.
+"""
+
+from __future__ import annotations
+
+from collections.abc import Iterable
+from dataclasses import dataclass
+from pathlib import Path
+from typing import Any, TypeVar
+
+import numpy
+import pandas
+from numpy.typing import NDArray
+
+from . import lines, program as programs, tables
+from .events import Loss
+from .scenario import Scenario, ScenarioError
+
+AnyScenario = TypeVar("AnyScenario", bound=Scenario)
+Array = NDArray[Any]
+
+_GOLDEN = 0x9E3779B97F4A7C15
+_MASK = (1 << 64) - 1
+
+
+class TooManyLosses(Exception):
+    """The losses that change who receives don't fit the 20,000 script lines of a text.
+
+    `frame` is the first frame whose losses don't fit, `fitting` how many lines fit; so a run of `frame` frames can be drawn.
+    """
+
+    def __init__(self, frame: int, fitting: int) -> None:
+        super().__init__(frame, fitting)
+        self.frame = frame
+        self.fitting = fitting
+
+    def __str__(self) -> str:
+        return (
+            f"a scenario has at most {lines.SCRIPT_LINES_MOST:,} script lines, {self.fitting:,} of them are free for losses, and they "
+            f"are used up in frame {self.frame}: shorten the run to {self.frame} frames, or draw parts of it"
+        )
+
+
+# Coins.
+
+
+def splitmix64(state: Array) -> Array:
+    """The output of the generator SplitMix64 (Steele, Lea and Flood, 2014) that is in each of these states (uint64)."""
+    with numpy.errstate(over="ignore"):
+        mixed = state + numpy.uint64(_GOLDEN)
+        mixed = (mixed ^ (mixed >> numpy.uint64(30))) * numpy.uint64(0xBF58476D1CE4E5B9)
+        mixed = (mixed ^ (mixed >> numpy.uint64(27))) * numpy.uint64(0x94D049BB133111EB)
+        return mixed ^ (mixed >> numpy.uint64(31))
+
+
+def pack(frame: Array, slot: Array, step: Array, sender: Array, receiver: Array) -> Array:
+    """One number for each (frame, slot, step, sender, receiver), in the order of these five (int64)."""
+    key: Array = ((frame.astype(numpy.int64) * 64 + slot) * 16 + step) * 256 + sender
+    return key * 256 + receiver
+
+
+def unpack(keys: Array) -> tuple[Array, Array, Array, Array, Array]:
+    """Frame, slot, step, sender and receiver of each number of `pack`."""
+    return keys >> 26, (keys >> 20) & 63, (keys >> 16) & 15, (keys >> 8) & 255, keys & 255
+
+
+def coin(seed: int, keys: Array) -> Array:
+    """The coin of each (frame, slot, step, sender, receiver), given by `pack`: a number from 0 up to but not including 1.
+
+    Let S be the output of SplitMix64 in the state `seed` modulo 2^64. The coin of a key is the output of SplitMix64 in the
+    state S + key * 0x9E3779B97F4A7C15 modulo 2^64, its upper 53 bits divided by 2^53. The link passes where the coin is
+    below its reception ratio.
+    """
+    first = splitmix64(numpy.array([seed & _MASK], numpy.uint64))[0]
+    with numpy.errstate(over="ignore"):
+        states = first + keys.astype(numpy.uint64) * numpy.uint64(_GOLDEN)
+    return (splitmix64(states) >> numpy.uint64(11)).astype(numpy.float64) / (1 << 53)
+
+
+# What a log says.
+
+
+@dataclass(frozen=True)
+class _Log:
+    """The transmissions and the times of radios of one log, a column each; times in ticks of 1/64 µs."""
+
+    frame: Array
+    rank: Array
+    slot: Array
+    step: Array
+    sender: Array
+    start: Array
+    end: Array
+    packet: Array
+    tuned_key: Array
+    tuned_end: Array
+
+
+def _tuned_key(rank: Array, node: Array, start: Array) -> Array:
+    return ((rank * 256 + node) << 42) + start
+
+
+def _read_log(text: bytes, ticks: int) -> _Log:
+    """The transmissions and radio times of the output of `log`, where a frame has that many ticks."""
+    rows = text[_start_of_log(text) :].split(b"\n")
+    sent = [row.rpartition(b" ") for row in rows if row.startswith(b"sent ")]
+    tuned = _table((row for row in rows if row.startswith(b"tuned ")), b"tuned ")
+    del rows
+    numbers = _table((row[0] for row in sent), b"sent ")
+    heads = numpy.frombuffer(bytes.fromhex(b"".join([row[2][:6] for row in sent]).decode()), numpy.uint8).reshape(-1, 3)
+    packets: dict[bytes, int] = {}
+    packet = numpy.array([packets.setdefault(row[2], len(packets)) for row in sent], numpy.int64)
+    rank, sender, start, end = numbers.T
+    keys = _tuned_key(tuned[:, 0], tuned[:, 1], tuned[:, 2])
+    order = numpy.argsort(keys)
+    slot, step = heads[:, 1].astype(numpy.int64), heads[:, 2].astype(numpy.int64)
+    return _Log(start // ticks, rank, slot, step, sender, start, end, packet, keys[order], tuned[order, 3])
+
+
+def _table(rows: Iterable[bytes], word: bytes) -> Array:
+    """The four numbers of each row, after the word that it begins with."""
+    text = b"\n".join(rows).replace(word, b"")
+    return numpy.fromstring(text, numpy.int64, sep=" ").reshape(-1, 4) if text else numpy.empty((0, 4), numpy.int64)
+
+
+def _start_of_log(text: bytes) -> int:
+    """Where the lines of the log begin, after those of the report."""
+    found = [at for word in (b"\nsent ", b"\ntuned ") if (at := text.find(word)) >= 0]
+    return min(found, default=len(text))
+
+
+class _Links:
+    """The links of a scenario by sender, with their reception ratios, and what the scenario loses by itself."""
+
+    def __init__(self, scenario: Scenario) -> None:
+        links = sorted(scenario.links)
+        senders = numpy.array([sender for sender, _ in links], numpy.int64)
+        self.receivers = numpy.array([receiver for _, receiver in links], numpy.int64)
+        self.ratios = numpy.array([scenario.prr.get(link, 1.0) for link in links], numpy.float64)
+        self.first = numpy.searchsorted(senders, numpy.arange(257))
+        self.lost = numpy.sort(_keys_of(scenario.losses))
+        cuts: dict[int, int] = {}
+        for cut in scenario.cuts:
+            place, at = cut.frame * 256 + cut.node, cut.slot * 16 + cut.step
+            cuts[place] = min(at, cuts.get(place, at))
+        self.cut_places = numpy.array(sorted(cuts), numpy.int64)
+        self.cut_from = numpy.array([cuts[place] for place in sorted(cuts)], numpy.int64)
+        # Where captures are.
+        self.captured = numpy.sort(_place_of(_keys_of(Loss(x.frame, x.slot, x.step, x.sender, x.at) for x in scenario.captures)))
+
+    def reach(self, senders: Array) -> tuple[Array, Array]:
+        """For each link from each of the senders: the number of the sender in the list, and the number of the link."""
+        counts = self.first[senders + 1] - self.first[senders]
+        which = numpy.repeat(numpy.arange(len(senders)), counts)
+        before = numpy.repeat(numpy.cumsum(counts) - counts, counts)
+        return which, self.first[senders[which]] + numpy.arange(len(which)) - before
+
+    def passes(self, keys: Array) -> Array:
+        """Whether the scenario itself, by its losses and cuts, leaves these (frame, slot, step, sender, receiver) alone."""
+        frame, slot, step, sender, receiver = unpack(keys)
+        return ~(_among(keys, self.lost) | self._is_cut(frame, slot, step, sender) | self._is_cut(frame, slot, step, receiver))
+
+    def _is_cut(self, frame: Array, slot: Array, step: Array, node: Array) -> Array:
+        if not len(self.cut_places):
+            return numpy.zeros(len(frame), bool)
+        place = frame * 256 + node
+        at = numpy.minimum(numpy.searchsorted(self.cut_places, place), len(self.cut_places) - 1)
+        cut: Array = (self.cut_places[at] == place) & (self.cut_from[at] <= slot * 16 + step)
+        return cut
+
+
+def _place_of(keys: Array) -> Array:
+    """Of each key of `pack` all but the sender."""
+    place: Array = keys >> 16 << 8 | keys & 255
+    return place
+
+
+def _among(values: Array, ordered: Array) -> Array:
+    """Whether each value is in the ordered array."""
+    if not len(ordered):
+        return numpy.zeros(len(values), bool)
+    at = numpy.minimum(numpy.searchsorted(ordered, values), len(ordered) - 1)
+    found: Array = ordered[at] == values
+    return found
+
+
+def _keys_of(losses: Iterable[Loss]) -> Array:
+    rows = numpy.array([(x.frame, x.slot, x.step, x.sender, x.receiver) for x in losses], numpy.int64).reshape(-1, 5)
+    return pack(*rows.T)
+
+
+def _needed(log: _Log, links: _Links, seed: int) -> Array:
+    """The losses that change who receives in this log, as ordered keys.
+
+    A receiver is one that a link leads to, whose radio is on at the channel all the while, and that doesn't transmit. Where all
+    packets that reach it in a step are equal, it receives as long as one link passes: so losses count where all links fail.
+    Where they differ, as in contention slots, those count too whose packets differ from the one that is left.
+    """
+    which, link = links.reach(log.sender)
+    receiver = links.receivers[link]
+    rank, start = log.rank[which], log.start[which]
+    at = numpy.searchsorted(log.tuned_key, _tuned_key(rank, receiver, start), "right") - 1
+    on = (at >= 0) & (log.tuned_key[at] >> 42 == rank * 256 + receiver) & (log.tuned_end[at] >= log.end[which])
+    which, link, receiver = which[on], link[on], receiver[on]
+    step_of = ((log.rank * 4_096 + log.frame) * 64 + log.slot) * 16 + log.step
+    place = step_of[which] * 256 + receiver
+    keys = pack(log.frame[which], log.slot[which], log.step[which], log.sender[which], receiver)
+    listens = ~_among(place, numpy.sort(step_of * 256 + log.sender)) & links.passes(keys)
+    which, link, keys, place = which[listens], link[listens], keys[listens], place[listens]
+    lost = coin(seed, keys) >= links.ratios[link]
+    captured = _among(_place_of(keys), links.captured)
+    return numpy.sort(keys[_changing(place, lost, log.packet[which], captured)])
+
+
+def _changing(place: Array, lost: Array, packet: Array, captured: Array) -> Array:
+    """Which of the losses change what is received at their place, which is a step at a receiver.
+
+    Where nothing is left, all do. Where equal packets are left, those of other packets do: they would have collided. Where
+    packets that differ are left, none does, since these collide anyway; only where a capture line may save one, all do.
+    """
+    if not len(place):
+        return lost
+    order = numpy.argsort(place, kind="stable")
+    starts = numpy.flatnonzero(numpy.diff(place[order], prepend=-1))
+    sizes = numpy.diff(starts, append=len(place))
+    gone = numpy.int64(-1)
+    left = numpy.where(lost, gone, packet)[order]
+    most = numpy.repeat(numpy.maximum.reduceat(left, starts), sizes)
+    least = numpy.repeat(numpy.minimum.reduceat(numpy.where(left == gone, packet.max(), left), starts), sizes)
+    counts = (most == gone) | ((least == most) & (packet[order] != most)) | captured[order]
+    changing = numpy.empty(len(place), bool)
+    changing[order] = lost[order] & counts
+    return changing
+
+
+# Drawing.
+
+
+def draw(scenario: AnyScenario, seed: int, *, program: Path | None = None) -> AnyScenario:
+    """The scenario with the losses that its reception ratios (`prr`) have by the coins of the seed.
+
+    Only losses that change who receives are written; what the scenario loses by itself stays. The same scenario and seed give
+    the same losses, and links that are taken out change no coin of the others. The deliveries, the drops and what radios are
+    charged are those of all losses written. Starts of transmissions may differ by a few ticks, since of equal packets the
+    earliest is received that is not lost. Raises `TooManyLosses`, with the frame, where 20,000 script lines don't suffice,
+    and what `program.execute` raises.
+    """
+    head = scenario.text(warn=False)
+    links = _Links(scenario)
+    used_up = len(scenario.rates) + len(scenario.script) + len(scenario.losses) + len(scenario.cuts) + len(scenario.captures)
+    free = lines.SCRIPT_LINES_MOST - used_up
+    if free < 0:
+        raise TooManyLosses(0, 0)
+    drawn = numpy.empty(0, numpy.int64)
+    while True:
+        text = head + "".join(loss.text() + "\n" for loss in _losses_of(drawn))
+        log = _read_log(programs.execute(["log"], text, program=program), lines.frame_ticks(scenario.profile))
+        needed = _needed(log, links, seed)
+        # Up to the first difference all is final, and each run settles at least one step more: so this ends.
+        if numpy.array_equal(needed[:free], drawn):
+            break
+        drawn = needed[:free]
+    if len(needed) > free:
+        raise TooManyLosses(int(unpack(needed[free : free + 1])[0][0]), free)
+    made = scenario.copy()
+    made.losses.extend(_losses_of(drawn))
+    return made
+
+
+def every_loss(scenario: Scenario, seed: int, *, slots: int = 46, steps: int = lines.STEPS) -> list[Loss]:
+    """All losses that the coins of the seed have, in slots and steps below these bounds, needed or not: for small networks.
+
+    They are some `frames * slots * steps * links * (1 - prr)` losses.
+    """
+    links = [link for link in sorted(scenario.links) if link in scenario.prr]
+    if not links:
+        return []
+    senders, receivers = numpy.array(links, numpy.int64).T
+    parts = numpy.indices((scenario.frames, slots, steps, len(links))).reshape(4, -1)
+    keys = pack(parts[0], parts[1], parts[2], senders[parts[3]], receivers[parts[3]])
+    ratios = numpy.array([scenario.prr[link] for link in links])
+    return _losses_of(keys[coin(seed, keys) >= ratios[parts[3]]])
+
+
+def _losses_of(keys: Array) -> list[Loss]:
+    return [Loss(*values) for values in zip(*(column.tolist() for column in unpack(keys)))]
+
+
+# Recorded losses.
+
+
+def read_table(scenario: AnyScenario, source: Any) -> AnyScenario:
+    """The scenario with the losses of a recorded table, a DataFrame or the path of a CSV file.
+
+    A table of lost packets has the columns `seconds` (or `frame`), `slot`, `counter`, `from` and `to`: this packet was lost
+    on this link. A table of missed packets has `seconds` (or `frame`), `slot` and `node`: all links to the node are lost in
+    that slot, in all steps. What is there twice is taken once. Raises `ScenarioError`, which names the row, where a value is out
+    of its range or a node isn't given.
+    """
+    frame = tables.table(source, "losses", ("slot",))
+    columns: tuple[str, ...]
+    if {"counter", "from", "to"} <= set(frame.columns):
+        columns = ("counter", "from", "to")
+    elif "node" in frame.columns:
+        columns = ("node",)
+    else:
+        raise ScenarioError("the table of losses has neither the columns counter, from and to, nor the column node")
+    made = scenario.copy()
+    known = set(made.losses)
+    for where, row in tables.rows(frame, "losses"):
+        try:
+            when = tables.whole(row, "frame") if "frame" in row else scenario.frame_at(float(row["seconds"]))
+            for loss in _recorded(scenario, when, [tables.whole(row, column) for column in ("slot", *columns)]):
+                if loss not in known:
+                    known.add(loss)
+                    made.lose(loss.frame, loss.slot, loss.step, loss.sender, loss.receiver)
+        except KeyError as error:
+            raise ScenarioError(f"{where}: {error} is not given") from error
+        except ValueError as error:
+            raise ScenarioError(f"{where}: {error}") from error
+    return made
+
+
+def _recorded(scenario: Scenario, frame: int, values: list[int]) -> list[Loss]:
+    """The losses of one row: of one packet (slot, counter, sender, receiver), or of all to a node (slot, node)."""
+    slot, *rest = values
+    if len(rest) == 3:
+        return [Loss(frame, slot, *rest)]
+    node = rest[0]
+    if node not in scenario.nodes:
+        raise ScenarioError(f"node {node} is not given")
+    senders = sorted(sender for sender, receiver in scenario.links if receiver == node)
+    return [Loss(frame, slot, step, sender, node) for step in range(lines.STEPS) for sender in senders]

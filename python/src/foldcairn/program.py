@@ -1,0 +1,323 @@
+"""Finds the program foldcairn, runs it on a text, and turns each of its statuses into an answer or an exception.
+
+The program reads a text from its standard input and writes one to its standard output. Nothing is computed here, and the
+output is passed on byte by byte. Tested, not proved.
+"""
+
+from __future__ import annotations
+
+import os
+import re
+import shutil
+import signal as signals
+import subprocess
+import tempfile
+from collections.abc import Sequence
+from pathlib import Path
+from typing import IO
+
+from . import faults
+
+# How many bytes of standard error an exception keeps.
+_STDERR_MOST = 4_000
+# For how many seconds a program that took too long may end by itself, before it is killed.
+_GRACE_SECONDS = 5.0
+
+
+class ProgramError(Exception):
+    """A run without a usable report: the words it was called with, its exit status (None: it did not end by itself), its stderr."""
+
+    def __init__(self, message: str, words: Sequence[str] = (), status: int | None = None, stderr: str = "") -> None:
+        super().__init__(message, tuple(words), status, stderr)
+        self.message = message
+        self.words = tuple(words)
+        self.status = status
+        self.stderr = stderr
+
+    def __str__(self) -> str:
+        return f"{self.message}\n{self.stderr}".rstrip() if self.stderr else self.message
+
+
+class NotFound(ProgramError):
+    """There is no program where it was looked for, or it may not be run."""
+
+
+class Refused(ProgramError):
+    """Status 1: the text was rejected.
+
+    `line` is the first line that is wrong, counted from 1, and None where the text is too long; `kind` is the program's word
+    for the fault, `text_of_line` the line, and `explanation` says in plain words what it should have.
+    """
+
+    def __init__(
+        self,
+        line: int | None,
+        kind: str,
+        text_of_line: str,
+        explanation: str,
+        words: Sequence[str] = (),
+        status: int | None = 1,
+        stderr: str = "",
+    ) -> None:
+        super().__init__(f"{explanation} ({kind})", words, status, stderr)
+        # An exception is pickled by its arguments, and comes back from a process pool by them.
+        self.args = (line, kind, text_of_line, explanation, self.words, status, stderr)
+        self.line = line
+        self.kind = kind
+        self.text_of_line = text_of_line
+        self.explanation = explanation
+
+
+class BadUsage(ProgramError):
+    """Status 2: the words are no command of the program."""
+
+
+class InputUnreadable(ProgramError):
+    """Status 3: the program could not read its input."""
+
+
+class OutputUnwritable(ProgramError):
+    """Status 4: the program could not write its output whole; a full disk is the usual cause."""
+
+
+class OutOfMemory(ProgramError):
+    """Status 5: out of memory. A run keeps its log in memory: fewer nodes or frames, or more memory."""
+
+
+class BadWords(ProgramError):
+    """Status 6: the words of the command are not UTF-8."""
+
+
+class NotBuilt(ProgramError):
+    """Status 126: the script `foldcairn` could not prove or build the program."""
+
+
+class ToolchainMissing(ProgramError):
+    """Status 127: the program is not built, and the toolchain that builds it is missing."""
+
+
+class Killed(ProgramError):
+    """The program was ended by a signal; `signal` is its number, or None where it took longer than its time limit."""
+
+    def __init__(
+        self, message: str, words: Sequence[str] = (), status: int | None = None, stderr: str = "", signal: int | None = None
+    ) -> None:
+        super().__init__(message, words, status, stderr)
+        self.args = (message, self.words, status, stderr, signal)
+        self.signal = signal
+
+
+class CutOutput(ProgramError):
+    """The status was 0, but the output is no whole report: its last line has no end, or lines are missing."""
+
+
+_STATUSES: dict[int, tuple[type[ProgramError], str]] = {
+    2: (BadUsage, "these words are no command"),
+    3: (InputUnreadable, "the program could not read its input"),
+    4: (OutputUnwritable, "the program could not write its output whole; is the disk full?"),
+    5: (OutOfMemory, "out of memory: a run keeps its log, so use fewer nodes or frames, or more memory"),
+    6: (BadWords, "the words of the command are not UTF-8"),
+    126: (NotBuilt, "the program could not be proved or built"),
+    127: (ToolchainMissing, "the program is not built, and the toolchain's command is not on the PATH"),
+}
+
+
+def find() -> Path:
+    """The program to run: what the environment variable FOLDCAIRN names, else the script `foldcairn` of the repository that
+    this package is in, else `foldcairn` of the PATH.
+
+    Raises `NotFound` where there is none, or where FOLDCAIRN names no program.
+    """
+    named = os.environ.get("FOLDCAIRN")
+    if named:
+        found = shutil.which(named)
+        if found is None:
+            raise NotFound(f"the environment variable FOLDCAIRN names no program that can be run: {named}")
+        return Path(found)
+    for folder in Path(__file__).resolve().parents:
+        script = folder / "foldcairn"
+        if (folder / "crates.txt").is_file() and os.access(script, os.X_OK) and script.is_file():
+            return script
+    found = shutil.which("foldcairn")
+    if found is None:
+        raise NotFound(
+            "there is no program foldcairn: set the environment variable FOLDCAIRN to its path, or put it on the PATH"
+        )
+    return Path(found)
+
+
+def execute(
+    words: Sequence[str],
+    text: str | bytes = b"",
+    *,
+    program: Path | None = None,
+    timeout: float | None = None,
+) -> bytes:
+    """The standard output of the program for these words, with `text` as its standard input.
+
+    `timeout` is in seconds; None sets no limit. Raises `Refused` where the text is rejected, `Killed` where a signal ends the
+    program or the time is over, `CutOutput` where the output is not whole, `NotFound` where there is no program, and for each
+    other status its own subclass of `ProgramError`.
+    """
+    data = _bytes_of(text)
+    with _started(words, program, subprocess.PIPE) as process:
+        output, stderr = _talk(process, data, words, timeout)
+    _raise_unless_done(words, process.returncode, data, output, stderr)
+    _check_whole(words, data, output[-1:], _closing_lines(words, output), len(output))
+    return output
+
+
+def execute_to_file(
+    words: Sequence[str],
+    text: str | bytes,
+    path: str | os.PathLike[str],
+    *,
+    program: Path | None = None,
+    timeout: float | None = None,
+) -> Path:
+    """As `execute`, but the standard output goes to the file `path`, for outputs of hundreds of megabytes.
+
+    The file appears whole or not at all: the output is written next to it, and renamed at the end; what was at `path` is kept
+    on every error. Returns `path`. Raises what `execute` raises, and `OSError` where the file can't be made.
+    """
+    target = Path(path)
+    data = _bytes_of(text)
+    handle, name = tempfile.mkstemp(prefix=f".{target.name}.", dir=target.parent)
+    partial = Path(name)
+    try:
+        with os.fdopen(handle, "w+b") as sink:
+            with _started(words, program, sink) as process:
+                _, stderr = _talk(process, data, words, timeout)
+            size = sink.seek(0, os.SEEK_END)
+            sink.seek(0)
+            head = sink.read(4_096) if process.returncode else b""
+            _raise_unless_done(words, process.returncode, data, head, stderr)
+            end = b""
+            if size:
+                sink.seek(size - 1)
+                end = sink.read(1)
+            sink.seek(0)
+            _check_whole(words, data, end, _closing_lines_of_file(words, sink), size)
+        partial.chmod(0o666 & ~_umask())
+        partial.replace(target)
+    except BaseException:
+        partial.unlink(missing_ok=True)
+        raise
+    return target
+
+
+def _umask() -> int:
+    mask = os.umask(0)
+    os.umask(mask)
+    return mask
+
+
+def _bytes_of(text: str | bytes) -> bytes:
+    return text.encode() if isinstance(text, str) else bytes(text)
+
+
+def _started(words: Sequence[str], program: Path | None, stdout: int | IO[bytes]) -> subprocess.Popen[bytes]:
+    path = program if program is not None else find()
+    try:
+        return subprocess.Popen([str(path), *words], stdin=subprocess.PIPE, stdout=stdout, stderr=subprocess.PIPE)
+    except OSError as error:
+        raise NotFound(f"the program {path} can't be run: {error.strerror}", words) from error
+
+
+def _talk(process: subprocess.Popen[bytes], data: bytes, words: Sequence[str], timeout: float | None) -> tuple[bytes, str]:
+    """The output and the standard error of a started program, which is gone at the end, whatever happens."""
+    try:
+        output, stderr = process.communicate(data, timeout)
+    except subprocess.TimeoutExpired:
+        process.terminate()
+        try:
+            process.communicate(timeout=_GRACE_SECONDS)
+        except subprocess.TimeoutExpired:
+            process.kill()
+            process.communicate()
+        raise Killed(f"`{' '.join(words)}` took longer than {timeout} seconds", words) from None
+    except BaseException:
+        process.kill()
+        raise
+    return output or b"", (stderr or b"")[-_STDERR_MOST:].decode("utf-8", "replace")
+
+
+def _raise_unless_done(words: Sequence[str], status: int, data: bytes, output: bytes, stderr: str) -> None:
+    if status == 0:
+        return
+    # A shell that ran the program says 128 and the signal.
+    number = -status if status < 0 else status - 128 if 128 < status <= 192 else 0
+    if number:
+        name = signals.Signals(number).name if number in set(signals.Signals) else f"signal {number}"
+        raise Killed(f"`{' '.join(words)}` was ended by {name}", words, status, stderr, number)
+    if status == 1:
+        raise _refused(words, data, output, stderr)
+    kind, message = _STATUSES.get(status, (ProgramError, f"unknown exit status {status}"))
+    if kind is BadUsage and output:
+        message = f"`{' '.join(words)}` is no command; {output.decode('utf-8', 'replace').strip()}"
+    raise kind(message, words, status, stderr)
+
+
+def _refused(words: Sequence[str], data: bytes, output: bytes, stderr: str) -> ProgramError:
+    answer = output.decode("utf-8", "replace")
+    if answer == "fault too long\n":
+        return Refused(None, "TooLong", "", faults.explain_length(len(data)), words, 1, stderr)
+    match = re.fullmatch(r"fault line (\d+): (\w+)\n", answer)
+    if match is None:
+        return ProgramError("the program ended with status 1 and named no fault", words, 1, stderr)
+    line, kind = int(match[1]), match[2]
+    command = words[0] if words else "run"
+    return Refused(line, kind, faults.line_of(data, line), faults.explain(data, line, kind, command), words, 1, stderr)
+
+
+# The lines that a whole report has: their first word, and whether it has one of them for each node.
+_CLOSING = {
+    "run": (b"energy ", True),
+    "log": (b"energy ", True),
+    "bus": (b"cost ", True),
+    "flood": (b"sent ", False),
+    "demo": (b"on ", False),
+}
+
+
+def _closing_lines(words: Sequence[str], output: bytes) -> int:
+    """How many closing lines (`energy`, `cost`, ..) an output has."""
+    first, _ = _CLOSING.get(words[0] if words else "", (b"", False))
+    if not first:
+        return 0
+    at = 0 if output.startswith(first) else output.find(b"\n" + first) + 1
+    if at == 0 and not output.startswith(first):
+        return 0
+    count = 0
+    while output.startswith(first, at):
+        count += 1
+        at = output.find(b"\n", at) + 1
+        if at == 0:
+            break
+    return count
+
+
+def _closing_lines_of_file(words: Sequence[str], sink: IO[bytes]) -> int:
+    first, _ = _CLOSING.get(words[0] if words else "", (b"", False))
+    count = 0
+    if first:
+        for row in sink:
+            if row.startswith(first):
+                count += 1
+            elif count:
+                break
+    return count
+
+
+def _check_whole(words: Sequence[str], data: bytes, end: bytes, closing: int, size: int) -> None:
+    """Raises `CutOutput` where an output that ends with `end` and has so many closing lines is not whole."""
+    command = " ".join(words)
+    first, for_each_node = _CLOSING.get(words[0] if words else "", (b"", False))
+    if size and end != b"\n":
+        raise CutOutput(f"the output of `{command}` is cut: its last line has no end", words, 0)
+    if not first:
+        return
+    wanted = len(re.findall(rb"^[ \t]*node[ \t]", data, re.MULTILINE)) if for_each_node else 1
+    if closing != wanted:
+        word = first.decode().strip()
+        raise CutOutput(f"the output of `{command}` is cut: it has {closing} of {wanted} `{word}` lines", words, 0)

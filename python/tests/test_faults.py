@@ -1,0 +1,167 @@
+"""Each kind of fault is explained by the word, the range, the earlier line or what is missing."""
+
+from __future__ import annotations
+
+import pytest
+from hypothesis import given, settings
+from hypothesis import strategies as st
+
+from conftest import EXAMPLES
+from foldcairn import faults, program
+from foldcairn.scenario import Scenario, ScenarioError
+
+HEAD = "frames 12\nsends 2\nnode 1 0\nnode 2 0\nhost 0 1\n"
+# The last line of a text, below HEAD; the kind of fault; what its explanation says.
+CASES = [
+    ("piar 1 2", "BadWord", "no line begins with `piar`; did you mean `pair`?"),
+    ("Pair 1 2", "BadWord", "did you mean `pair`?"),
+    ("xyzzy", "BadWord", "the words are profile, contend, frames"),
+    ("start 1", "BadWord", "`start` is a line of another text, which is read by flood"),
+    ("slots 4", "BadWord", "is read by deadlines"),
+    ("node 3", "BadWord", "`node` has 2 values (id of the node, clock offset), and here are 1"),
+    ("link 1 2 # both hear", "BadWord", "a comment has a line of its own"),
+    ("put 0 2 0", "BadWord", "write - for an empty payload"),
+    ("put 0 2 0 abc", "BadWord", "two hexadecimal digits for each byte, and this one has an odd number"),
+    ("put 0 2 0 hello", "BadWord", "hexadecimal digits only"),
+    ("put 0 2 0 0xaa", "BadWord", "without 0x"),
+    ("node 007 0", "BadNumber", "the first value, the id of the node, is no number as texts have them: `007`, it begins with a zero"),
+    ("rate 1 0 -0", "BadNumber", "0 has no sign"),
+    ("node 3 -4", "BadNumber", "it has a sign"),
+    ("stream 0 2 0 4.5", "BadNumber", "it is no whole number"),
+    ("rate 1 12345678901234 0", "BadNumber", "it has more than 13 digits"),
+    ("node x 0", "BadNumber", "it has a character that is no digit"),
+    ("rate 1 0 21", "Range", "the third number, the drift, is from -20 to 20 ppm"),
+    ("node 201 0", "Range", "the first number, the id of the node, is from 1 to 200"),
+    ("node 3 256001", "Range", "the second number, the clock offset, is from 0 to 256,000 ticks of 1/64 µs"),
+    ("put 12 2 0 aa", "Range", "the frame, is from 0 to 11, since the run has 12 frames"),
+    ("lose 0 43 0 1 2", "Range", "the second number, the slot, is from 0 to 42"),
+    ("lose 0 0 12 1 2", "Range", "the third number, the step, is from 0 to 11"),
+    ("stream 0 2 0 121", "Range", "the fourth number, the interval, is from 1 to 120 seconds"),
+    ("stream 0 2 4 4", "Range", "the third number, the stream, is from 0 to 3"),
+    ("host 4 2", "Range", "the first number, the rank, is from 0 to 3"),
+    ("link 2 2", "Range", "the two ids must differ, and both are 2"),
+    ("put 0 2 0 " + "00" * 33, "Range", "the payload, is at most 32 bytes in profile 1, and here are 33"),
+    ("link 1 9", "UnknownNode", "no line above is `node 9 OFFSET`"),
+    ("profile 2", "Order", "`profile` is the first line of the text"),
+    ("contend 2", "Order", "`contend` comes directly below `profile 2`"),
+    ("host 2 2", "Order", "rank 1 is not given above"),
+    ("rate 1 5 1\nrate 1 5 2", "Order", "line 6 has tick 5 for node 1"),
+    ("on 4 1\non 3 2", "Order", "frame 3 comes after frame 4 of line 6; sort these lines by their frames"),
+    ("frames 12", "Twice", "`frames` is given already, by line 1"),
+    ("sends 1", "Twice", "`sends` is given already, by line 2"),
+    ("node 2 5", "Twice", "node 2 is given already, by line 4"),
+    ("host 0 2", "Twice", "the host of rank 0 is given already, by line 5"),
+    ("host 1 1", "Twice", "node 1 as a host is given already, by line 5"),
+    ("link 2 1\npair 1 2", "Twice", "the link from 2 to 1 is given already, by line 6"),
+    ("pair 1 2\nlink 2 1", "Twice", "the link from 2 to 1 is given already, by line 6"),
+    ("lose 0 0 0 1 2\nlose 0 0 0 1 2", "Twice", "this line is given already, by line 6"),
+    ("cut 0 0 0 1\ncut 0 0 0 1", "Twice", "this line is given already, by line 6"),
+    ("node 3 0\ncapture 0 0 0 1 2\ncapture 0 0 0 1 3", "Twice", "receiver is given already, by line 7"),
+    ("\n".join(f"node {node} 0" for node in range(3, 66)), "TooMany", "at most 64 nodes, and this is one more"),
+    ("\n".join(["on 0 1"] * 20_001), "TooMany", "at most 20,000 lines of its script, and this is one more"),
+]  # fmt: skip
+
+
+def refused(text: str | bytes, command: str = "run") -> program.Refused:
+    with pytest.raises(program.Refused) as raised:
+        program.execute([command], text)
+    return raised.value
+
+
+@pytest.mark.parametrize(("lines", "kind", "says"), CASES, ids=[case[0].splitlines()[-1][:24] + " " + case[1] for case in CASES])
+def test_each_fault(lines, kind, says):
+    text = HEAD + lines + "\n"
+    error = refused(text)
+    assert (error.line, error.kind) == (text.count("\n"), kind)
+    assert says in error.explanation
+    assert error.explanation.startswith(f"line {error.line}: `")
+
+
+def test_faults_at_the_end_of_a_text():
+    error = refused("frames 2\n")
+    assert (error.line, error.kind, error.text_of_line) == (2, "Missing", "")
+    assert error.explanation.endswith("lacks a `sends` line and a `node` line and a `host` line")
+    assert refused("frames 2\nsends 1\nnode 1 0\nhost 0 1\n").explanation.endswith("lacks a second `node` line")
+    assert "lacks a `start` line" in refused("sends 1\nnode 1 0\nnode 2 0\n", "flood").explanation
+    assert "lacks a `slots` line" in refused("frames 2\nstream 2 0 0 1 2\n", "deadlines").explanation
+    big = "frames 360\nsends 1\n" + "".join(f"node {node} 0\n" for node in range(1, 65)) + "host 0 1\n"
+    assert "64 nodes times 360 frames are 23,040, and at most 16,384 are run" in refused(big).explanation
+
+
+def test_faults_of_order_and_boots():
+    assert "`frames` comes above all lines that name a frame" in refused("sends 1\nnode 1 0\non 0 1\n").explanation
+    boots = "".join(f"on {frame} 1\noff {frame} 1\n" for frame in range(201))
+    error = refused("frames 300\nsends 1\nnode 1 0\nnode 2 0\nhost 0 1\n" + boots)
+    assert error.kind == "TooMany"
+    assert "at most 200 boots, and this would be one more of node 1" in error.explanation
+
+
+def test_faults_of_bytes():
+    error = refused(b"frames 2\nnode 1 \xff\n")
+    assert error.kind == "NotUtf8"
+    assert "byte 8 of the line, ff, is not UTF-8" in error.explanation
+    assert "byte order mark" in refused("\ufefframes 2\n").explanation
+    assert "carriage return inside" in refused("frames 2\rsends 1\rnode 1 0").explanation
+
+
+def test_the_ranges_of_profile_2():
+    head = "profile 2\ncontend 2\n" + HEAD
+    assert "the slot, is from 0 to 45" in refused(head + "lose 0 46 0 1 2\n").explanation
+    assert "at most 96 bytes in profile 2" in refused(head + "put 0 2 0 " + "00" * 97 + "\n").explanation
+    assert "from 0 to 1,310,720,000,000 ticks" in refused(head + "rate 1 1310720000001 0\n").explanation
+
+
+def test_floods_and_deadlines():
+    assert "the first number, the step, is from 0 to 11" in refused("sends 1\nnode 1 0\nnode 2 0\nlose 12 1 2\n", "flood").explanation
+    assert "`start` is given already, by line 4" in refused("sends 1\nnode 1 0\nnode 2 0\nstart 1\nstart 2\n", "flood").explanation
+    assert "is a line of another text, which is read by run, log and bus" in refused("frames 2\n", "flood").explanation
+    assert "the fourth number, the period, is from 1 to 64 frames" in refused("slots 1\nframes 4\nstream 2 0 0 0 2\n", "deadlines").explanation
+    twice = "slots 1\nframes 4\nstream 2 0 0 2 2\nstream 2 0 0 2 1\n"
+    assert "stream 0 of node 2 is given already, by line 3" in refused(twice, "deadlines").explanation
+
+
+def test_a_text_that_does_not_show_the_fault():
+    assert faults.explain("frames 2\n", 1, "Range") == "line 1: `frames 2`: fault of kind Range"
+    assert faults.explain("", 7, "NewKind") == "line 7: fault of kind NewKind"
+    assert faults.explain("", 1, "NotUtf8") == "line 1: fault of kind NotUtf8"
+
+
+# Texts that are near to scenarios: a line of an example has one word replaced, is taken out, or comes twice.
+EXAMPLE_TEXTS = [path.read_text().splitlines() for path in sorted(EXAMPLES.glob("*.scenario"))]
+WORDS = ["0", "1", "2", "3", "4", "9", "42", "46", "200", "4097", "-1", "-20", "01", "x", "aa", "-", "profile", "pair", "put", ""]
+
+
+@st.composite
+def near_texts(draw):
+    rows = list(draw(st.sampled_from(EXAMPLE_TEXTS)))
+    at = draw(st.integers(0, len(rows) - 1))
+    words = rows[at].split()
+    match draw(st.sampled_from(["word", "word", "word", "out", "twice", "move"])):
+        case "word" if words:
+            words[draw(st.integers(0, len(words) - 1))] = draw(st.sampled_from(WORDS))
+            rows[at] = " ".join(words)
+        case "out":
+            del rows[at]
+        case "twice":
+            rows.insert(draw(st.integers(0, len(rows))), rows[at])
+        case "move":
+            rows.insert(draw(st.integers(0, len(rows) - 1)), rows.pop(at))
+    return "\n".join(rows) + "\n"
+
+
+@settings(max_examples=300)
+@given(near_texts())
+def test_whatever_is_refused_is_explained(text):
+    try:
+        program.execute(["bus"], text)
+        fault = None
+    except program.Refused as error:
+        fault = error
+        assert "fault of kind" not in error.explanation
+    # `read` names the same line and says the same; only the order of hosts, rates and the script is none of its faults.
+    try:
+        Scenario.read(text)
+        assert fault is None or fault.kind in ("Order", "TooMany", "TooBig")
+    except ScenarioError as error:
+        assert fault is not None
+        assert fault.kind == "Order" or str(error) == fault.explanation

@@ -1,0 +1,93 @@
+#!/bin/sh
+# Installs what the Python package in python/ needs: Debian's packages of pandas, networkx, matplotlib, plotly, pytest and
+# hypothesis, for Debian's /usr/bin/python3.
+#
+# Usage: tools/setup-python.sh [--check | --print]
+#
+# Without a word it installs what is missing, by apt-get, as root or by sudo where sudo asks for no password. With --check it
+# installs nothing. With --print it writes the path of the first Python that has all of them (/usr/bin/python3 is tried first)
+# and nothing else. Status 0 if all is there at the end; 1 if something is missing, and then the missing modules and the
+# command that installs them are named on standard error; 2 for other words. Tested, not proved.
+set -u
+
+modules='pandas networkx matplotlib plotly pytest hypothesis'
+debian=/usr/bin/python3
+
+say() {
+    echo "setup-python.sh: $*" >&2
+}
+
+# The modules that a Python lacks, or all where it is none or older than 3.11.
+missing_of() {
+    "$1" - $modules 2>/dev/null <<'PYTHON' || echo "$modules"
+import importlib.util
+import sys
+
+if sys.version_info < (3, 11):
+    sys.exit(1)
+print(*(name for name in sys.argv[1:] if importlib.util.find_spec(name) is None))
+PYTHON
+}
+
+# The path of the first Python that lacks nothing.
+complete() {
+    for python in "$debian" "$(command -v python3 || true)"; do
+        if [ -n "$python" ] && [ -x "$python" ] && [ -z "$(missing_of "$python")" ]; then
+            echo "$python"
+            return 0
+        fi
+    done
+    return 1
+}
+
+# Runs a command as root, or fails where that is not allowed.
+as_root() {
+    if [ "$(id -u)" -eq 0 ]; then
+        "$@"
+    elif command -v sudo >/dev/null 2>&1 && sudo -n true 2>/dev/null; then
+        sudo -n "$@"
+    else
+        say "this user may not install packages"
+        return 1
+    fi
+}
+
+# Installs the Debian packages whose names are given.
+install_packages() {
+    if ! command -v apt-get >/dev/null 2>&1; then
+        say "there is no apt-get on this system"
+        return 1
+    fi
+    as_root env DEBIAN_FRONTEND=noninteractive apt-get -q update >&2 || say "the package lists could not be updated"
+    as_root env DEBIAN_FRONTEND=noninteractive apt-get -q -y -o DPkg::Lock::Timeout=300 --no-install-recommends install "$@" >&2
+}
+
+mode=${1:-}
+[ $# -le 1 ] || mode=unknown
+case $mode in
+    '' | --check | --print) ;;
+    *)
+        say "usage: tools/setup-python.sh [--check | --print]"
+        exit 2
+        ;;
+esac
+
+if ! python=$(complete) && [ -z "$mode" ]; then
+    packages=$(for module in $(missing_of "$debian"); do echo "python3-$module"; done)
+    # The names have no spaces, and each is a word of its own.
+    # shellcheck disable=SC2086
+    install_packages python3 python3-setuptools $packages
+    python=$(complete)
+fi
+
+if [ -z "$python" ]; then
+    say "missing in $debian: $(missing_of "$debian")"
+    say "install on Debian or Ubuntu: apt-get install python3$(for module in $modules; do printf ' python3-%s' "$module"; done)"
+    say "elsewhere: pip install $modules"
+    exit 1
+fi
+if [ "$mode" = --print ]; then
+    echo "$python"
+else
+    say "$python has what the package needs"
+fi
