@@ -19,7 +19,7 @@ from .program import CutOutput
 Columns = Mapping[str, str]
 
 _BLOCK_BYTES = 1 << 24
-_LINE_FEED = 10
+_LINE_FEED, _SPACE = 10, 32
 # So many bytes of a line tell which word it begins with.
 _HEAD_BYTES = 3
 
@@ -58,8 +58,11 @@ def _read_block(block: np.ndarray, lines: Mapping[str, Columns], parts: dict[str
         ours = heads == int.from_bytes(word.encode()[:_HEAD_BYTES], "big")
         if ours.any():
             known |= ours
-            text = block[np.repeat(ours, ends - starts)].tobytes()
-            parts[word].append(_read_lines(text, word, columns))
+            text = block[np.repeat(ours, ends - starts)]
+            # pandas takes further words for an index, and says nothing.
+            if np.count_nonzero(text == _SPACE) != len(columns) * np.count_nonzero(ours):
+                raise UnknownLine(f"a `{word}` line has other words than {', '.join(columns)}")
+            parts[word].append(_read_lines(text.tobytes(), word, columns))
     if not known.all():
         line = int(np.argmin(known))
         raise UnknownLine(f"unknown line {block[starts[line] : ends[line] - 1].tobytes()!r}")
@@ -70,7 +73,7 @@ def _read_lines(text: bytes, word: str, columns: Columns) -> pd.DataFrame:
     try:
         table = pd.read_csv(BytesIO(text), sep=" ", header=None, names=list(types), dtype=types, na_filter=False, index_col=False)
     except (ValueError, pd.errors.ParserError) as error:
-        raise UnknownLine(f"a `{word}` line has other words than {', '.join(columns) or 'none'}: {error}") from error
+        raise UnknownLine(f"a `{word}` line has other words than {', '.join(columns)}: {error}") from error
     first = table.pop("word")
     if list(first.cat.categories) != [word]:
         raise UnknownLine(f"a line begins with {first.cat.categories[0]!r} in place of {word!r}")
