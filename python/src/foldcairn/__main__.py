@@ -8,7 +8,7 @@ import warnings
 from collections.abc import Callable, Sequence
 from pathlib import Path
 
-from . import program
+from . import program, report
 from .scenario import Scenario, ScenarioError, ScenarioWarning
 
 # Exit statuses: 0 done; 1 the text is rejected, or what was asked for can't be had; 2 the words are no command.
@@ -153,7 +153,7 @@ def _explain(chosen: argparse.Namespace) -> int:
     return 0
 
 
-_COMMANDS = (_add_draw, _add_sweep, _add_explain)
+_COMMANDS = (report.add_command, _add_draw, _add_sweep, _add_explain)
 
 if __name__ == "__main__":
     sys.exit(main())
