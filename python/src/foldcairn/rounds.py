@@ -92,7 +92,8 @@ def streams(log: Log) -> pd.DataFrame:
     accepted_seconds         when the host first acknowledged one; for a stream of the host itself, when it first planned a slot
     first_slot_seconds       when the stream's first data slot in the term started by plan
     slots, packets           how many data slots it had in the term, and in how many of them a packet was sent
-    Times are missing where it never came to it.
+    Times are missing where it never came to it. After a restart of its node a stream may still own slots that its earlier boot
+    was granted; they count for the boot that has power then.
     """
     opened = rounds(log)
     terms = opened.groupby(TERM, as_index=False).agg(
