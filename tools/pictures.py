@@ -152,14 +152,19 @@ def radio_rows(picture, run, begin, end, y, numbers):
         for _, start, stop in run.tuned[node]:
             bar("listening", start, stop, y, f"on from {start} to {stop}")
         for _, start, stop, packet in run.heard[node]:
-            bar("hearing", start, stop, y, f"hears {packet.hex()}", packet)
+            bar("hearing", start, stop, y, f"receives {packet.hex()}", packet)
         for _, start, stop, packet in run.sent[node]:
-            bar("sending", start, stop, y, f"sends {packet.hex()}", packet)
+            bar("sending", start, stop, y, f"transmits {packet.hex()}", packet)
         y += ROW
     return y
 
 
-STATES = [("sending", "sends"), ("hearing", "hears"), ("listening", "listens"), ("ground", "nothing drawn: radio off")]
+STATES = [
+    ("sending", "transmits"),
+    ("hearing", "receives"),
+    ("listening", "listens"),
+    ("ground", "nothing drawn: radio off"),
+]
 
 
 def time_axis(picture, begin, end, y, step, unit, words, numbers):
@@ -232,14 +237,16 @@ def run_picture(run, title):
             # A schedule with the counter 0 and the gap 0 opens a round.
             if packet[0] in (1, 4) and counter_of(packet) == 0 and packet[3] % 16 == 0:
                 picture.box("sending", at(start) - 1.5, y - 4, 3, BAR + 8, f"opens a round at {start}")
-        for frame in [frame for frame, _, _, receiver in run.delivered if receiver == node]:
-            picture.dot("delivery", at(frame * run.frame + 1.9 * SECOND), y + BAR / 2, 4, f"delivers in frame {frame}")
+        for frame in sorted({frame for frame, _, _, receiver in run.delivered if receiver == node}):
+            picture.dot("delivery", at(frame * run.frame + 1.1 * SECOND), y + BAR / 2, 4, f"delivers in frame {frame}")
         y += ROW
     entries = [("listening", "radio on, channel of rank 0")]
     if any(rank for node in run.nodes for rank, _, _ in run.tuned[node]):
         entries.append(("backup", "radio on, channel of rank 1"))
-    entries += [("sending", "opens a round"), ("delivery", "delivers a packet"), ("ground", "nothing drawn: radio off")]
-    picture.key(bottom + 40, entries)
+    entries.append(("sending", "opens a round"))
+    if run.delivered:
+        entries.append(("delivery", "delivers packets"))
+    picture.key(bottom + 40, [*entries, ("ground", "nothing drawn: radio off")])
     return picture.written(bottom + 56)
 
 
@@ -568,10 +575,8 @@ def pictures(program):
     yield "round", round_picture(line, 9, plain, "The round of frame 9 of packets-along-a-line: what each radio does")
     yield "slot", slot_picture(line, 9, 1, 8, "Slot 1 of that round: the packet of node 4 goes to node 1 in three steps")
     meeting = Run(program, example("two-contenders.scenario"))
-    title = "Slot 1 of frame 5 of two-contenders: two requests start in step 0, and node 1 hears neither"
+    title = "Slot 1 of frame 5 of two-contenders: two requests start in step 0, and node 1 receives neither"
     yield "contention", slot_picture(meeting, 5, 1, 8, title)
-    takeover = Run(program, example("backup-host-takes-over.scenario"))
-    yield "takeover", run_picture(takeover, "backup-host-takes-over: the host goes off in frame 6, and node 2 hosts from 27")
 
     def tutorial(name):
         return Run(program, from_page("docs/TUTORIAL.md", name))
