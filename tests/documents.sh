@@ -1,12 +1,13 @@
 #!/usr/bin/env bash
 # Runs what the documents show and says where the program writes something else. It takes the fenced blocks of README.md and
 # of the pages below docs:
-# - a block `console` has commands, each behind `$ `, with what they write on both streams. A line `> ` right below a command
-#   goes on with it. Every command is run, and its output compared to the byte.
+# - a block `console` has commands, each on a line after `$ `, with what they write on both streams. Every command is run, and
+#   its output compared to the byte. No command goes on in a second line, so that each can be copied.
 # - a block `text NAME`, NAME having a dot, is put into the file NAME for the commands below it.
 # - a block `sh` is not run, since it asks for a network, another machine or much time; only its grammar is tried.
 # Each page has a folder of its own, with the program as ./foldcairn and with examples, tools and bench beside it. Where
-# python3 is there, the pictures are drawn and the public calls are listed once more, and compared too.
+# python3 is there, the pictures are drawn and the public calls are listed once more, and compared too; and the words of the
+# pages are counted.
 # Usage: tests/documents.sh PROGRAM [PAGE ..]. The last line is 'N passed, M failed', and the status is 0 where M is 0.
 set -u
 top=$(cd "$(dirname "$0")/.." && pwd) || exit 1
@@ -69,17 +70,9 @@ console_line() {
             command=${1#??}
             place=$number
             : > "$folder/wanted"
-            more=1
             return
             ;;
-        '> '*)
-            if [ "$more" = 1 ]; then
-                command+=$'\n'${1#??}
-                return
-            fi
-            ;;
     esac
-    more=0
     printf '%s\n' "$1" >> "$folder/wanted"
 }
 
@@ -104,7 +97,6 @@ begin_block() {
     read -r kind name <<< "${1#\`\`\`}"
     place=$number
     command=
-    more=0
     case $kind in
         sh) target=$folder/shell ;;
         text)
@@ -201,11 +193,25 @@ calls() {
     fi
 }
 
+# The pages are to be written in the words of the field.
+words() {
+    if ! command -v python3 > "$folder/written"; then
+        return
+    fi
+    if python3 "$top/tools/words.py" > "$folder/written"; then
+        counts_pass
+    else
+        counts_failure "the pages have too many words that an engineer would not expect: tools/words.py --list"
+        cat "$folder/written"
+    fi
+}
+
 cd "$top" || exit 1
 if [ $# -eq 0 ]; then
     set -- README.md docs/*.md docs/internals/*.md
     pictures
     calls
+    words
 fi
 for one; do
     read_page "$one"

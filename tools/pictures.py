@@ -1,12 +1,13 @@
 #!/usr/bin/env python3
 """Draws the pictures of the documents from what the program writes.
 
-Usage: tools/pictures.py PROGRAM [FOLDER]. PROGRAM is the built program, FOLDER is docs/pictures if none is given. Each
-picture but two shows a run of an example, or of a text that stands in docs/TUTORIAL.md: the program's `log` says what was
-sent and heard, and when each radio was on. The picture of the guard time is drawn from the numbers of the profiles, that of
-the crates from a list. Only Python's standard library is used.
+Usage: tools/pictures.py PROGRAM [FOLDER]. PROGRAM is the built program, FOLDER is docs/pictures if none is given. Most
+pictures show a run of an example, or of a text in docs/TUTORIAL.md or docs/SCENARIO.md: the program's `log` says what was
+sent and heard, and when each radio was on. The picture of the guard time is drawn from the numbers of the profiles, those
+of the states and of the crates from lists. Only Python's standard library is used.
 """
 
+import math
 import pathlib
 import re
 import subprocess
@@ -54,6 +55,15 @@ class Picture:
 
     def dot(self, kind, x, y, radius, hint):
         self.shapes.append(f'<circle class="{kind}" cx="{x:.1f}" cy="{y:.1f}" r="{radius}"><title>{hint}</title></circle>')
+
+    def arrow(self, x1, y1, x2, y2):
+        """A line with its head at the second point."""
+        self.line("box", x1, y1, x2, y2)
+        length = math.hypot(x2 - x1, y2 - y1)
+        along, across = ((x2 - x1) / length, (y2 - y1) / length), ((y1 - y2) / length, (x2 - x1) / length)
+        for side in (1, -1):
+            back = [end - 9 * a + side * 4 * b for end, a, b in zip((x2, y2), along, across)]
+            self.line("box", x2, y2, *back)
 
     def key(self, y, entries):
         """What the colours mean."""
@@ -142,14 +152,19 @@ def radio_rows(picture, run, begin, end, y, numbers):
         for _, start, stop in run.tuned[node]:
             bar("listening", start, stop, y, f"on from {start} to {stop}")
         for _, start, stop, packet in run.heard[node]:
-            bar("hearing", start, stop, y, f"hears {packet.hex()}", packet)
+            bar("hearing", start, stop, y, f"receives {packet.hex()}", packet)
         for _, start, stop, packet in run.sent[node]:
-            bar("sending", start, stop, y, f"sends {packet.hex()}", packet)
+            bar("sending", start, stop, y, f"transmits {packet.hex()}", packet)
         y += ROW
     return y
 
 
-STATES = [("sending", "sends"), ("hearing", "hears"), ("listening", "listens"), ("ground", "nothing drawn: radio off")]
+STATES = [
+    ("sending", "transmits"),
+    ("hearing", "receives"),
+    ("listening", "listens"),
+    ("ground", "nothing drawn: radio off"),
+]
 
 
 def time_axis(picture, begin, end, y, step, unit, words, numbers):
@@ -222,15 +237,99 @@ def run_picture(run, title):
             # A schedule with the counter 0 and the gap 0 opens a round.
             if packet[0] in (1, 4) and counter_of(packet) == 0 and packet[3] % 16 == 0:
                 picture.box("sending", at(start) - 1.5, y - 4, 3, BAR + 8, f"opens a round at {start}")
-        for frame in [frame for frame, _, _, receiver in run.delivered if receiver == node]:
-            picture.dot("delivery", at(frame * run.frame + 1.9 * SECOND), y + BAR / 2, 4, f"delivers in frame {frame}")
+        for frame in sorted({frame for frame, _, _, receiver in run.delivered if receiver == node}):
+            picture.dot("delivery", at(frame * run.frame + 1.1 * SECOND), y + BAR / 2, 4, f"delivers in frame {frame}")
         y += ROW
     entries = [("listening", "radio on, channel of rank 0")]
     if any(rank for node in run.nodes for rank, _, _ in run.tuned[node]):
         entries.append(("backup", "radio on, channel of rank 1"))
-    entries += [("sending", "opens a round"), ("delivery", "delivers a packet"), ("ground", "nothing drawn: radio off")]
-    picture.key(bottom + 40, entries)
+    entries.append(("sending", "opens a round"))
+    if run.delivered:
+        entries.append(("delivery", "delivers packets"))
+    picture.key(bottom + 40, [*entries, ("ground", "nothing drawn: radio off")])
     return picture.written(bottom + 56)
+
+
+# Where the nodes of ten-nodes.scenario of docs/SCENARIO.md are drawn, in columns and rows.
+GRID = {1: (0, 0), 2: (1, 0), 3: (2, 0), 4: (3, 0), 5: (0, 1), 6: (1, 1), 7: (2, 1), 8: (3, 1), 9: (2, 2), 10: (3, 2)}
+
+
+def hops_from(node, links):
+    """The number of hops from a node to each other that its packets can reach."""
+    hops = {node: 0}
+    waiting = [node]
+    while waiting:
+        here = waiting.pop(0)
+        for sender, receiver in sorted(links):
+            if sender == here and receiver not in hops:
+                hops[receiver] = hops[here] + 1
+                waiting.append(receiver)
+    return hops
+
+
+def network_picture(run, grid, title):
+    """The nodes and links of a network, with its hosts and the hops of each node from the host of rank 0."""
+    picture = Picture(title)
+    picture.text(LEFT, 22, title)
+    places = {node: (LEFT + 60 + 200 * column, 70 + 84 * row) for node, (column, row) in grid.items()}
+    pairs = [tuple(map(int, words)) for words in run.values("pair")]
+    links = [tuple(map(int, words)) for words in run.values("link")]
+    hosts = {int(node): int(rank) for rank, node in run.values("host")}
+    for first, second in pairs:
+        picture.line("box", *places[first], *places[second])
+    for sender, receiver in links:
+        (x1, y1), (x2, y2) = places[sender], places[receiver]
+        short = 17 / math.hypot(x2 - x1, y2 - y1)
+        picture.arrow(x1, y1, x2 - (x2 - x1) * short, y2 - (y2 - y1) * short)
+    first_host = next(node for node, rank in hosts.items() if rank == 0)
+    hops = hops_from(first_host, links + pairs + [(second, first) for first, second in pairs])
+    for node, (x, y) in places.items():
+        kind = {0: "sending", 1: "backup"}.get(hosts.get(node), "hearing")
+        picture.dot(kind, x, y, 16, f"node {node}")
+        picture.text(x, y + 4, str(node), "inside", "middle")
+        words = "host" if node == first_host else f"{hops[node]} hop{'s' if hops[node] > 1 else ''}"
+        picture.text(x + 21, y - 8, words, "small")
+    bottom = max(y for _, y in places.values()) + 52
+    entries = [("sending", "host of rank 0"), ("backup", "host of rank 1, the backup host"), ("hearing", "other nodes")]
+    picture.key(bottom, entries)
+    picture.text(LEFT + 560, bottom, "line: a link in both directions; arrow: in one", "small")
+    return picture.written(bottom + 16)
+
+
+def states_picture():
+    """The states of a node, and what leads from one to another."""
+    title = "The states of a node"
+    picture = Picture(title)
+    picture.text(24, 26, title)
+
+    def state(x, y, wide, name, *lines):
+        picture.box("box", x, y, wide, 30 + 15 * len(lines))
+        picture.text(x + wide / 2, y + 20, name, "", "middle")
+        for index, words in enumerate(lines):
+            picture.text(x + wide / 2, y + 37 + 15 * index, words, "small", "middle")
+
+    def note(x, y, *lines, anchor="middle"):
+        for index, words in enumerate(lines):
+            picture.text(x, y + 14 * index, words, "small", anchor)
+
+    state(24, 140, 100, "off", "radio off")
+    state(270, 130, 190, "scanning for a rank", "radio on all the time,", "on the channel of that rank")
+    state(780, 62, 204, "synchronized", "knows the frame of the next", "round; radio on in its slots")
+    state(780, 204, 204, "hosting", "plans the rounds of its rank;", "radio on in its slots")
+    picture.arrow(124, 164, 270, 164)
+    note(197, 142, "power-on:", "scans for rank 0")
+    picture.arrow(460, 142, 780, 78)
+    note(600, 78, "receives a closing schedule of that rank")
+    picture.arrow(780, 106, 460, 160)
+    note(640, 152, "misses the closing schedule of its round", anchor="start")
+    picture.arrow(460, 180, 780, 236)
+    note(470, 226, "own rank, 5 frames", "without a schedule", anchor="start")
+    picture.line("box", 330, 190, 330, 226)
+    picture.line("box", 330, 226, 400, 226)
+    picture.arrow(400, 226, 400, 190)
+    note(365, 244, "12 frames without a schedule:", "the next rank")
+    note(24, 292, "An off line leads from every state to off: the node forgets everything but how often it was powered on.", anchor="start")
+    return picture.written(306)
 
 
 def energy_picture(run, title):
@@ -468,6 +567,7 @@ def from_page(page, name):
 
 def pictures(program):
     yield "guard", guard_picture()
+    yield "states", states_picture()
     yield "crates", crates_picture()
     line = Run(program, example("packets-along-a-line.scenario"))
     plain = ["opening", "data, node 4", "contention", "closing"]
@@ -475,10 +575,8 @@ def pictures(program):
     yield "round", round_picture(line, 9, plain, "The round of frame 9 of packets-along-a-line: what each radio does")
     yield "slot", slot_picture(line, 9, 1, 8, "Slot 1 of that round: the packet of node 4 goes to node 1 in three steps")
     meeting = Run(program, example("two-contenders.scenario"))
-    title = "Slot 1 of frame 5 of two-contenders: two requests start in step 0, and node 1 hears neither"
+    title = "Slot 1 of frame 5 of two-contenders: two requests start in step 0, and node 1 receives neither"
     yield "contention", slot_picture(meeting, 5, 1, 8, title)
-    takeover = Run(program, example("backup-host-takes-over.scenario"))
-    yield "takeover", run_picture(takeover, "backup-host-takes-over: the host goes off in frame 6, and node 2 hosts from 27")
 
     def tutorial(name):
         return Run(program, from_page("docs/TUTORIAL.md", name))
@@ -489,6 +587,9 @@ def pictures(program):
     yield "a-lost-link", run_picture(lost, "a-lost-link: node 2 misses opening and closing of frame 9 and scans")
     backup = tutorial("a-backup-host.scenario")
     yield "a-backup-host", run_picture(backup, "a-backup-host: node 1 goes off, and node 2 becomes the host")
+    ten = Run(program, from_page("docs/SCENARIO.md", "ten-nodes.scenario"))
+    yield "network", network_picture(ten, GRID, "ten-nodes: a network of ten nodes")
+    yield "failover", run_picture(ten, "ten-nodes: the host, node 1, goes off in frame 16, and node 6 hosts from frame 35")
     yield "energy", energy_picture(backup, "a-backup-host: how long each radio was on in 128 seconds")
 
 
