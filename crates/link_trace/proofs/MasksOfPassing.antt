@@ -5,13 +5,9 @@ use Rattle.std.specs.List.{filter, list_any}
 use Rattle.link_trace.specs.declared.lines.LoseLine.{LoseLine}
 use Rattle.link_trace.specs.declared.lines.CutLine.{CutLine}
 use Rattle.link_trace.specs.Masks.{IsMask}
-use Rattle.link_trace.specs.Passes.{Lines, is_link, is_loss, is_of_step, cuts_by, cut_off, passes}
+use Rattle.link_trace.specs.Passes.{Lines, is_link, is_loss, cuts_by, cut_off, passes}
 use Rattle.link_trace.proofs.MaskBits.{empty_mask, same_tests, removed}
-use Rattle.link_trace.proofs.Together.{list_any-filter, one_of_these}
-
-pub grouped : (a b c : Bool) → (a && (b && c)) ≡ (a && b && c)
-grouped true b c = refl
-grouped false b c = refl
+use Rattle.link_trace.proofs.Together.{one_of_these}
 
 -- where no line loses a link or cuts a node off, each link passes
 pub each_passes : (t : Lines) (f j k from to : ℕ) → t.losses ≡ [] → t.cuts ≡ [] → list_any (is_link from to) t.links ≡ passes t f j k from to
@@ -31,15 +27,10 @@ module _ (t : Lines) (f j k to : ℕ) where
   linked from = list_any (is_link from to) t.links
 
   abbrev lost : ℕ → Bool
-  lost from = list_any (λ (l : LoseLine). (l.from == from) && (l.to == to)) (filter (is_of_step f j k) t.losses)
+  lost from = list_any (is_loss f j k from to) t.losses
 
   abbrev cut : ℕ → Bool
   cut node = list_any (λ (l : CutLine). l.node == node) (filter (cuts_by f j k) t.cuts)
-
-  lost_is : (from : ℕ) → lost from ≡ list_any (is_loss f j k from to) t.losses
-  lost_is from =
-      list_any-filter (is_of_step f j k) (λ (l : LoseLine). (l.from == from) && (l.to == to)) t.losses
-      ∙ (λ i. list_any (λ (l : LoseLine). grouped (is_of_step f j k l) (l.from == from) (l.to == to) i) t.losses)
 
   cut_is : (node : ℕ) → cut node ≡ cut_off t.cuts f j k node
   cut_is node = one_of_these f j k node t.cuts
@@ -55,7 +46,6 @@ module _ (t : Lines) (f j k to : ℕ) where
   passing_is : (from : ℕ) → cut to ≡ false → (linked from && not (lost from) && not (cut from)) ≡ passes t f j k from to
   passing_is from none =
       left_is (linked from) (lost from) (cut from) (cut to) none
-      ∙ ap (λ (b : Bool). linked from && not b && not (cut from) && not (cut to)) (lost_is from)
       ∙ ap (λ (b : Bool). linked from && not (list_any (is_loss f j k from to) t.losses) && not b && not (cut to)) (cut_is from)
       ∙ ap (λ (b : Bool). linked from && not (list_any (is_loss f j k from to) t.losses) && not (cut_off t.cuts f j k from) && not b) (cut_is to)
 

@@ -2,28 +2,22 @@
 use Rattle.std.proofs.Common.{◌≡◌, ℕ, ◌^◌, ◌<◌, ◌≤◌, List, [], Bool, true, false, not, ◌&&◌, ◌==◌, length, bit_and, w64, refl, sym, ◌∙◌, ap}
 use Rattle.std.specs.Int.{bit_not}
 use Rattle.std.specs.List.{filter, list_any}
-use Rattle.link_trace.specs.declared.lines.LoseLine.{LoseLine}
 use Rattle.link_trace.specs.declared.lines.CutLine.{CutLine}
 use Rattle.link_trace.specs.Masks.{IsMask}
-use Rattle.link_trace.specs.Passes.{Lines, is_link, is_loss, is_of_step, cuts_by, cut_off, passes}
+use Rattle.link_trace.specs.Passes.{Lines, is_link, is_loss, cuts_by, cut_off, passes}
 use Rattle.link_trace.proofs.MaskBits.{empty_mask, same_tests, removed}
-use Rattle.link_trace.proofs.MasksOfPassing.{each_passes, grouped}
-use Rattle.link_trace.proofs.Together.{list_any-filter, one_of_these}
+use Rattle.link_trace.proofs.MasksOfPassing.{each_passes}
+use Rattle.link_trace.proofs.Together.{one_of_these}
 
 module _ (t : Lines) (f j k from : ℕ) where
   abbrev linked : ℕ → Bool
   linked to = list_any (is_link from to) t.links
 
   abbrev lost : ℕ → Bool
-  lost to = list_any (λ (l : LoseLine). (l.from == from) && (l.to == to)) (filter (is_of_step f j k) t.losses)
+  lost to = list_any (is_loss f j k from to) t.losses
 
   abbrev cut : ℕ → Bool
   cut node = list_any (λ (l : CutLine). l.node == node) (filter (cuts_by f j k) t.cuts)
-
-  lost_is : (to : ℕ) → lost to ≡ list_any (is_loss f j k from to) t.losses
-  lost_is to =
-      list_any-filter (is_of_step f j k) (λ (l : LoseLine). (l.from == from) && (l.to == to)) t.losses
-      ∙ (λ i. list_any (λ (l : LoseLine). grouped (is_of_step f j k l) (l.from == from) (l.to == to) i) t.losses)
 
   cut_is : (node : ℕ) → cut node ≡ cut_off t.cuts f j k node
   cut_is node = one_of_these f j k node t.cuts
@@ -39,7 +33,6 @@ module _ (t : Lines) (f j k from : ℕ) where
   reaching_is : (to : ℕ) → cut from ≡ false → (linked to && not (lost to) && not (cut to)) ≡ passes t f j k from to
   reaching_is to none =
       left_is (linked to) (lost to) (cut from) (cut to) none
-      ∙ ap (λ (b : Bool). linked to && not b && not (cut from) && not (cut to)) (lost_is to)
       ∙ ap (λ (b : Bool). linked to && not (list_any (is_loss f j k from to) t.losses) && not b && not (cut to)) (cut_is from)
       ∙ ap (λ (b : Bool). linked to && not (list_any (is_loss f j k from to) t.losses) && not (cut_off t.cuts f j k from) && not b) (cut_is to)
 

@@ -1,5 +1,5 @@
 -- The numbers of the slots of lines: they rise with the lines, and a line of a step is of its slot.
-use Rattle.std.proofs.Common.{◌≡◌, ℕ, ◌+◌, ◌*◌, ◌<◌, ◌≤◌, Bool, true, ◌&&◌, ◌||◌, ◌==◌, nat_lt, nat_le, min, List, length, get_or, sym, arith, inl, inr}
+use Rattle.std.proofs.Common.{◌≡◌, ℕ, ◌*◌, ◌<◌, ◌≤◌, true, ◌&&◌, ◌||◌, ◌==◌, nat_lt, nat_le, List, get_or, arith, inl, inr}
 use Rattle.std.proofs.lemmas.Bool.{cases_lt, lt-ltb, le-ltb}
 use Rattle.std.proofs.lemmas.Bool.Decides.{nat_tests}
 use Rattle.std.specs.List.{AllPairs}
@@ -7,7 +7,7 @@ use Rattle.link_trace.specs.declared.lines.LoseLine.{LoseLine}
 use Rattle.link_trace.specs.declared.lines.CutLine.{CutLine}
 use Rattle.link_trace.specs.declared.lines.CaptureLine.{CaptureLine}
 use Rattle.link_trace.specs.Order.{Ascends, by_loss, by_cut, by_capture}
-use Rattle.link_trace.specs.Passes.{cuts_by, is_capture, is_of_step}
+use Rattle.link_trace.specs.Passes.{cuts_by, is_capture, is_loss}
 use Rattle.link_trace.specs.Starts.{of_capture, of_cut, of_loss, slot_number}
 use Rattle.link_trace.proofs.Together.{Rises, steps_rise}
 
@@ -69,14 +69,14 @@ in_frame_to f j k l is = upto f j l.frame l.slot (frame l.frame l.slot l.step is
 at : (f j g i : ℕ) → g ≡ f → i ≡ j → (slot_number f j ≤ slot_number g i) × (slot_number g i ≤ slot_number f j)
 at f j g i frame slot = (rise f j g i (omega arith) (λ same. omega arith), rise g i f j (omega arith) (λ same. omega arith))
 
-pub at_step : (f j k : ℕ) (l : LoseLine) → is_of_step f j k l ≡ true → (slot_number f j ≤ of_loss l) × (of_loss l ≤ slot_number f j)
-at_step f j k l is = at f j l.frame l.slot (frame l.frame l.slot l.step is) (slot l.frame l.slot l.step is)
+pub at_loss : (f j k u v : ℕ) (l : LoseLine) → is_loss f j k u v l ≡ true → (slot_number f j ≤ of_loss l) × (of_loss l ≤ slot_number f j)
+at_loss f j k u v l is = at f j l.frame l.slot (frame l.frame l.slot l.step l.from l.to is) (slot l.frame l.slot l.step l.from l.to is)
   where
-    frame : (g i h : ℕ) → ((g == f) && (i == j) && (h == k)) ≡ true → g ≡ f
-    frame g i h is = grind (arith, nat_tests)
+    frame : (g i h x y : ℕ) → ((g == f) && (i == j) && (h == k) && (x == u) && (y == v)) ≡ true → g ≡ f
+    frame g i h x y is = grind (arith, nat_tests)
 
-    slot : (g i h : ℕ) → ((g == f) && (i == j) && (h == k)) ≡ true → i ≡ j
-    slot g i h is = grind (arith, nat_tests)
+    slot : (g i h x y : ℕ) → ((g == f) && (i == j) && (h == k) && (x == u) && (y == v)) ≡ true → i ≡ j
+    slot g i h x y is = grind (arith, nat_tests)
 
 pub at_capture : (f j k v : ℕ) (l : CaptureLine) → is_capture f j k v l ≡ true → (slot_number f j ≤ of_capture l) × (of_capture l ≤ slot_number f j)
 at_capture f j k v l is = at f j l.frame l.slot (frame l.frame l.slot l.step l.at is) (slot l.frame l.slot l.step l.at is)

@@ -1,8 +1,8 @@
 -- The part of the lines between two places holds all lines of some slots, where those outside are of others.
-use Rattle.std.proofs.Common.{◌≡◌, ℕ, zero, suc, ◌+◌, ◌-◌, ◌<◌, ◌≤◌, List, [], ◌∷◌, Bool, true, false, length, get_or, take, drop, cond}
+use Rattle.std.proofs.Common.{◌≡◌, ℕ, zero, suc, ◌+◌, ◌-◌, ◌<◌, ◌≤◌, List, [], ◌∷◌, Bool, true, false, ◌||◌, length, get_or, take, drop, cond}
 use Rattle.std.proofs.Common.{refl, sym, ◌∙◌, ◌++◌, ap, subst, arith, inl, inr, length-drop, length-append}
 use Rattle.std.proofs.lemmas.Bool.{cases_lt}
-use Rattle.std.specs.List.{filter, AllWithin}
+use Rattle.std.specs.List.{filter, list_any, AllWithin}
 use Rattle.std.specs.List.Sorted.{IsPartitionPoint}
 use Rattle.std.proofs.lemmas.List.{get_or-drop, get_or-take, get_or_append_left, get_or_push, length-take}
 use Rattle.std.specs.declared.cmp.Ordering.{Ordering}
@@ -24,6 +24,22 @@ module _ {L : Type 0} (q : L → Bool) where
       (λ k d low high. let long = length-drop b xs in
       rw (get_or-drop b xs k d) (after (b + k) d (omega arith) (omega (arith, long))))
       ∙ sym (front_fails q b xs (omega arith) before)
+
+abbrev some : {L : Type 0} → List L → Bool
+some [] = false
+some (x ∷ xs) = true
+
+any_some : {L : Type 0} (q : L → Bool) (xs : List L) → list_any q xs ≡ some (filter q xs)
+any_some q [] = refl
+any_some {L} q (x ∷ xs) = by (q x) (any_some q xs)
+  where
+    by : (b : Bool) → list_any q xs ≡ some (filter q xs) → (b || list_any q xs) ≡ some (cond b (x ∷ filter q xs) (filter q xs))
+    by true rest = refl
+    by false rest = rest
+
+-- whether one passes, where the same ones pass
+pub same_any : {L : Type 0} (q : L → Bool) (part xs : List L) → filter q part ≡ filter q xs → list_any q part ≡ list_any q xs
+same_any q part xs same = any_some q part ∙ ap some same ∙ sym (any_some q xs)
 
 fails : (b : Bool) → (b ≡ true → ⊥) → b ≡ false
 fails true never = absurd (never refl)

@@ -1,4 +1,4 @@
--- The lines that pass a test, where they stand together.
+-- The cut lines that pass a test are next to each other.
 use Rattle.std.proofs.Common.{◌≡◌, ℕ, zero, suc, ◌+◌, ◌-◌, ◌<◌, ◌≤◌, List, [], ◌∷◌, Bool, true, false, ◌||◌, ◌&&◌, ◌==◌, nat_lt}
 use Rattle.std.proofs.Common.{nat_le, length, get_or, take, drop, cond, refl, sym, ◌∙◌, ap, arith, inl, inr, length-drop}
 use Rattle.std.proofs.lemmas.Bool.{cases_lt}
@@ -10,10 +10,9 @@ use Rattle.std.specs.List.Sorted.{IsPartitionedBy, IsPartitionPoint}
 use Rattle.std.specs.Ordering.{nat_cmp, ordering_then, MatchOrdering}
 use Rattle.std.specs.declared.cmp.Ordering.{Ordering}
 use Rattle.std.specs.declared.cmp.Ordering.TheVariants.{Less, Equal, Greater}
-use Rattle.link_trace.specs.declared.lines.LoseLine.{LoseLine}
 use Rattle.link_trace.specs.declared.lines.CutLine.{CutLine}
-use Rattle.link_trace.specs.Order.{Ascends, by_cut, by_loss}
-use Rattle.link_trace.specs.Passes.{cuts_by, is_of_step}
+use Rattle.link_trace.specs.Order.{Ascends, by_cut}
+use Rattle.link_trace.specs.Passes.{cuts_by}
 
 module _ {L : Type 0} (q : L → Bool) where
   pub none_pass : (xs : List L) → AllWithin (λ x. q x ≡ false) xs 0 (length xs) → filter q xs ≡ []
@@ -99,24 +98,12 @@ before_frame f g = nat_lt g f
 abbrev in_frame_upto : ℕ → ℕ → ℕ → ℕ → ℕ → ℕ → Bool
 in_frame_upto f j k g i h = (g == f) && (nat_lt i j || ((i == j) && nat_le h k))
 
-abbrev before_step : ℕ → ℕ → ℕ → ℕ → ℕ → ℕ → Bool
-before_step f j k g i h = nat_lt g f || ((g == f) && (nat_lt i j || ((i == j) && nat_lt h k)))
-
-abbrev of_step : ℕ → ℕ → ℕ → ℕ → ℕ → ℕ → Bool
-of_step f j k g i h = (g == f) && (i == j) && (h == k)
-
 module _ (f j k g i h fb jb kb : ℕ) (rises : Rises g i h fb jb kb) where
   frame_earlier : before_frame f fb ≡ true → before_frame f g ≡ true
   frame_earlier later = let frames = rises.frames in grind (arith, nat_tests)
 
   upto_earlier : before_frame f g ≡ false → in_frame_upto f j k fb jb kb ≡ true → in_frame_upto f j k g i h ≡ true
   upto_earlier from later = let frames = rises.frames in let slots = rises.slots in let steps = rises.steps in grind (arith, nat_tests)
-
-  step_earlier : before_step f j k fb jb kb ≡ true → before_step f j k g i h ≡ true
-  step_earlier later = let frames = rises.frames in let slots = rises.slots in let steps = rises.steps in grind (arith, nat_tests)
-
-  same_earlier : before_step f j k g i h ≡ false → of_step f j k fb jb kb ≡ true → of_step f j k g i h ≡ true
-  same_earlier from later = let frames = rises.frames in let slots = rises.slots in let steps = rises.steps in grind (arith, nat_tests)
 
 module _ {L : Type 0} (order : L → L → Ordering) (xs : List L) (up : Ascends order xs) where
   pub partitioned : (p : L → Bool) → ((a b : L) → order a b ≡ Less → p b ≡ true → p a ≡ true) → IsPartitionedBy p xs
@@ -162,30 +149,3 @@ module _ (f j k : ℕ) (cuts : List CutLine) (up : Ascends by_cut cuts) where
   cuts_are m n m_within n_within first next =
       between_is_filter (cuts_by f j k) m n cuts m_within n_within
       (λ i d low high. let l = get_or cuts i d in earlier_frame l.frame l.slot l.step (first.0 i d low high)) next.0 next.1
-
--- the lose lines of frame f, slot j, step k
-module _ (f j k : ℕ) (losses : List LoseLine) (up : Ascends by_loss losses) where
-  loss_rise : (a b : LoseLine) → by_loss a b ≡ Less → Rises a.frame a.slot a.step b.frame b.slot b.step
-  loss_rise a b less = steps_rise a.frame a.slot a.step b.frame b.slot b.step _ less
-
-  abbrev pub is_earlier : LoseLine → Bool
-  is_earlier l = nat_lt l.frame f || ((l.frame == f) && (nat_lt l.slot j || ((l.slot == j) && nat_lt l.step k)))
-
-  pub first_losses : IsPartitionedBy is_earlier losses
-  first_losses = partitioned by_loss losses up is_earlier
-      (λ a b less later. step_earlier f j k a.frame a.slot a.step b.frame b.slot b.step (loss_rise a b less) later)
-
-  pub next_losses : (m : ℕ) → AllWithin (λ l. is_earlier l ≡ false) losses m (length losses) → IsPartitionedBy (is_of_step f j k) (drop m losses)
-  next_losses m after =
-      partitioned_after by_loss losses up is_earlier (is_of_step f j k) m after
-      (λ a b less from later. same_earlier f j k a.frame a.slot a.step b.frame b.slot b.step (loss_rise a b less) from later)
-
-  earlier_step : (g i h : ℕ) → before_step f j k g i h ≡ true → of_step f j k g i h ≡ false
-  earlier_step g i h before = grind (arith, nat_tests)
-
-  pub losses_are : (m n : ℕ) → m ≤ length losses → n ≤ length (drop m losses) → IsPartitionPoint (λ l. is_earlier l ≡ true) (λ l. is_earlier l ≡ false) losses m
-      → IsPartitionPoint (λ l. is_of_step f j k l ≡ true) (λ l. is_of_step f j k l ≡ false) (drop m losses) n
-      → take n (take (length losses - m) (drop m losses)) ≡ filter (is_of_step f j k) losses
-  losses_are m n m_within n_within first next =
-      between_is_filter (is_of_step f j k) m n losses m_within n_within
-      (λ i d low high. let l = get_or losses i d in earlier_step l.frame l.slot l.step (first.0 i d low high)) next.0 next.1

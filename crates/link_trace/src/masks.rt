@@ -1,10 +1,12 @@
-ghost use Rattle.std.specs.Prelude.{◌≡◌, ◌≤◌, ◌<◌, ◌==◌, ◌&&◌, length, slice_index, IfOk};
+ghost use Rattle.std.specs.Prelude.{[], ◌≡◌, ◌≤◌, ◌<◌, ◌==◌, ◌&&◌, length, slice_index, IfOk};
 ghost use Rattle.std.specs.List.{list_any, AllPairs};
 ghost use Rattle.link_trace.specs.Order.{Ascends, by_link};
-ghost use Rattle.link_trace.specs.Passes.{is_link};
+ghost use Rattle.link_trace.specs.Passes.{is_link, is_loss, is_of_step};
+ghost use Rattle.link_trace.specs.Starts.{AreNone, AreStarts, of_loss};
 ghost use Rattle.link_trace.specs.Masks.{IsMask, AreLinkMasks};
 
 use crate::in_order::has_link;
+use crate::starts::{Starts, of_slots, slot_number};
 use crate::{CutLine, LinkLine, LoseLine};
 use lwb_base::{Memory, NodeId};
 use std::alloc::Global;
@@ -14,6 +16,17 @@ use std::alloc::Global;
 pub struct LinkMasks {
     pub to_it: u64,
     pub from_it: u64,
+}
+
+/// A trace with another line is no longer sealed: it has no nodes, no masks and no starts.
+pub fn unseal(nodes: &mut Vec<NodeId>, masks: &mut Vec<LinkMasks>, starts: &mut Starts)
+    ensures nodes { nodes.new.items ≡ [] }
+    ensures masks { masks.new.items ≡ [] }
+    ensures starts { AreNone starts.new }
+{
+    nodes.clear();
+    masks.clear();
+    starts.clear();
 }
 
 /// The links of each of the nodes.
@@ -35,28 +48,50 @@ pub fn link_masks(
     Ok(masks)
 }
 
-/// Those of the nodes whose link to `to` one of the lines names.
-pub fn lost_mask(losses: &[LoseLine], nodes: &[NodeId], to: NodeId) -> u64
+/// Those of the nodes whose link to `to` a line loses in that frame, slot and step.
+pub fn lost_mask(
+    losses: &[LoseLine],
+    starts: &[usize],
+    frame: u32,
+    slot: u8,
+    step: u8,
+    nodes: &[NodeId],
+    to: NodeId,
+) -> u64
+    requires starts { AreStarts of_loss losses.now starts.now }
     requires few { length nodes.now ≤ 64 }
     requires ascending { AllPairs (λ a b. a < b) nodes.now }
-    ensures { IsMask (λ from. list_any (λ l. (l.from == from) && (l.to == to)) losses.now) nodes.now result }
+    ensures { IsMask (λ from. list_any (is_loss frame slot step from to) losses.now) nodes.now result }
 {
+    let number = slot_number(frame, slot);
+    let of_slot = of_slots(losses, starts, number, number);
     let mut mask = 0;
-    for line in losses {
-        mask |= lost_by(line, nodes, to);
+    for line in of_slot {
+        mask |= lost_by(line, frame, slot, step, nodes, to);
     }
     mask
 }
 
-/// Those of the nodes to which the link from `from` is one that a line names.
-pub fn lost_from_mask(losses: &[LoseLine], nodes: &[NodeId], from: NodeId) -> u64
+/// Those of the nodes to which a line loses the link from `from` in that frame, slot and step.
+pub fn lost_from_mask(
+    losses: &[LoseLine],
+    starts: &[usize],
+    frame: u32,
+    slot: u8,
+    step: u8,
+    nodes: &[NodeId],
+    from: NodeId,
+) -> u64
+    requires starts { AreStarts of_loss losses.now starts.now }
     requires few { length nodes.now ≤ 64 }
     requires ascending { AllPairs (λ a b. a < b) nodes.now }
-    ensures { IsMask (λ to. list_any (λ l. (l.from == from) && (l.to == to)) losses.now) nodes.now result }
+    ensures { IsMask (λ to. list_any (is_loss frame slot step from to) losses.now) nodes.now result }
 {
+    let number = slot_number(frame, slot);
+    let of_slot = of_slots(losses, starts, number, number);
     let mut mask = 0;
-    for line in losses {
-        mask |= lost_from(line, nodes, from);
+    for line in of_slot {
+        mask |= lost_from(line, frame, slot, step, nodes, from);
     }
     mask
 }
@@ -74,30 +109,37 @@ pub fn cut_mask(cuts: &[CutLine], nodes: &[NodeId]) -> u64
     mask
 }
 
-// The node whose link to `to` the line names, if it names one.
-fn lost_by(line: &LoseLine, nodes: &[NodeId], to: NodeId) -> u64
+// The node whose link to `to` the line loses in that step, if it loses one.
+fn lost_by(line: &LoseLine, frame: u32, slot: u8, step: u8, nodes: &[NodeId], to: NodeId) -> u64
     requires few { length nodes.now ≤ 64 }
     requires ascending { AllPairs (λ a b. a < b) nodes.now }
-    ensures { IsMask (λ from. (line.now.from == from) && (line.now.to == to)) nodes.now result }
+    ensures { IsMask (λ from. is_loss frame slot step from to line.now) nodes.now result }
 {
-    if line.to == to {
+    if line.to == to && is_of(line, frame, slot, step) {
         mask_of(nodes, line.from)
     } else {
         0
     }
 }
 
-// The node to which the line names a link from `from`, if it names one.
-fn lost_from(line: &LoseLine, nodes: &[NodeId], from: NodeId) -> u64
+// The node to which the line loses a link from `from` in that step, if it loses one.
+fn lost_from(line: &LoseLine, frame: u32, slot: u8, step: u8, nodes: &[NodeId], from: NodeId) -> u64
     requires few { length nodes.now ≤ 64 }
     requires ascending { AllPairs (λ a b. a < b) nodes.now }
-    ensures { IsMask (λ to. (line.now.from == from) && (line.now.to == to)) nodes.now result }
+    ensures { IsMask (λ to. is_loss frame slot step from to line.now) nodes.now result }
 {
-    if line.from == from {
+    if line.from == from && is_of(line, frame, slot, step) {
         mask_of(nodes, line.to)
     } else {
         0
     }
+}
+
+// Whether the line is of that frame, slot and step. Most lines of a slot are of other steps.
+fn is_of(line: &LoseLine, frame: u32, slot: u8, step: u8) -> bool
+    ensures { result ≡ is_of_step frame slot step line.now }
+{
+    line.step == step && line.slot == slot && line.frame == frame
 }
 
 // The nodes that have a link to `to`.

@@ -1,8 +1,8 @@
-ghost use Rattle.std.specs.Prelude.{◌≡◌, ◌==◌};
+ghost use Rattle.std.specs.Prelude.{[], true, ◌≡◌, ◌==◌};
 ghost use Rattle.std.specs.List.{filter, list_any};
-ghost use Rattle.link_trace.specs.Order.{Ascends, by_loss, by_cut};
-ghost use Rattle.link_trace.specs.Passes.{cut_off, cuts_by, is_of_step};
-ghost use Rattle.link_trace.specs.Starts.{AreStarts, of_cut, of_loss};
+ghost use Rattle.link_trace.specs.Order.{Ascends, by_cut};
+ghost use Rattle.link_trace.specs.Passes.{cut_off, cuts_by};
+ghost use Rattle.link_trace.specs.Starts.{AreStarts, of_cut};
 
 use crate::starts::{of_slots, slot_number};
 use crate::{CutLine, LoseLine};
@@ -20,25 +20,12 @@ pub fn cuts_so_far<'a>(
     requires starts { AreStarts of_cut cuts.now starts.now }
     ensures { result.now ≡ filter (cuts_by frame slot step) cuts.now }
 {
+    if cuts.is_empty() {
+        return cuts;
+    }
     let first = slot_number(frame, 0);
     let last = slot_number(frame, slot);
     find_cuts(of_slots(cuts, starts, first, last), frame, slot, step)
-}
-
-/// The lose lines of that frame, slot and step, which are next to each other.
-pub fn losses_of_step<'a>(
-    losses: &'a [LoseLine],
-    starts: &[usize],
-    frame: u32,
-    slot: u8,
-    step: u8,
-) -> &'a [LoseLine]
-    requires ascends { Ascends by_loss losses.now }
-    requires starts { AreStarts of_loss losses.now starts.now }
-    ensures { result.now ≡ filter (is_of_step frame slot step) losses.now }
-{
-    let number = slot_number(frame, slot);
-    find_losses(of_slots(losses, starts, number, number), frame, slot, step)
 }
 
 // The cut lines of the frame at or before that slot and step.
@@ -54,17 +41,12 @@ fn find_cuts(cuts: &[CutLine], frame: u32, slot: u8, step: u8) -> &[CutLine]
     &rest[..count]
 }
 
-// The lose lines of that frame, slot and step.
-fn find_losses(losses: &[LoseLine], frame: u32, slot: u8, step: u8) -> &[LoseLine]
-    requires { Ascends by_loss losses.now }
-    ensures { result.now ≡ filter (is_of_step frame slot step) losses.now }
+/// Whether there is neither a lose line nor a cut line, so that each link passes.
+pub fn are_none(losses: &[LoseLine], cuts: &[CutLine]) -> bool
+    ensures losses { result ≡ true → losses.now ≡ [] }
+    ensures cuts { result ≡ true → cuts.now ≡ [] }
 {
-    let begin = losses.partition_point(|l| {
-        l.frame < frame || l.frame == frame && (l.slot < slot || l.slot == slot && l.step < step)
-    });
-    let rest = &losses[begin..];
-    let count = rest.partition_point(|l| { l.frame == frame && l.slot == slot && l.step == step });
-    &rest[..count]
+    losses.is_empty() && cuts.is_empty()
 }
 
 /// Whether one of the cut lines names the node.

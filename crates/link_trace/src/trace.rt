@@ -3,13 +3,12 @@ ghost use Rattle.std.specs.List.{list_any};
 ghost use Rattle.link_trace.specs.Passes.{is_link, is_loss, is_cut, is_capture};
 ghost use Rattle.link_trace.specs.Order.{Ascends, by_link, by_loss, by_cut, by_capture, with_link, with_loss, with_cut, with_capture};
 ghost use Rattle.link_trace.specs.Sealed.{unsealed, no_lines};
-ghost use Rattle.link_trace.specs.Starts.{AreNone};
 ghost use Rattle.link_trace.specs.Masks.{AreNodes, IsMask};
 
 use crate::captures::{add_capture, captured_sender};
 use crate::in_order::{add_in_order, has_link, has_loss};
-use crate::masks::{LinkMasks, cut_mask, link_masks, lost_from_mask, lost_mask};
-use crate::ranges::{cuts_so_far, is_cut_off, losses_of_step, names};
+use crate::masks::{LinkMasks, cut_mask, link_masks, lost_from_mask, lost_mask, unseal};
+use crate::ranges::{are_none, cuts_so_far, is_cut_off, names};
 use crate::starts::{Starts, starts_of};
 use crate::{CaptureLine, CutLine, LinkLine, LoseLine};
 use lwb_base::{Memory, NodeId};
@@ -193,9 +192,8 @@ impl Trace {
             && !is_cut_off(&self.cuts, frame, slot, step, to)
     }
 
-    /// Seals the trace with these nodes, 1 to 64 ascending ids: it keeps, for each of them, which of them have a link
-    /// to it and to which it has one, and where the lines of each slot begin. The lines stay. After Memory the trace is
-    /// as it was.
+    /// Seals the trace with these nodes, 1 to 64 ascending ids: it keeps the links of each of them, and where the lines
+    /// of each slot begin. The lines stay. After Memory the trace is as it was.
     pub fn seal(&mut self, nodes: &[NodeId]) -> Result<(), Memory>
         requires { AreNodes nodes.now }
         ensures sealed { OnOk result (self.new ≡ record { lines = self.old.lines; nodes = nodes.now }) }
@@ -211,8 +209,7 @@ impl Trace {
     }
 
     /// The nodes from which a link to node `at` passes in that frame, slot and step: bit i is that of node i, and bits
-    /// past the nodes are 0. Nodes are counted from 0, as the seal names them. The time that this takes grows with
-    /// the lines of the frame, and not with those of other frames below 4,096.
+    /// past the nodes are 0. Nodes are counted from 0, as the seal names them. The time grows with the lines of the frame.
     pub fn from_mask(&self, frame: u32, slot: u8, step: u8, at: u8) -> u64
         requires { at < length self.now.nodes }
         ensures { IsMask (λ from. passes_by self.now.lines frame slot step from (slice_index self.now.nodes at))
@@ -227,8 +224,15 @@ impl Trace {
         if names(cuts, to) {
             return 0;
         }
-        let losses = losses_of_step(&self.losses, &self.starts.losses, frame, slot, step);
-        let lost = lost_mask(losses, &self.nodes, to);
+        let lost = lost_mask(
+            &self.losses,
+            &self.starts.losses,
+            frame,
+            slot,
+            step,
+            &self.nodes,
+            to,
+        );
         let cut = cut_mask(cuts, &self.nodes);
         links.to_it & !lost & !cut
     }
@@ -249,8 +253,15 @@ impl Trace {
         if names(cuts, node) {
             return 0;
         }
-        let losses = losses_of_step(&self.losses, &self.starts.losses, frame, slot, step);
-        let lost = lost_from_mask(losses, &self.nodes, node);
+        let lost = lost_from_mask(
+            &self.losses,
+            &self.starts.losses,
+            frame,
+            slot,
+            step,
+            &self.nodes,
+            node,
+        );
         let cut = cut_mask(cuts, &self.nodes);
         links.from_it & !lost & !cut
     }
@@ -286,23 +297,4 @@ impl Trace {
     {
         &self.captures
     }
-}
-
-// A trace with another line is no longer sealed: it has no nodes, no masks and no starts.
-fn unseal(nodes: &mut Vec<NodeId>, masks: &mut Vec<LinkMasks>, starts: &mut Starts)
-    ensures nodes { nodes.new.items ≡ [] }
-    ensures masks { masks.new.items ≡ [] }
-    ensures starts { AreNone starts.new }
-{
-    nodes.clear();
-    masks.clear();
-    starts.clear();
-}
-
-// Whether there is neither a lose line nor a cut line, so that each link passes.
-fn are_none(losses: &[LoseLine], cuts: &[CutLine]) -> bool
-    ensures losses { result ≡ true → losses.now ≡ [] }
-    ensures cuts { result ≡ true → cuts.now ≡ [] }
-{
-    losses.is_empty() && cuts.is_empty()
 }

@@ -1,5 +1,4 @@
-use Rattle.std.proofs.Common.{◌≡◌, ◌∙◌, ap, sym, arith, Option, List}
-use Rattle.std.specs.List.{find}
+use Rattle.std.proofs.Common.{◌∙◌, ap, sym, arith, Option}
 use Rattle.std.specs.Option.{option_map}
 use Rattle.link_trace.specs.declared.lines.CaptureLine.{CaptureLine}
 use Rattle.link_trace.specs.Order.{by_capture}

@@ -1,4 +1,4 @@
-use Rattle.std.proofs.Common.{◌≡◌, ◌∙◌, arith}
+use Rattle.std.proofs.Common.{◌∙◌, arith}
 use Rattle.link_trace.specs.Order.{by_cut}
 use Rattle.link_trace.specs.Passes.{cuts_by}
 use Rattle.link_trace.proofs.SlotNumbers.{in_frame_to}

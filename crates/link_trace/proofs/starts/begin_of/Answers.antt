@@ -1,4 +1,4 @@
-use Rattle.std.proofs.Common.{◌≡◌, ◌-◌, ◌<◌, ℕ, arith, length, get_or}
+use Rattle.std.proofs.Common.{◌≡◌, ◌-◌, ◌<◌, arith, length, get_or}
 use Rattle.link_trace.proofs.starts.begin_of.Goals as goal
 
 pub returns-then-slot-starts-clause-before : goal.returns-then-slot-starts-clause-before

@@ -1,4 +1,4 @@
-use Rattle.std.proofs.Common.{◌≡◌, ◌<◌, ◌≤◌, ◌∙◌, ℕ, arith, length, get_or, inl, inr, ap}
+use Rattle.std.proofs.Common.{◌≡◌, ◌∙◌, arith, get_or, inl, inr, ap}
 use Rattle.std.proofs.lemmas.Bool.{cases_lt}
 use Rattle.std.proofs.lemmas.List.{get_or_read}
 use Rattle.link_trace.proofs.starts.first_from.Goals as goal

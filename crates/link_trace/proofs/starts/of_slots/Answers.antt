@@ -1,4 +1,3 @@
-use Rattle.std.proofs.Common.{◌≤◌}
 use Rattle.link_trace.proofs.SlotParts.{places_ascend, holds_slots}
 use Rattle.link_trace.proofs.starts.of_slots.Goals as goal
 

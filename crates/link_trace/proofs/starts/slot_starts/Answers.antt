@@ -1,4 +1,4 @@
-use Rattle.std.proofs.Common.{◌≡◌, ◌+◌, ◌++◌, ◌∷◌, [], arith, rules, subst, List, ℕ, sym}
+use Rattle.std.proofs.Common.{◌≡◌, ◌++◌, ◌∷◌, [], arith, rules, subst, List, ℕ, sym}
 use Rattle.link_trace.specs.Starts.{AreStarts}
 use Rattle.link_trace.proofs.SlotParts.{one_more_start}
 use Rattle.link_trace.proofs.starts.slot_starts.Goals as goal

@@ -1,23 +1,23 @@
-use Rattle.std.proofs.Common.{◌≡◌, ◌==◌, ◌&&◌, ℕ, ◌<◌, List, get_or, length, sym, subst, ◌∙◌, ap}
+use Rattle.std.proofs.Common.{◌≡◌, ◌==◌, ℕ, ◌<◌, List, get_or, length, sym, subst, ◌∙◌, ap}
 use Rattle.std.specs.List.{filter, list_any}
 use Rattle.link_trace.specs.declared.masks.LinkMasks.{LinkMasks}
 use Rattle.link_trace.specs.declared.lines.CutLine.{CutLine}
 use Rattle.link_trace.specs.declared.lines.LoseLine.{LoseLine}
 use Rattle.link_trace.specs.Masks.{IsMask}
-use Rattle.link_trace.specs.Passes.{Lines, cuts_by, is_of_step, is_link}
+use Rattle.link_trace.specs.Passes.{Lines, cuts_by, is_link, is_loss}
 use Rattle.link_trace.specs.Sealed.{Traced}
 use Rattle.link_trace.proofs.MaskReads.{read_at, named, cut_at}
 use Rattle.link_trace.proofs.MasksOfPassing.{all_passing, mask_of_passing, none_passing}
 use Rattle.link_trace.proofs.trace.Trace.from_mask.Goals as goal
 
--- the masks, of the nodes and lines that are equal to those that were passed
-lost_at : (nodes passed : List ℕ) (found losses : List LoseLine) (to v m : ℕ) → passed ≡ nodes → found ≡ losses → to ≡ v
-    → IsMask (λ from. list_any (λ (l : LoseLine). (l.from == from) && (l.to == to)) found) passed m
-    → IsMask (λ from. list_any (λ (l : LoseLine). (l.from == from) && (l.to == v)) losses) nodes m
-lost_at nodes passed found losses to v m same_nodes same_lines same_node is =
-    subst (λ (w : ℕ). IsMask (λ from. list_any (λ (l : LoseLine). (l.from == from) && (l.to == w)) losses) nodes m) same_node
-    (subst (λ (ls : List LoseLine). IsMask (λ from. list_any (λ (l : LoseLine). (l.from == from) && (l.to == to)) ls) nodes m) same_lines
-    (subst (λ (ns : List ℕ). IsMask (λ from. list_any (λ (l : LoseLine). (l.from == from) && (l.to == to)) found) ns m) same_nodes is))
+-- the mask, of the nodes and lines that are equal to those that were passed
+lost_at : (f j k : ℕ) (nodes passed : List ℕ) (found losses : List LoseLine) (to v m : ℕ) → passed ≡ nodes → found ≡ losses → to ≡ v
+    → IsMask (λ from. list_any (is_loss f j k from to) found) passed m
+    → IsMask (λ from. list_any (is_loss f j k from v) losses) nodes m
+lost_at f j k nodes passed found losses to v m same_nodes same_lines same_node is =
+    subst (λ (w : ℕ). IsMask (λ from. list_any (is_loss f j k from w) losses) nodes m) same_node
+    (subst (λ (ls : List LoseLine). IsMask (λ from. list_any (is_loss f j k from to) ls) nodes m) same_lines
+    (subst (λ (ns : List ℕ). IsMask (λ from. list_any (is_loss f j k from to) found) ns m) same_nodes is))
 
 pub returns-then-are_none : goal.returns-then-are_none
 returns-then-are_none c =
@@ -66,17 +66,15 @@ returns c =
     let to_is : c.index-to.result.now ≡ v = read_at nodes c.from-2.result c.args.at c.index-to.result.now inside c.from-2.ensures c.index-to.ensures in
     let cuts_are : c.cuts_so_far-cuts.result.now ≡ filter (cuts_by f j k) t.cuts =
     c.cuts_so_far-cuts.ensures ∙ ap (λ (ls : List CutLine). filter (cuts_by f j k) ls) c.deref-3.ensures.value in
-    let losses_are : c.losses_of_step-losses.result.now ≡ filter (is_of_step f j k) t.losses =
-    c.losses_of_step-losses.ensures ∙ ap (λ (ls : List LoseLine). filter (is_of_step f j k) ls) c.deref-5.ensures.value in
     let none = named t.cuts c.cuts_so_far-cuts.result.now f j k c.index-to.result.now v cuts_are to_is ∙ sym c.names.ensures ∙ c.if-names.false in
     let links = c.index-links.result.now in
     let links_is : links ≡ get_or kept.masks.items c.args.at links = c.index-links.ensures ∙ ap (λ (n : ℕ). get_or kept.masks.items n links) c.from.ensures in
     let linked : IsMask (λ from. list_any (is_link from v) t.links) nodes links.to_it =
     subst (λ (m : LinkMasks). IsMask (λ from. list_any (is_link from v) t.links) nodes m.to_it) (sym links_is)
     (c.self.invariant.link_masks.to_each c.args.at links inside) in
-    let lost : IsMask (λ from. list_any (λ l. (l.from == from) && (l.to == v)) (filter (is_of_step f j k) t.losses)) nodes c.lost_mask-lost.result =
-    lost_at nodes c.deref-7.result.now c.losses_of_step-losses.result.now (filter (is_of_step f j k) t.losses) c.index-to.result.now v
-    c.lost_mask-lost.result c.deref-7.ensures.value losses_are to_is c.lost_mask-lost.ensures in
+    let lost : IsMask (λ from. list_any (is_loss f j k from v) t.losses) nodes c.lost_mask-lost.result =
+    lost_at f j k nodes c.deref-7.result.now c.deref-5.result.now t.losses c.index-to.result.now v
+    c.lost_mask-lost.result c.deref-7.ensures.value c.deref-5.ensures.value to_is c.lost_mask-lost.ensures in
     let cut : IsMask (λ node. list_any (λ l. l.node == node) (filter (cuts_by f j k) t.cuts)) nodes c.cut_mask-cut.result =
     cut_at nodes c.deref-8.result.now c.cuts_so_far-cuts.result.now (filter (cuts_by f j k) t.cuts) c.cut_mask-cut.result
     c.deref-8.ensures.value cuts_are c.cut_mask-cut.ensures in
