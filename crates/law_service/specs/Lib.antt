@@ -1,3 +1,4 @@
 pub mod Reach
 pub mod DataService
 pub mod ScheduleService
+pub mod RequestService

@@ -5,7 +5,9 @@
 #![tactic(auto)]
 
 mod data_laws;
+mod request_laws;
 mod schedule_laws;
 
 pub use data_laws::data_is_delivered_within_reach;
+pub use request_laws::a_lone_request_is_acknowledged;
 pub use schedule_laws::schedules_are_accepted_within_reach;
