@@ -11,6 +11,9 @@ mod KeptByHosts
 mod LoneRequests
 mod SaidByParts
 mod DeliveredData
+mod TiedNodes
+mod Collisions
 mod WorkedReach
 mod WorkedSchedules
 mod WorkedRequests
+mod WorkedContenders

@@ -158,12 +158,10 @@ module _ (s : ScenarioParts) (scenario : IsSoundScenario s) (rank f : ℕ) (p : 
   track zero within = subst (λ (i : ℕ). Tracked c a (at i host)) (omega arith) kept_now
   track (suc n) within = subst (λ (i : ℕ). Tracked c a (at i host)) (omega arith) (next n (omega (arith, within)) (track n (omega (arith, within))))
 
-  acknowledges : is_full a (answered f c.kept c.table).table ≡ false → Acknowledges s rank f p host a
-  acknowledges free =
-      let n : ℕ = last_slot p - suc j in
-      let ends : j + suc n ≡ last_slot p = (let soon = early in omega (arith, soon)) in
-      let t : Tracked c a (at (last_slot p) host) = subst (λ (i : ℕ). Tracked c a (at i host)) ends (track n (omega (arith, ends))) in
-      let lead = leads s rank f p host reaches.hosted (last_slot p) (omega arith) in
+  -- at the closing the host plans from what it has kept
+  planned : Hosting rank f p (at (last_slot p) host) → Tracked c a (at (last_slot p) host) → is_full a (answered f c.kept c.table).table ≡ false
+      → Acknowledges s rank f p host a
+  planned lead t free =
       let same : lead.core ≡ t.core = same_core lead.core t.core (at (last_slot p) host) lead.on t.on in
       let table : lead.core.table ≡ c.table = ap (λ (e : Core). e.table) same ∙ t.table in
       let had : lead.core.kept ≡ c.kept ++ a ∷ t.later = ap (λ (e : Core). e.kept) same ∙ t.kept in
@@ -174,6 +172,13 @@ module _ (s : ScenarioParts) (scenario : IsSoundScenario s) (rank f : ℕ) (p : 
         acknowledged = plan_acks s.profile host lead.core.boot (rank_of lead.core.tune) f a c.kept t.later lead.core.kept lead.core.table lead.core.streams
             had t.others has_room;
       }
+
+  acknowledges : is_full a (answered f c.kept c.table).table ≡ false → Acknowledges s rank f p host a
+  acknowledges free =
+      let n : ℕ = last_slot p - suc j in
+      let ends : j + suc n ≡ last_slot p = (let soon = early in omega (arith, soon)) in
+      planned (leads s rank f p host reaches.hosted (last_slot p) (omega arith))
+      (subst (λ (i : ℕ). Tracked c a (at i host)) ends (track n (omega (arith, ends)))) free
 
 pub kept : LoneRequestsAreKept
 kept s accepted rank f p host j u a c reaches =

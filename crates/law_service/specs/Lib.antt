@@ -2,3 +2,4 @@ pub mod Reach
 pub mod DataService
 pub mod ScheduleService
 pub mod RequestService
+pub mod Contenders
