@@ -1,7 +1,7 @@
 -- In a slot of schedules without losses who listens within reach of the host accepts, and goes by what it accepted.
 use Rattle.std.proofs.Common.{◌≡◌, ◌<◌, ◌+◌, ◌==◌, ℕ, suc, List, Bool, true, false, Option, Some, None, if◌then◌else◌, nat_le, ◌||◌, ◌&&◌}
 use Rattle.std.proofs.Common.{is_some, refl, sym, ◌∙◌, ap, subst, arith, sum_by, AllPairs, add-one}
-use Rattle.std.proofs.lemmas.Bool.{false≢true, and_parts, cond_both, cond-true, cond-false, ne_eqb}
+use Rattle.std.proofs.lemmas.Bool.{false≢true, and_parts, cond_both, cond-false, ne_eqb}
 use Rattle.lwb_base.specs.Profile.{Numbers}
 use Rattle.lwb_base.specs.Messages.{Ask, Plan, Schedule}
 use Rattle.scenario_text.specs.ScenarioParts.{ScenarioParts}
@@ -30,7 +30,7 @@ use Rattle.bus_model.proofs.ReceivedInRounds.{ids_rise}
 use Rattle.law_service.specs.Reach.{TakesPart, LosesNothing, IsWithin}
 use Rattle.law_service.specs.ScheduleService.{IsHosted, slot_in, node_after, OpeningsAreAccepted, ClosingsAreAccepted}
 use Rattle.law_service.proofs.HostsOfRanks.{due_rank}
-use Rattle.law_service.proofs.HostedRounds.{Hosting, leads, sole_host, said_message, now_due, host_member, left_windowed, initiator_accepts_none, closing_last}
+use Rattle.law_service.proofs.HostedRounds.{Hosting, has_planned, closing_opens, opening_said, leads, sole_host, said_message, host_member, closing_last}
 use Rattle.law_service.proofs.SaidByParts.{windowed}
 use Rattle.law_service.proofs.SoleVoices.{accepts, accepts_said}
 
@@ -110,10 +110,6 @@ module _ (s : ScenarioParts) (scenario : IsSoundScenario s) (rank f : ℕ) (p : 
             let due = only_members c.0 c.2 (only_hosts v c.0 m c.3) in
             sole_host s rank f p host hosted j v (ap (λ (z : State). is_on (λ c. hosts_in rank f c.tune) z) c.1 ∙ due)
 
-    pub host_accepts_none : accepted_at x host ≡ None
-    host_accepts_none = initiator_accepts_none x host
-        (in_filtered (λ v. is_some (said_in (x.window v))) (ids s.nodes) host hosted.known (ap (λ (o : Option Message). is_some o) message))
-
     module _ (lossless : LosesNothing s x) (k v : ℕ) (within : IsWithin s x host (suc k) v) where
       pub accepts_here : Accepts x.flood v host k
       accepts_here = accepts s x f j refl (λ k u v. refl) refl scenario.some_sends rise lossless host (ScheduleOf y) hosted.known takes message alone k v within
@@ -168,8 +164,7 @@ unfolding before_slot
 openings s accepted rank f p host hosted lossless k v within =
     let scenario = sound s accepted in
     let is = leads s rank f p host hosted 0 (omega arith) in
-    let says : (opened (setup_in s host) f Opening is.core).message ≡ Some (ScheduleOf (opening is.core.plan)) =
-    cond-true (hosts_now f is.core) _ None (now_due rank f is.core.tune is.due) in
+    let says = opening_said s rank f p host hosted is in
     let told = goes_by s scenario rank f p host hosted 0 Opening refl is (opening is.core.plan) says (opening_hosts s f) (member_hosts rank f)
     lossless k v within refl in
     record {
@@ -186,7 +181,7 @@ unfolding before_slot
 closings s accepted rank f p host hosted lossless k v within = record {
   accepts = accepts_here s scenario rank f p host hosted j Closing at is y says (closing_hosts s f) (member_hosts rank f) lossless k v within;
   hosting = planned.core;
-  host_on = after host ∙ host_after;
+  host_on = has_planned s rank f p host hosted is;
   holding = closing_accepted v f y told.0;
   on = after v ∙ told.1 ∙ ap (λ (c : Core). StateOn c) (cond-false (y.gap == 0) (opening_accepted v f y told.0) (closing_accepted v f y told.0) some);
   due = f + plan.gap;
@@ -225,7 +220,7 @@ closings s accepted rank f p host hosted lossless k v within = record {
     planned = host_closes (setup_in s host) f is.core
 
     opens : opened (setup_in s host) f Closing is.core ≡ planned
-    opens = cond-true (hosts_now f is.core) planned (silent is.core) (now_due rank f is.core.tune is.due)
+    opens = closing_opens s rank f p host hosted is
 
     says : (opened (setup_in s host) f Closing is.core).message ≡ Some (ScheduleOf y)
     says = ap (λ (o : Opened). o.message) opens
@@ -238,12 +233,3 @@ closings s accepted rank f p host hosted lossless k v within = record {
 
     told : (d : Core) × (before_slot s rank f p (state_at s f) (suc j) v ≡ StateOn (schedule_accepted v f y d))
     told = goes_by s scenario rank f p host hosted j Closing at is y says (closing_hosts s f) (member_hosts rank f) lossless k v within refl
-
-    host_after : before_slot s rank f p (state_at s f) (suc j) host ≡ StateOn planned.core
-    host_after =
-        let before = before_slot s rank f p (state_at s f) j host in
-        let none = host_accepts_none s scenario rank f p host hosted j Closing at is y says (closing_hosts s f) (member_hosts rank f) in
-        ap (λ (h : Option Message). left_by before (closed_by s f (part_of p j) host (opened_at s rank f (part_of p j) host before) h before)) none
-        ∙ ap (λ (q : Part). left_by before (closed_by s f q host (opened_at s rank f q host before) None before)) at
-        ∙ left_windowed s rank f Closing host before is.core None is.on (host_member rank f is.core is.due)
-        ∙ ap (λ (o : Opened). StateOn o.core) opens

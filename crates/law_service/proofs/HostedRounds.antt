@@ -1,6 +1,6 @@
 -- A host leads its round from the opening to the closing, and is the only node that says a schedule in it.
 use Rattle.std.proofs.Common.{◌≡◌, ◌<◌, ◌≤◌, ◌==◌, ℕ, zero, suc, List, [], ◌∷◌, Bool, true, false, Option, Some, None, if◌then◌else◌, inl, inr, nat_lt, nat_le}
-use Rattle.std.proofs.Common.{is_some, length, option_and_then, refl, sym, ◌∙◌, ap, subst, arith}
+use Rattle.std.proofs.Common.{add-one, is_some, length, option_and_then, refl, sym, ◌∙◌, ap, subst, arith}
 use Rattle.std.specs.List.{find}
 use Rattle.std.specs.Option.{option_or}
 use Rattle.std.proofs.lemmas.Bool.{false≢true, or_cases, eqb-true, cond_both, cond-true, cond-false, lt-ltb, le-ltb, lt-leb, ne_eqb}
@@ -10,17 +10,18 @@ use Rattle.bus_rules.specs.declared.part.Part.{Part}
 use Rattle.bus_rules.specs.declared.part.Part.TheVariants.{Opening, Data as DataSlot, Contention, Closing}
 use Rattle.bus_rules.specs.declared.tune.Tune.{Tune}
 use Rattle.bus_rules.specs.Cores.{Core, Setup, is_member, own_rank}
-use Rattle.bus_rules.specs.Plans.{last_slot}
-use Rattle.bus_rules.specs.Slots.{Message, ScheduleOf, DataOf, RequestOf, Opened, opened, closed, part_of, hosts_now}
+use Rattle.bus_rules.specs.HostPlans.{host_plan}
+use Rattle.bus_rules.specs.Plans.{last_slot, opening}
+use Rattle.bus_rules.specs.Slots.{Message, ScheduleOf, DataOf, RequestOf, Opened, opened, closed, part_of, hosts_now, host_closes, silent}
 use Rattle.bus_rules.specs.States.{State, StateOff, StateOn}
-use Rattle.bus_rules.specs.Tuning.{hosts_in, holds_in, rank_of}
+use Rattle.bus_rules.specs.Tuning.{rank_of, hosts_in, holds_in, rank_of}
 use Rattle.bus_model.specs.Bus.{state_at}
 use Rattle.bus_model.specs.FloodOfText.{ids}
 use Rattle.bus_model.specs.Flooding.{has, accepted, moment, STEPS}
-use Rattle.bus_model.specs.Rounds.{Slot, opened_at, said_in, accepted_at, closed_by, left_by, before_slot, plan_in, first_node}
+use Rattle.bus_model.specs.Rounds.{Slot, slot_at, opened_at, said_in, accepted_at, closed_by, left_by, before_slot, plan_in, first_node}
 use Rattle.bus_model.specs.ScriptedStates.{is_on, setup_in}
 use Rattle.bus_model.proofs.ReceivedByPaths.{in_filtered}
-use Rattle.law_service.specs.ScheduleService.{IsHosted, slot_in}
+use Rattle.law_service.specs.ScheduleService.{IsHosted, slot_in, node_after}
 use Rattle.law_service.proofs.HostsOfRanks.{IsRightfulState, rightful, rightful_before, due_hosts, due_rank, one_of_rank}
 use Rattle.law_service.proofs.HostsOfRanks.{data_no_schedule, contention_no_schedule}
 use Rattle.law_service.proofs.SaidByParts.{windowed, window_of, speaks}
@@ -66,6 +67,23 @@ said_message s rank f part v x m is =
     let o = speaks (opened_at s rank f part v x) (ap (λ (w : Option Message). is_some w) is) in
     let c = window_of s rank f part v x o.0 o.1 in
     (c.0, c.1, c.2, ap (λ (w : Opened). w.message) (sym c.3) ∙ ap said_in (sym o.1) ∙ is)
+
+-- what is accepted was said by such a member
+pub heard_from : (s : ScenarioParts) (rank f : ℕ) (p : Plan) (states : ℕ → State) (j : ℕ) (part : Part) → part_of p j ≡ part → (v : ℕ) (m : Message)
+    → accepted_at (slot_at s rank f p states j) v ≡ Some m
+    → (w : ℕ) × (c : Core) × (before_slot s rank f p states j w ≡ StateOn c) × (is_member rank f c ≡ true)
+    × ((opened (setup_in s w) f part c).message ≡ Some m)
+heard_from s rank f p states j part at v m said = by_answer (accepted (slot_at s rank f p states j).flood v) said
+  where
+    before : ℕ → State
+    before = before_slot s rank f p states j
+
+    by_answer : (a : Option (ℕ × ℕ)) → option_and_then (λ a. said_in ((slot_at s rank f p states j).window a.0)) a ≡ Some m
+        → (w : ℕ) × (c : Core) × (before w ≡ StateOn c) × (is_member rank f c ≡ true) × ((opened (setup_in s w) f part c).message ≡ Some m)
+    by_answer None is = absurd (cc)
+    by_answer (Some a) is =
+        let c = said_message s rank f part a.0 (before a.0) m (ap (λ (q : Part). said_in (opened_at s rank f q a.0 (before a.0))) (sym at) ∙ is) in
+        (a.0, c.0, c.1, c.2, c.3)
 
 -- who initiates accepts nothing
 pub initiator_accepts_none : (x : Slot) (v : ℕ) → has x.flood.initiators v ≡ true → accepted_at x v ≡ None
@@ -151,37 +169,40 @@ module _ (s : ScenarioParts) (rank f : ℕ) (p : Plan) (host : ℕ) (hosted : Is
       same : at.0.plan ≡ p
       same = let is : Some at.0.plan ≡ Some p = sym (ap plan_in at.1) ∙ planned in cc
 
+  -- where it says a schedule, it initiates, and accepts nothing
+  pub accepts_none : (j : ℕ) (part : Part) → part_of p j ≡ part → (is : Hosting rank f p (before_slot s rank f p (state_at s f) j host)) (y : Schedule)
+      → (opened (setup_in s host) f part is.core).message ≡ Some (ScheduleOf y) → accepted_at (slot_in s rank f p j) host ≡ None
+  accepts_none j part at is y says =
+      let x : Slot = slot_in s rank f p j in
+      let window : x.window host ≡ Some (opened (setup_in s host) f part is.core) =
+      ap (λ (q : Part). opened_at s rank f q host (before j host)) at ∙ ap (λ (z : State). opened_at s rank f part host z) is.on
+      ∙ windowed s rank f part host is.core (host_member rank f is.core is.due) in
+      let initiates : has x.flood.initiators host ≡ true =
+      in_filtered (λ v. is_some (said_in (x.window v))) (ids s.nodes) host hosted.known
+      (ap (λ (w : Option Opened). is_some (said_in w)) window ∙ ap (λ (o : Option Message). is_some o) says) in
+      initiator_accepts_none x host initiates
+
+  pub opening_said : (is : Hosting rank f p (before_slot s rank f p (state_at s f) 0 host))
+      → (opened (setup_in s host) f Opening is.core).message ≡ Some (ScheduleOf (opening is.core.plan))
+  opening_said is = cond-true (hosts_now f is.core) _ None (now_due rank f is.core.tune is.due)
+
+  pub closing_opens : (is : Hosting rank f p (before_slot s rank f p (state_at s f) (last_slot p) host))
+      → opened (setup_in s host) f Closing is.core ≡ host_closes (setup_in s host) f is.core
+  closing_opens is = cond-true (hosts_now f is.core) (host_closes (setup_in s host) f is.core) (silent is.core) (now_due rank f is.core.tune is.due)
+
   -- a schedule is said by the host alone, in a slot of schedules
   no_schedule : (j : ℕ) (part : Part) → part_of p j ≡ part → is_closing part ≡ false → Hosting rank f p (before j host)
       → (y : Schedule) → accepted_at (slot_in s rank f p j) host ≡ Some (ScheduleOf y) → ⊥
   no_schedule j Closing at early is y said = false≢true (sym early)
   no_schedule j Opening at early is y said =
-      let x : Slot = slot_in s rank f p j in
-      let window : x.window host ≡ Some (opened (setup_in s host) f Opening is.core) =
-      ap (λ (q : Part). opened_at s rank f q host (before j host)) at ∙ ap (λ (z : State). opened_at s rank f Opening host z) is.on
-      ∙ windowed s rank f Opening host is.core (host_member rank f is.core is.due) in
-      let message : said_in (x.window host) ≡ Some (ScheduleOf (record { plan = is.core.plan; gap = 0 })) =
-      ap said_in window ∙ cond-true (hosts_now f is.core) _ None (now_due rank f is.core.tune is.due) in
-      let initiates : has x.flood.initiators host ≡ true =
-      in_filtered (λ v. is_some (said_in (x.window v))) (ids s.nodes) host hosted.known (ap (λ (o : Option Message). is_some o) message) in
-      let none = initiator_accepts_none x host initiates in
+      let says : (opened (setup_in s host) f Opening is.core).message ≡ Some (ScheduleOf (opening is.core.plan)) =
+      cond-true (hosts_now f is.core) _ None (now_due rank f is.core.tune is.due) in
+      let none = accepts_none j Opening at is (opening is.core.plan) says in
       cc
-  no_schedule j (DataSlot owner) at early is y said = by_answer (accepted (slot_in s rank f p j).flood host) said
-    where
-      by_answer : (a : Option (ℕ × ℕ)) → option_and_then (λ a. said_in ((slot_in s rank f p j).window a.0)) a ≡ Some (ScheduleOf y) → ⊥
-      by_answer None is = cc
-      by_answer (Some a) is =
-          let m = said_message s rank f (DataSlot owner) a.0 (before j a.0) (ScheduleOf y)
-          (ap (λ (q : Part). said_in (opened_at s rank f q a.0 (before j a.0))) (sym at) ∙ is) in
-          data_no_schedule (setup_in s a.0) f owner m.0 y m.3
-  no_schedule j (Contention i) at early is y said = by_answer (accepted (slot_in s rank f p j).flood host) said
-    where
-      by_answer : (a : Option (ℕ × ℕ)) → option_and_then (λ a. said_in ((slot_in s rank f p j).window a.0)) a ≡ Some (ScheduleOf y) → ⊥
-      by_answer None is = cc
-      by_answer (Some a) is =
-          let m = said_message s rank f (Contention i) a.0 (before j a.0) (ScheduleOf y)
-          (ap (λ (q : Part). said_in (opened_at s rank f q a.0 (before j a.0))) (sym at) ∙ is) in
-          contention_no_schedule (setup_in s a.0) f i m.0 y m.3
+  no_schedule j (DataSlot owner) at early is y said =
+      let m = heard_from s rank f p (state_at s f) j (DataSlot owner) at host (ScheduleOf y) said in data_no_schedule (setup_in s m.0) f owner m.1 y m.4
+  no_schedule j (Contention i) at early is y said =
+      let m = heard_from s rank f p (state_at s f) j (Contention i) at host (ScheduleOf y) said in contention_no_schedule (setup_in s m.0) f i m.1 y m.4
 
   -- it leads the round before each of its slots
   pub leads : (j : ℕ) → j ≤ last_slot p → Hosting rank f p (before_slot s rank f p (state_at s f) j host)
@@ -202,3 +223,19 @@ module _ (s : ScenarioParts) (rank f : ℕ) (p : Plan) (host : ℕ) (hosted : Is
             due = ap (λ (t : Tune). hosts_in rank f t) same.0 ∙ is.due;
             plan = same.1 ∙ is.plan;
           }
+
+  -- and after the closing it goes by the plan that it made
+  pub has_planned : (is : Hosting rank f p (before_slot s rank f p (state_at s f) (last_slot p) host))
+      → node_after s rank f p host ≡ StateOn (host_closes (setup_in s host) f is.core).core
+  unfolding before_slot
+  has_planned is =
+      let j = last_slot p in
+      let opens = closing_opens is in
+      let plan = host_plan s.profile host is.core.boot (rank_of is.core.tune) f is.core.kept is.core.table is.core.streams in
+      let none = accepts_none j Closing (closing_last p) is (record { plan = plan.plan; gap = plan.gap }) (ap (λ (o : Opened). o.message) opens) in
+      ap (λ (i : ℕ). before_slot s rank f p (state_at s f) i host) (add-one j)
+      ∙ ap (λ (h : Option Message). left_by (before j host) (closed_by s f (part_of p j) host (opened_at s rank f (part_of p j) host (before j host)) h
+      (before j host))) none
+      ∙ ap (λ (q : Part). left_by (before j host) (closed_by s f q host (opened_at s rank f q host (before j host)) None (before j host))) (closing_last p)
+      ∙ left_windowed s rank f Closing host (before j host) is.core None is.on (host_member rank f is.core is.due)
+      ∙ ap (λ (o : Opened). StateOn o.core) opens

@@ -4,7 +4,16 @@ mod KeptInRounds
 mod HostsOfRanks
 mod HostedRounds
 mod AcceptedSchedules
+mod AcknowledgedRequests
+mod ContentionSlots
+mod KeptNone
+mod KeptByHosts
+mod LoneRequests
 mod SaidByParts
 mod DeliveredData
+mod TiedNodes
+mod Collisions
 mod WorkedReach
 mod WorkedSchedules
+mod WorkedRequests
+mod WorkedContenders

@@ -1,3 +1,5 @@
 pub mod Reach
 pub mod DataService
 pub mod ScheduleService
+pub mod RequestService
+pub mod Contenders

@@ -4,8 +4,12 @@
 //! Each law is the contract of a function that does nothing.
 #![tactic(auto)]
 
+mod contention_laws;
 mod data_laws;
+mod request_laws;
 mod schedule_laws;
 
+pub use contention_laws::{contenders_meet_again, ids_equal_modulo_16_share_slots, ties_are_kept};
 pub use data_laws::data_is_delivered_within_reach;
+pub use request_laws::a_lone_request_is_acknowledged;
 pub use schedule_laws::schedules_are_accepted_within_reach;
