@@ -24,7 +24,7 @@ TuningsApart d e = d.node ≡ e.node → d.start ≢ e.start
 abbrev pub HearingsApart : Hearing → Hearing → Type 0
 HearingsApart g h = g.node ≡ h.node → g.sending.start ≢ h.sending.start
 
--- where this is said of two hearings
+-- where this is said of two receptions
 module _ (H : Hearing → Hearing → Type 0) where
   abbrev pub EntriesApart : Entry → Entry → Type 0
   EntriesApart (Sent x) (Sent y) = SendingsApart (sending_of x) (sending_of y)
@@ -69,7 +69,7 @@ module _ (H : Hearing → Hearing → Type 0) where
       pairs_cons EntriesApart (Tuned d) air (tuned_first air d tuned)
       (all_apart air sent heard (pairs_tail TuningsApart (tuning_of d) (tunings_of air) tuned))
 
--- entries of which no two hearings are the same
+-- entries of which no two receptions are the same
 abbrev pub Other : Hearing → Hearing → Type 0
 Other g h = g ≢ h
 
@@ -81,7 +81,7 @@ not_itself (Tuned e) apart = apart refl refl
 pub apart_differ : (d e : Entry) → EntriesApart Other d e → d ≢ e
 apart_differ d e apart is = not_itself d (subst (λ (x : Entry). EntriesApart Other d x) (sym is) apart)
 
--- entries of which no two hearings are of one node and one start
+-- entries of which no two receptions are of one node and one start
 other_kind : (k n : ℕ) → k < n → k ≡ n → ⊥
 other_kind k n less same = omega (arith, less, same)
 
@@ -98,7 +98,7 @@ apart_placed (Tuned d) (Tuned e) apart same = apart same.node same.start
 
 -- an entry is there where what it says is
 module _ (air : List Entry) where
-  sent_there : (x : SentEntry) → Contains (sendings_of air) (sending_of x) → Contains air (Sent x)
+  pub sent_there : (x : SentEntry) → Contains (sendings_of air) (sending_of x) → Contains air (Sent x)
   sent_there x there = let w = from_filter sending_in air (sending_of x) there in by_entry w.0 w.1 w.2
     where
       by_entry : (e : Entry) → Contains air e → sending_in e ≡ Some (sending_of x) → Contains air (Sent x)

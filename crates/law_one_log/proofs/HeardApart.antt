@@ -1,4 +1,4 @@
--- A node hears at most one sending of those that start together.
+-- A node hears at most one of the transmissions that start together.
 use Rattle.std.proofs.Common.{◌≡◌, ℕ, ◌<◌, inl, inr, List, Some, AllPairs, length, sym, ◌∙◌, ap, subst, arith}
 use Rattle.lwb_base.specs.Profile.{Numbers, IsProfile, airtime}
 use Rattle.link_trace.specs.Passes.{captured}

@@ -1,11 +1,12 @@
 -- What a node heard, by end and sender: where no two are of one end and sender, the order is told by the elements.
 use Rattle.std.proofs.Common.{◌≡◌, ◌<◌, ◌⊎◌, inl, inr, List, [], ◌∷◌, true, false, ◌==◌, ◌&&◌, nat_lt, Contains, AllPairs}
-use Rattle.std.proofs.Common.{refl, sym, ◌∙◌, ap, subst, arith, ltb-true, eqb-true}
+use Rattle.std.proofs.Common.{sym, ◌∙◌, subst, arith, ltb-true, eqb-true}
 use Rattle.std.specs.Prelude.{IsPermutation}
 use Rattle.std.proofs.lemmas.Bool.{cond_both, or_cases, and_parts, cases_order, false≢true, lt-ltb, eq-eqb, or_left, or_right, and_from}
 use Rattle.std.proofs.lemmas.List.Sorted.{IsPermutation-refl, IsPermutation-sym, IsPermutation-cons, IsPermutation-trans, IsPermutation-middle}
 use Rattle.std.proofs.lemmas.List.Sorted.{Contains-permutation}
 use Rattle.radio_model.specs.OnAir.{Hearing}
+use Rattle.law_one_log.proofs.SameElements.{same_order}
 use Rattle.radio_model.proofs.Members.{not_in_none, in_head, in_tail, in_either, pairs_cons, pairs_tail, pairs_head}
 use Rattle.air_log.specs.Lawful.{comes_before, put_in, by_end}
 
@@ -67,7 +68,7 @@ one_of g h apart =
 other_way : (g h : Hearing) → comes_before g h ≡ false → EndApart g h → InTurn h g
 other_way g h not apart = elim (one_of g h apart) [ inl is ↦ absurd (false≢true (sym not ∙ tells g h is)) | inr is ↦ is ]
 
--- a hearing put to its place
+-- a reception put to its place
 put_moves : (h : Hearing) (gs : List Hearing) → IsPermutation (h ∷ gs) (put_in h gs)
 put_moves h [] = IsPermutation-refl (h ∷ [])
 put_moves h (g ∷ gs) =
@@ -91,13 +92,13 @@ put_in_turn h (g ∷ gs) apart all =
     (λ is. pairs_cons InTurn g (put_in h gs)
     (λ k there. elim (in_either gs h k (Contains-permutation (put_in h gs) (h ∷ gs) k (IsPermutation-sym (h ∷ gs) (put_in h gs) (put_moves h gs)) there)) [
       | inl same ↦ subst (InTurn g) same (told g h is)
-      | inr behind ↦ later k behind
+      | inr more ↦ later k more
     ]) rest)
     (λ is.
     let first = other_way g h is (apart g (in_head gs g)) in
     pairs_cons InTurn h (g ∷ gs) (λ k there. elim (in_either gs g k there) [
       | inl same ↦ subst (InTurn h) same first
-      | inr behind ↦ chain h g k first (later k behind)
+      | inr more ↦ chain h g k first (later k more)
     ]) all)
 
 pub by_end_in_turn : (hs : List Hearing) → AllPairs EndApart hs → AllPairs InTurn (by_end hs)
@@ -111,39 +112,4 @@ by_end_in_turn (h ∷ hs) apart =
 -- two lists in turn with the same elements
 pub same_in_turn : (gs hs : List Hearing) → AllPairs InTurn gs → AllPairs InTurn hs → ((k : Hearing) → Contains gs k → Contains hs k)
     → ((k : Hearing) → Contains hs k → Contains gs k) → gs ≡ hs
-same_in_turn [] [] up down to from = refl
-same_in_turn [] (h ∷ hs) up down to from = absurd (not_in_none h (from h (in_head hs h)))
-same_in_turn (g ∷ gs) [] up down to from = absurd (not_in_none g (to g (in_head gs g)))
-same_in_turn (g ∷ gs) (h ∷ hs) up down to from =
-    ap (λ (k : Hearing). k ∷ gs) first ∙ ap (λ (l : List Hearing). h ∷ l)
-    (same_in_turn gs hs (pairs_tail InTurn g gs up) (pairs_tail InTurn h hs down) to_rest from_rest)
-  where
-    after_g : (k : Hearing) → Contains gs k → InTurn g k
-    after_g = pairs_head InTurn g gs up
-
-    after_h : (k : Hearing) → Contains hs k → InTurn h k
-    after_h = pairs_head InTurn h hs down
-
-    first : g ≡ h
-    first =
-        elim (in_either hs h g (to g (in_head gs g))) [
-          | inl is ↦ sym is
-          | inr late ↦ elim (in_either gs g h (from h (in_head hs h))) [
-            | inl is ↦ is
-            | inr later ↦ absurd (one_way h g (after_h g late) (after_g h later))
-          ]
-        ]
-
-    to_rest : (k : Hearing) → Contains gs k → Contains hs k
-    to_rest k there =
-        elim (in_either hs h k (to k (in_tail gs g k there))) [
-          | inl is ↦ (let so : InTurn k k = subst (λ (x : Hearing). InTurn x k) (first ∙ is) (after_g k there) in absurd (one_way k k so so))
-          | inr later ↦ later
-        ]
-
-    from_rest : (k : Hearing) → Contains hs k → Contains gs k
-    from_rest k there =
-        elim (in_either gs g k (from k (in_tail hs h k there))) [
-          | inl is ↦ (let so : InTurn k k = subst (λ (x : Hearing). InTurn x k) (sym first ∙ is) (after_h k there) in absurd (one_way k k so so))
-          | inr later ↦ later
-        ]
+same_in_turn = same_order InTurn one_way

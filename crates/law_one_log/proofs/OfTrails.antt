@@ -1,4 +1,5 @@
--- What the trails tell of the entries of a log: sendings and tunings of one node start apart, and its sendings do not meet.
+-- What the trails tell of the entries of a log: transmissions and tunings of one node start apart, and its transmissions do
+-- not meet.
 use Rattle.std.proofs.Common.{◌≡◌, ℕ, ◌<◌, ◌≤◌, ◌⊎◌, inl, inr, List, [], Bool, true, false, ◌==◌, if◌then◌else◌, length, Contains, AllPairs}
 use Rattle.std.proofs.Common.{refl, sym, ◌∙◌, ap, arith}
 use Rattle.std.proofs.lemmas.Bool.{eqb-true}
@@ -64,7 +65,7 @@ module _ (s : ScenarioParts) (clocks : ℕ → ℕ → ℕ) (air : List Entry) (
       let some = profile_lasts s.profile sound.profile (length x.packet) in
       omega (arith, long, some)
 
-  -- two sendings of a node
+  -- two transmissions of a node
   pub not_together : (x y : Sending) → Contains (sendings_of air) x → Contains (sendings_of air) y → x.node ≡ y.node
       → (x ≡ y) ⊎ ((x.end ≤ y.start) ⊎ (y.end ≤ x.start))
   not_together x y there also node =

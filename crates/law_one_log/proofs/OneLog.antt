@@ -12,7 +12,7 @@ use Rattle.law_one_log.proofs.SameBefore.{same_sendings, same_hearings, same_tun
 use Rattle.law_one_log.proofs.SameElements.{Differ, same_elements}
 
 module _ (s : ScenarioParts) (clocks : ℕ → ℕ → ℕ) (sound : IsSoundScenario s) where
-  -- no entry stands twice
+  -- no entry occurs twice
   differ : (air : List Entry) → Lawful s clocks air → Differ air
   differ air lawful =
       weaker_pairs (EntriesApart Other) (λ d e. d ≢ e) air

@@ -1,4 +1,4 @@
--- Lists in which nothing stands twice are permutations of one another where they have the same elements.
+-- Lists without repetition are permutations of one another where they have the same elements.
 use Rattle.std.proofs.Common.{◌≡◌, ◌≢◌, ◌⊎◌, inl, inr, List, [], ◌∷◌, ◌++◌, Contains, AllPairs, refl, sym, ap, ◌∙◌, subst}
 use Rattle.std.specs.Prelude.{IsPermutation}
 use Rattle.std.proofs.lemmas.List.Elements.{Contains-append_cases, Contains-append_left, Contains-append_right}
@@ -72,7 +72,7 @@ module _ {X : Type 0} where
       (IsPermutation-trans (x ∷ xs) (x ∷ (w.0 ++ w.1)) (w.0 ++ x ∷ w.1) (IsPermutation-cons x xs (w.0 ++ w.1) below)
       (IsPermutation-sym (w.0 ++ x ∷ w.1) (x ∷ (w.0 ++ w.1)) (IsPermutation-middle w.0 x w.1)))
 
--- two of a list, of which each stands so to all behind it
+-- two elements of a list in which each is so related to all after it
 pub which_first : {X : Type 0} (R : X → X → Type 0) (xs : List X) → AllPairs R xs → (x y : X) → Contains xs x → Contains xs y → (x ≡ y) ⊎ (R x y ⊎ R y x)
 which_first R [] all x y there also = absurd (not_in_none x there)
 which_first {X} R (z ∷ zs) all x y there also =
@@ -86,3 +86,44 @@ which_first {X} R (z ∷ zs) all x y there also =
         | inr later ↦ which_first R zs (pairs_tail R z zs all) x y late later
       ]
     ]
+
+-- two lists in one strict order with the same elements
+module _ {X : Type 0} (R : X → X → Type 0) (one_way : (x y : X) → R x y → R y x → ⊥) where
+  pub same_order : (xs ys : List X) → AllPairs R xs → AllPairs R ys → ((z : X) → Contains xs z → Contains ys z)
+      → ((z : X) → Contains ys z → Contains xs z) → xs ≡ ys
+  same_order [] [] up down to from = refl
+  same_order [] (y ∷ ys) up down to from = absurd (not_in_none y (from y (in_head ys y)))
+  same_order (x ∷ xs) [] up down to from = absurd (not_in_none x (to x (in_head xs x)))
+  same_order (x ∷ xs) (y ∷ ys) up down to from =
+      ap (λ (z : X). z ∷ xs) first
+      ∙ ap (λ (l : List X). y ∷ l) (same_order xs ys (pairs_tail R x xs up) (pairs_tail R y ys down) to_rest from_rest)
+    where
+      after_x : (z : X) → Contains xs z → R x z
+      after_x = pairs_head R x xs up
+
+      after_y : (z : X) → Contains ys z → R y z
+      after_y = pairs_head R y ys down
+
+      first : x ≡ y
+      first =
+          elim (in_either ys y x (to x (in_head xs x))) [
+            | inl is ↦ sym is
+            | inr late ↦ elim (in_either xs x y (from y (in_head ys y))) [
+              | inl is ↦ is
+              | inr later ↦ absurd (one_way y x (after_y x late) (after_x y later))
+            ]
+          ]
+
+      to_rest : (z : X) → Contains xs z → Contains ys z
+      to_rest z there =
+          elim (in_either ys y z (to z (in_tail xs x z there))) [
+            | inl is ↦ (let so : R z z = subst (λ (w : X). R w z) (first ∙ is) (after_x z there) in absurd (one_way z z so so))
+            | inr later ↦ later
+          ]
+
+      from_rest : (z : X) → Contains ys z → Contains xs z
+      from_rest z there =
+          elim (in_either xs x z (from z (in_tail ys y z there))) [
+            | inl is ↦ (let so : R z z = subst (λ (w : X). R w z) (sym first ∙ is) (after_y z there) in absurd (one_way z z so so))
+            | inr later ↦ later
+          ]

@@ -1,11 +1,14 @@
 -- One scenario over the same clocks has one lawful log, but for the order of its entries.
 use Rattle.std.specs.Prelude.{◌≡◌, ℕ, List, IsPermutation, AllPairs}
+use Rattle.scenario_text.specs.FloodParts.{FloodParts}
 use Rattle.scenario_text.specs.ScenarioParts.{ScenarioParts}
 use Rattle.air_log.specs.declared.entry.Entry.{Entry}
 use Rattle.air_log.specs.Entries.{node_of}
+use Rattle.air_log.specs.FloodLaw.{FloodLaw}
 use Rattle.air_log.specs.LogText.{start_of, kind_of, log_text}
 use Rattle.energy_account.specs.Energies.{energy_of}
 use Rattle.bus_alignment.specs.LawfulRuns.{IsLawfulRun}
+use Rattle.lwb_flood.specs.FloodLog.{HasClocks}
 
 -- the order of the log text does not tell the two apart
 pub record SamePlace (d e : Entry) : Type 0 where
@@ -36,3 +39,9 @@ abbrev pub OneCostLaw : Type 0
 OneCostLaw =
     (s : ScenarioParts) (clocks : ℕ → ℕ → ℕ) (a b : List Entry) → IsLawfulRun s clocks a → IsLawfulRun s clocks b
     → (v : ℕ) → energy_of s clocks a v ≡ energy_of s clocks b v
+
+-- the log of one flood: the same entries, each once
+abbrev pub OneFloodLogLaw : Type 0
+OneFloodLogLaw =
+    (f : FloodParts) (clocks : ℕ → ℕ → ℕ) (a b : List Entry) → HasClocks f clocks → FloodLaw f clocks a → FloodLaw f clocks b
+    → IsPermutation a b
