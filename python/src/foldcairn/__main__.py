@@ -9,7 +9,7 @@ from collections.abc import Callable, Sequence
 from pathlib import Path
 from typing import TypeAlias
 
-from . import program
+from . import program, report
 from .scenario import Scenario, ScenarioError, ScenarioWarning
 
 # The type has no public name.
@@ -159,7 +159,7 @@ def _explain(chosen: argparse.Namespace) -> int:
     return 0
 
 
-_COMMANDS = (_add_draw, _add_sweep, _add_explain)
+_COMMANDS = (report.add_command, _add_draw, _add_sweep, _add_explain)
 
 if __name__ == "__main__":
     sys.exit(main())

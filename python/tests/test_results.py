@@ -1,0 +1,245 @@
+"""Outputs as tables: worked reports, the first lines of a log, broken outputs, and the speed and memory of reading."""
+
+from __future__ import annotations
+
+import os
+import subprocess
+import sys
+import warnings
+from collections.abc import Callable
+from io import BytesIO
+from pathlib import Path
+
+import pytest
+from conftest import EXAMPLES, REPOSITORY
+from networks import CONTENDERS, LINE
+
+from foldcairn import columns, program, results
+from foldcairn.scenario import Scenario, ScenarioWarning
+
+FULL_QUEUE = (EXAMPLES / "full-queue.scenario").read_text()
+
+
+def test_the_report_of_two_contenders() -> None:
+    report = results.run(CONTENDERS)
+    assert report.scenario.frames == 18
+    table = report.deliveries
+    assert list(table.columns) == ["frame", "rank", "slot", "node", "source", "boot", "stream", "number", "payload", "seconds"]
+    assert table.drop(columns="seconds").astype(str).agg(" ".join, axis=1).tolist() == [
+        "13 0 1 1 2 1 0 0 aa", "13 0 1 3 2 1 0 0 aa", "17 0 5 1 3 1 0 0 bb", "17 0 5 2 3 1 0 0 bb",
+    ]  # fmt: skip
+    # Frame 13 starts at 52 s, and its round a second later; slot 1 is 33 ms after that.
+    assert table["seconds"].tolist() == pytest.approx([53.033, 53.033, 69.165, 69.165])
+    assert report.drops.empty and list(report.drops.columns) == ["frame", "node", "stream"]
+    first = report.energy.iloc[0]
+    assert (first["node"], first["transmit_ticks"], first["window_ticks"]) == (1, 929_792, 27_789_824)
+    assert (first["scanned_frames"], first["on_ticks"]) == (5, 1_256_589_824)
+    assert first["on_seconds"] == pytest.approx(1_256_589_824 / 64_000_000)
+    assert first["duty_cycle"] == pytest.approx(1_256_589_824 / 64_000_000 / 72)
+
+
+def test_the_times_of_profile_2() -> None:
+    report = results.run((EXAMPLES / "two-contention-slots.scenario").read_text())
+    assert report.deliveries["seconds"].tolist() == pytest.approx([46.056, 46.056, 46.28, 46.28])
+
+
+def test_drops_and_columns_without_rows() -> None:
+    report = results.run(FULL_QUEUE)
+    assert report.drops.values.tolist() == [[0, 2, 0]]
+    assert report.deliveries.empty
+    assert report.deliveries.dtypes["frame"] == "uint16" and report.deliveries.dtypes["payload"] == "category"
+    assert report.deliveries.dtypes["seconds"] == "float64"
+
+
+def test_bus_has_the_deliveries_of_run_and_no_times_of_radios() -> None:
+    run, bus = results.run(LINE), results.bus(LINE)
+    assert bus.deliveries.equals(run.deliveries)
+    assert bus.energy["window_ticks"].tolist() == run.energy["window_ticks"].tolist() == [9_771_520, 9_641_984, 9_711_616]
+    assert "duty_cycle" not in bus.energy
+
+
+def test_a_scenario_and_bytes_are_taken_as_well_as_text() -> None:
+    with warnings.catch_warnings():
+        warnings.simplefilter("error", ScenarioWarning)
+        made = Scenario.read(LINE)
+    assert results.run(made).deliveries.equals(results.run(LINE).deliveries)
+    assert results.run(b"# \xff\n" + LINE.encode()).deliveries.equals(results.run(LINE).deliveries)
+
+
+def test_the_scenario_of_a_report_is_its_own() -> None:
+    made = Scenario.read(LINE)
+    report = results.run(made)
+    made.frames = 1
+    assert report.scenario.frames == 12
+
+
+def test_warnings_name_the_line_that_calls() -> None:
+    made = Scenario.read(LINE).put(2, b"", frame=1)
+    with pytest.warns(ScenarioWarning) as told:
+        results.run(made)
+    assert told[0].filename == __file__
+
+
+def test_the_log_of_three_in_a_line() -> None:
+    log = results.log(LINE)
+    first = log.transmissions.iloc[0]
+    # The opening of frame 5 is a millisecond after 21 s and has 10 bytes, of 2,048 ticks each and 8 more.
+    assert (first["node"], first["start_ticks"], first["end_ticks"]) == (1, 21 * 64_000_000 + 64_000, 21 * 64_000_000 + 100_864)
+    assert (first["kind"], first["slot"], first["step"], first["rank"]) == ("opening", 0, 0, 0)
+    assert first["packet"] == "01000000010000000000"
+    assert first["start_seconds"] == pytest.approx(21.001)
+    heard = log.receptions.iloc[0]
+    assert (heard["node"], heard["sender"], heard["start_ticks"]) == (2, 1, first["start_ticks"])
+    assert log.tunings.iloc[0][["node", "start_ticks", "end_ticks"]].tolist() == [1, 0, 1_228_800_000]
+    # In frame 5 node 3 asks in slot 1, in frame 9 it sends in slot 1: each flood begins with one transmission of step 0.
+    begun = log.initiations[["frame", "slot", "kind", "node"]].astype(str).agg(" ".join, axis=1).tolist()
+    assert begun == ["5 0 opening 1", "5 1 request 3", "5 2 closing 1", "9 0 opening 1", "9 1 data 3", "9 6 closing 1"]
+    # Each node transmits twice in each of the six floods.
+    assert len(log.transmissions) == 36
+    assert log.packets.loc["02010003010000" + "00aa", "number"] == 0
+    assert log.deliveries.equals(results.run(LINE).deliveries)
+
+
+def test_a_run_of_two_idle_nodes_has_tables_without_rows() -> None:
+    text = "frames 1\nsends 1\nnode 1 0\nnode 2 0\nhost 0 1\n"
+    log = results.log(text)
+    assert log.transmissions.empty and log.receptions.empty and log.tunings.empty and log.initiations.empty
+    assert {"kind", "slot", "step", "start_seconds"} <= set(log.transmissions.columns)
+
+
+def test_a_flood() -> None:
+    report = results.flood((EXAMPLES / "three-in-a-line.flood").read_text())
+    assert report.accepts.values.tolist() == [[2, 0], [3, 1]]
+    assert report.transmissions == 6
+    assert results.flood((EXAMPLES / "first-hop-lost.flood").read_text()).accepts.empty
+
+
+def test_deadlines() -> None:
+    report = results.deadlines((EXAMPLES / "one-slot-three-streams.deadlines").read_text())
+    assert report.admitted.values.tolist() == [[2, 0], [3, 0]]
+    assert report.rejected.to_dict("records") == [{"node": 4, "stream": 0, "from_frame": 0, "until_frame": 4, "demand": 5}]
+    assert report.rounds.values.tolist() == [[0, 3, 0], [1, 2, 0], [2, 3, 0], [3, 2, 0]]
+
+
+def test_commands_are_those_of_the_usage_line(fake: Callable[[str], Path]) -> None:
+    assert {"run", "log", "bus", "flood", "deadlines", "demo"} <= results.commands()
+    usage = "usage: flood | run | log | bus | demo SEED NODES FRAMES | check | deadlines | times | return"
+    known = results.commands(program=fake(f"echo '{usage}'; exit 2"))
+    assert known == {"flood", "run", "log", "bus", "demo", "check", "deadlines", "times", "return"}
+
+
+@pytest.mark.parametrize("command", ["check", "times", "return"])
+def test_commands_that_the_program_lacks(command: str) -> None:
+    if command in results.commands():
+        pytest.skip(f"the program has `{command}`")
+    call = {"check": lambda: results.check(LINE, ""), "times": lambda: results.times(LINE), "return": lambda: results.returns(LINE)}
+    with pytest.raises(program.BadUsage, match=command):
+        call[command]()
+
+
+def test_verdicts(fake: Callable[[str], Path], tmp_path: Path) -> None:
+    verdict = results.check(LINE, "tuned 0 1 0 5\n", program=fake(f"cat > {tmp_path}/asked; echo lawful"))
+    assert verdict == results.Verdict(True, "lawful")
+    assert (tmp_path / "asked").read_text() == LINE + "log\ntuned 0 1 0 5\n"
+    assert results.check(LINE, "", program=fake("cat > /dev/null; echo no trail 2")) == results.Verdict(False, "no trail 2")
+
+
+def test_time_stamps(fake: Callable[[str], Path]) -> None:
+    table = results.times(LINE, program=fake("cat > /dev/null; echo stamp 9 0 1 2 0 0 2370176000"))
+    assert table.iloc[0].to_dict() == {
+        "frame": 9, "rank": 0, "slot": 1, "node": 2, "stream": 0, "number": 0, "host_ticks": 2_370_176_000, "host_seconds": 37.034,
+    }  # fmt: skip
+
+
+def test_returns(fake: Callable[[str], Path]) -> None:
+    energy = "".join(f"energy {node} 0 0 1 64000000\\n" for node in (1, 2, 3))
+    answer = f"return 36 2 0\\nprobe 2 7\\ndeliver 9 0 1 2 3 1 0 0 aa\\n{energy}"
+    report = results.returns(LINE, program=fake(f"cat > /dev/null; printf '{answer}'"))
+    assert report.returns.to_dict("records") == [{"frame": 36, "node": 2, "rank": 0}]
+    assert report.probes.to_dict("records") == [{"node": 2, "frames": 7}]
+    assert len(report.deliveries) == 1 and len(report.energy) == 3
+
+
+def test_a_rejected_text_names_line_and_range() -> None:
+    with pytest.raises(program.Refused) as error:
+        results.run(LINE + "rate 1 0 21\n")
+    assert error.value.line == 14 and error.value.kind == "Range"
+
+
+@pytest.mark.parametrize(
+    ("script", "expected"),
+    [("exit 5", program.OutOfMemory), ("kill -9 $$", program.Killed), ("exit 3", program.InputUnreadable)],
+)
+@pytest.mark.parametrize("call", [results.run, results.log, results.bus])
+def test_a_program_that_ends_badly(fake: Callable[[str], Path], script: str, expected: type[Exception], call: Callable) -> None:
+    with pytest.raises(expected):
+        call(LINE, program=fake(f"cat > /dev/null; {script}"))
+
+
+def test_a_program_that_is_missing(tmp_path: Path) -> None:
+    with pytest.raises(program.NotFound):
+        results.run(LINE, program=tmp_path / "nowhere")
+
+
+def test_a_kept_log_that_is_cut() -> None:
+    output = program.execute(["log"], LINE)
+    assert len(results.read_log(BytesIO(output), LINE).transmissions) == 36
+    with pytest.raises(program.CutOutput, match="has no end"):
+        results.read_log(BytesIO(output[:-9]), LINE)
+
+
+@pytest.mark.parametrize(
+    ("line", "why"),
+    [
+        ("gone 1 2", "unknown line"),
+        ("sends 1 2", "begins with 'sends'|other words"),
+        ("drop 1 2", "a `drop` line has other words"),
+        ("drop 1 2 3 4", "a `drop` line has other words"),
+        ("drop 1 x 3", "a `drop` line has other words"),
+        ("", "unknown line"),
+    ],
+)
+def test_lines_of_another_version(line: str, why: str) -> None:
+    with pytest.raises(columns.UnknownLine, match=why):
+        results.read_log(BytesIO(f"{line}\n".encode()), LINE)
+
+
+def test_blocks_may_end_anywhere_in_a_line(monkeypatch: pytest.MonkeyPatch) -> None:
+    output = program.execute(["log"], CONTENDERS)
+    whole = results.read_log(BytesIO(output), CONTENDERS)
+    for size in (64, 1_000):
+        monkeypatch.setattr(columns, "_BLOCK_BYTES", size)
+        parts = results.read_log(BytesIO(output), CONTENDERS)
+        for name in ("deliveries", "drops", "energy", "transmissions", "receptions", "tunings"):
+            assert getattr(parts, name).astype(str).equals(getattr(whole, name).astype(str))
+
+
+_READ = """
+import resource, sys, time
+from foldcairn import results
+from foldcairn.scenario import Scenario
+scenario = Scenario.read(open(sys.argv[1]).read())
+before = resource.getrusage(resource.RUSAGE_SELF).ru_maxrss
+begun = time.process_time()
+with open(sys.argv[2], "rb") as source:
+    log = results.read_log(source, scenario)
+seconds = time.process_time() - begun
+print(len(log.deliveries), len(log.transmissions), len(log.receptions), len(log.tunings), seconds,
+      resource.getrusage(resource.RUSAGE_SELF).ru_maxrss * 1024)
+"""
+
+
+def test_a_log_of_280_megabytes(tmp_path: Path) -> None:
+    """20 MB/s of processor time, in less than three times its size. The counts are those that grep counts."""
+    text, kept = tmp_path / "dense.scenario", tmp_path / "dense.log"
+    text.write_bytes(subprocess.run([REPOSITORY / "bench/run.sh", "--text", "dense"], capture_output=True, check=True).stdout)
+    program.execute_to_file(["log"], text.read_bytes(), kept)
+    size = kept.stat().st_size
+    told = subprocess.run([sys.executable, "-c", _READ, text, kept], env={**os.environ, "PYTHONPATH": str(REPOSITORY / "python/src")},
+                          capture_output=True, check=True, text=True).stdout.split()  # fmt: skip
+    words = ("deliver", "sent", "heard", "tuned")
+    counted = subprocess.run(["cut", "-d", " ", "-f", "1", kept], capture_output=True, check=True).stdout
+    assert [int(number) for number in told[:4]] == [counted.count(f"{word}\n".encode()) for word in words]
+    assert size > 270_000_000
+    assert size / float(told[4]) > 20_000_000
+    assert int(told[5]) < 3 * size
