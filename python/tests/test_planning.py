@@ -290,3 +290,60 @@ def test_tables_has_every_answer(line: Log) -> None:
     tables = planning.tables(line)
     assert len(tables) == 19
     assert all(isinstance(table, pd.DataFrame) for table in tables.values())
+
+
+@pytest.mark.parametrize(
+    "text",
+    [
+        # Nobody has power, and what is put is dropped.
+        "frames 9\nsends 1\nnode 1 0\nnode 2 0\nhost 0 1\nput 0 2 0 aa\n",
+        # Nothing is put, and nothing but searching happens.
+        "frames 1\nsends 1\nnode 1 0\nnode 2 0\nhost 0 1\non 0 1\n",
+        # A round without streams.
+        "frames 6\nsends 1\nnode 1 0\nnode 2 0\nhost 0 1\npair 1 2\non 0 1\non 0 2\n",
+        # A node goes off and on within one frame, and nobody hosts.
+        "frames 3\nsends 1\nnode 1 0\nnode 2 0\nhost 0 1\non 0 2\noff 1 2\non 1 2\nstream 1 2 0 4\nput 1 2 0 aa\noff 1 2\n",
+    ],
+)
+def test_tables_of_runs_in_which_little_happens(text: str) -> None:
+    log = results.log(text)
+    tables = planning.tables(log)
+    assert tables["radio-time"]["on"].iloc[:-1].tolist() == pytest.approx(log.energy["on_seconds"].tolist())
+    assert len(tables["packets"]) == text.count("put")
+    assert tables["duty-cycle"]["node"].tolist() == [1, 2]
+
+
+# Puts, dropped and cleared.
+
+
+def fates(script: str, frames: int = 3) -> list[str]:
+    """The fates of puts of node 2, which nobody hosts."""
+    log = results.log(f"frames {frames}\nsends 1\nnode 1 0\nnode 2 0\nhost 0 1\n{script}")
+    return planning.packets(log)["fate"].tolist()
+
+
+def test_puts_that_are_dropped_and_puts_that_are_cleared() -> None:
+    assert fates("put 0 2 0 aa\n") == ["dropped: node off"]
+    assert fates("on 0 2\nput 0 2 0 aa\nstream 0 2 0 4\nput 0 2 0 bb\n") == ["dropped: no stream", "queued"]
+    assert fates("on 0 2\nstream 0 2 0 4\nput 0 2 0 aa\noff 1 2\n") == ["lost with its node"]
+    assert fates("on 0 2\nstream 0 2 0 4\nput 0 2 0 aa\nleave 1 2 0\nput 2 2 0 bb\n") == ["withdrawn", "dropped: no stream"]
+    # `on` at a node with power does nothing, and `off` and `stream` without power do nothing.
+    assert fates("on 0 2\nstream 0 2 0 4\non 1 2\nput 1 2 0 aa\n") == ["queued"]
+    assert fates("stream 0 2 0 4\noff 0 2\non 1 2\nput 1 2 0 aa\n") == ["dropped: no stream"]
+
+
+def test_which_puts_meet_a_full_queue() -> None:
+    puts = "put 0 2 0 aa\n" * 18
+    head = "on 0 2\nstream 0 2 0 4\n"
+    assert fates(head + puts) == ["queued"] * 16 + ["dropped: full queue"] * 2
+    # Two frames: of the second all are dropped.
+    assert fates(head + "put 0 2 0 aa\n" * 16 + "put 1 2 0 aa\n") == ["queued"] * 16 + ["dropped: full queue"]
+    # A stream that is left and requested again within the frame has an empty queue.
+    again = head + puts + "leave 0 2 0\nstream 0 2 0 4\n" + puts
+    assert fates(again) == (["withdrawn"] * 16 + ["dropped: full queue"] * 2) + (["queued"] * 16 + ["dropped: full queue"] * 2)
+    # So has one after a restart within the frame.
+    restarted = head + puts + "off 0 2\non 0 2\nstream 0 2 0 4\n" + puts
+    assert fates(restarted) == (["lost with its node"] * 16 + ["dropped: full queue"] * 2) + (["queued"] * 16 + ["dropped: full queue"] * 2)
+    # The numbers count what was queued, anew after a restart.
+    log = results.log(f"frames 3\nsends 1\nnode 1 0\nnode 2 0\nhost 0 1\n{restarted}")
+    assert planning.packets(log)["number"].tolist() == ([*range(16), -1, -1]) * 2

@@ -191,9 +191,9 @@ def _searches(log: Log) -> pd.DataFrame:
     table["search"] = (before != table["start_ticks"]).cumsum()
     table = table.groupby(["node", "search"], as_index=False).agg(start_seconds=("start_seconds", "min"), end_seconds=("end_seconds", "max"))
     boots = power.boots(log.scenario)
-    starts, ends = (set(zip(boots["node"], boots[name])) for name in ("on_seconds", "off_seconds"))
-    places = list(zip(table["node"], table["start_seconds"]))
-    table = table[[place not in starts for place in places]].drop(columns="search").reset_index(drop=True)
+    begun, ended = (pd.MultiIndex.from_frame(boots[["node", name]]) for name in ("on_seconds", "off_seconds"))
+    first = pd.MultiIndex.from_frame(table[["node", "start_seconds"]]).isin(begun)
+    table = table[~first].drop(columns="search").reset_index(drop=True)
     table["outage_seconds"] = table["end_seconds"] - table["start_seconds"]
-    table["joined_again"] = [place not in ends for place in zip(table["node"], table["end_seconds"])]
+    table["joined_again"] = ~pd.MultiIndex.from_frame(table[["node", "end_seconds"]]).isin(ended)
     return table

@@ -1,0 +1,63 @@
+"""The command `python3 -m foldcairn report`."""
+
+from __future__ import annotations
+
+import io
+import sys
+from pathlib import Path
+
+import pandas as pd
+import pytest
+from networks import FAILOVER, LINE
+
+from foldcairn import __main__, planning, results
+
+
+def test_all_tables_as_text(tmp_path: Path, capsys: pytest.CaptureFixture[str]) -> None:
+    path = tmp_path / "failover.scenario"
+    path.write_text(FAILOVER)
+    assert __main__.main(["report", str(path)]) == 0
+    told = capsys.readouterr()
+    assert told.err == ""
+    assert told.out.startswith("Which host serves when\n\n rank  host  host_boot  first_seconds")
+    assert "Outages at changes of hosts, by stream\n\n from_host  to_host  source  stream  off_seconds" in told.out
+    rows = [line.split() for line in told.out.splitlines()]
+    # The rows of the two hosts, and the one of the outage.
+    assert ["0", "1", "1", "21.000", "21.000", "1", "3", "21.068", "1", "1", "21.067"] in rows
+    assert ["1", "2", "1", "109.000", "125.000", "2", "2", "109.068", "1", "1", "109.067"] in rows
+    assert ["1", "2", "24.000", "21.000", "109.000", "37.033", "125.033", "88.000", "101.033"] in rows
+
+
+def test_from_standard_input_with_tables_that_have_no_rows(capsys: pytest.CaptureFixture[str], monkeypatch: pytest.MonkeyPatch) -> None:
+    class Input:
+        buffer = io.BytesIO(LINE.encode())
+
+    monkeypatch.setattr(sys, "stdin", Input)
+    assert __main__.main(["report", "-"]) == 0
+    assert "Outages at changes of hosts\n\nnone\n" in capsys.readouterr().out
+
+
+def test_all_tables_as_files(tmp_path: Path, capsys: pytest.CaptureFixture[str]) -> None:
+    path, folder = tmp_path / "failover.scenario", tmp_path / "a" / "tables"
+    path.write_text(FAILOVER)
+    assert __main__.main(["report", str(path), "--csv", str(folder)]) == 0
+    assert capsys.readouterr().out == ""
+    expected = planning.tables(results.log(FAILOVER))
+    assert sorted(file.stem for file in folder.iterdir()) == sorted(expected)
+    packets = pd.read_csv(folder / "packets.csv")
+    assert packets["fate"].tolist() == ["delivered", "delivered"]
+    assert packets["sent_seconds"].tolist() == pytest.approx([37.034, 125.034])
+
+
+def test_a_text_that_is_rejected(tmp_path: Path, capsys: pytest.CaptureFixture[str]) -> None:
+    path, folder = tmp_path / "wrong.scenario", tmp_path / "tables"
+    path.write_text(LINE + "rate 1 0 21\n")
+    assert __main__.main(["report", str(path), "--csv", str(folder)]) == 1
+    told = capsys.readouterr()
+    assert told.out == "" and "line 14" in told.err and "from -20 to 20 ppm" in told.err
+    assert not folder.exists()
+
+
+def test_a_file_that_is_missing(tmp_path: Path, capsys: pytest.CaptureFixture[str]) -> None:
+    assert __main__.main(["report", str(tmp_path / "nowhere")]) == 1
+    assert "nowhere" in capsys.readouterr().err
