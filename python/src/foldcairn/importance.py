@@ -32,11 +32,11 @@ def importance(
 ) -> pd.DataFrame:
     """How much is delivered without each of the "links" (both directions of a pair) or of the "nodes".
 
-    Each candidate (all pairs of linked nodes, or all nodes, by default; else pairs of ids, or ids) is cut for the whole run, once for
-    each seed. The losses are drawn anew for each cut, by `losses.draw` with the reception ratios (`prr`) of the scenario: losses
-    that were drawn for one network and kept for another rank links wrongly. The measure is the part, 0 to 1, of what was put
-    that was delivered, over all pairs of a source and another node. A node is cut by cutting all its links, and is then no
-    source and no receiver, neither with the cut nor without it.
+    Each candidate is cut for the whole run, once for each seed: a pair of ids, or an id, and all pairs of linked nodes or all
+    nodes if `candidates` is not given. The losses are drawn anew for each cut, by `losses.draw` with the reception ratios
+    (`prr`) of the scenario: losses that were drawn for one network and kept for another rank links wrongly. The measure is the
+    part, 0 to 1, of what was put that was delivered, over all pairs of a source and another node. A node is cut by cutting all
+    its links, and is then no source and no receiver, neither with the cut nor without it.
 
     one, other, or node    what is cut
     ratio                  the measure without the cut, the mean over the seeds
@@ -46,8 +46,8 @@ def importance(
     least, greatest        the least and the greatest change of any seed
     error                  the standard error of `change`: `spread` over the square root of the number of seeds. A change of less
                            than two errors tells nothing
-    The rows begin with the most harmful cut. It takes a drawing for each candidate and seed; `executor` runs them (a process
-    for each processor by default). Raises `ValueError` where `what` is another word, there is no seed, or nothing is put, and
+    The rows begin with the most harmful cut. It takes a drawing for each candidate and seed; `executor` runs them, a process
+    for each processor if it is not given. Raises `ValueError` where `what` is another word, there is no seed, or nothing is put, and
     what `losses.draw` raises.
     """
     if what not in ("links", "nodes"):
