@@ -9,11 +9,12 @@ import os
 from collections import Counter
 from collections.abc import Iterable, Sequence
 from concurrent.futures import Executor, ProcessPoolExecutor
-from contextlib import nullcontext
+from contextlib import ExitStack
 from itertools import repeat
 
 import numpy as np
 import pandas as pd
+from numpy.typing import NDArray
 
 from . import losses, results
 from .events import Put
@@ -59,8 +60,8 @@ def importance(
         raise ValueError("nothing is put in this scenario, so nothing can be delivered")
     cuts = _candidates(scenario, what, candidates)
     jobs = [(cut, seed) for cut in (None, *cuts) for seed in seeds]
-    pool = nullcontext(executor) if executor is not None else ProcessPoolExecutor(min(len(jobs), os.cpu_count() or 1))
-    with pool as runner:
+    with ExitStack() as stack:
+        runner = executor or stack.enter_context(ProcessPoolExecutor(min(len(jobs), os.cpu_count() or 1)))
         delivered = dict(zip(jobs, runner.map(_deliveries, repeat(scenario), *zip(*jobs))))
     rows = []
     for cut in cuts:
@@ -74,7 +75,7 @@ def importance(
     return pd.DataFrame(rows, columns=columns).sort_values("change", ignore_index=True)
 
 
-def _summary(changes: np.ndarray) -> tuple[float, float, float, float, float]:
+def _summary(changes: NDArray[np.float64]) -> tuple[float, float, float, float, float]:
     spread = float(changes.std(ddof=1)) if len(changes) > 1 else float("nan")
     return float(changes.mean()), spread, float(changes.min()), float(changes.max()), spread / len(changes) ** 0.5
 

@@ -149,14 +149,15 @@ def _clear(told: _Puts, queue: _Queue, why: str) -> None:
 
 
 def _put(told: _Puts, line: Put, queue: _Queue | None, boot: int) -> None:
-    queued = queue is not None and queue.requested
-    if queued:
+    dropped, filling = OFF if queue is None else NO_STREAM, 0
+    if queue is not None and queue.requested:
         queue.waiting.append(len(told.rows))
+        dropped, filling = "", queue.filling
     told.rows.append(line)
     told.boot.append(0 if queue is None else boot)
-    told.dropped.append("" if queued else OFF if queue is None else NO_STREAM)
+    told.dropped.append(dropped)
     told.cleared.append("")
-    told.filling.append(queue.filling if queued else 0)
+    told.filling.append(filling)
 
 
 def _drop_by_full_queues(told: _Puts, drops: pd.DataFrame) -> None:

@@ -32,7 +32,7 @@ _SHOWN = {
 }
 
 
-def add_command(commands: argparse._SubParsersAction) -> None:
+def add_command(commands: argparse._SubParsersAction[argparse.ArgumentParser]) -> None:
     """Adds the command to those of `python3 -m foldcairn`."""
     parser = commands.add_parser(
         "report",

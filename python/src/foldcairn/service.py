@@ -6,6 +6,8 @@ All times are seconds of true time from the start of the run; `rounds` says what
 
 from __future__ import annotations
 
+from typing import Any
+
 import numpy as np
 import pandas as pd
 
@@ -172,7 +174,7 @@ def _deliveries_by_term(log: Log) -> pd.DataFrame:
     return table.merge(terms, on=["frame", "rank"], how="left")
 
 
-def _outages_of(change: dict[str, object], deliveries: pd.DataFrame, keys: list[str]) -> pd.DataFrame:
+def _outages_of(change: dict[str, Any], deliveries: pd.DataFrame, keys: list[str]) -> pd.DataFrame:
     ours = (deliveries["rank"] == change["rank"]) & (deliveries["host_boot"] == change["host_boot"])
     group = keys or (lambda _: 0)
     first = deliveries[ours].groupby(group)["seconds"].min()
