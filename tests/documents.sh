@@ -150,7 +150,7 @@ follow_links() {
         if [ -e "$(dirname "$top/$1")/${link%%#*}" ]; then
             counts_pass
         else
-            counts_failure "$1: nothing stands at $link"
+            counts_failure "$1: there is nothing at $link"
         fi
     done < <(grep -oE '\]\([^)#: ]+(#[^) ]*)?\)' "$top/$1" | sed 's/^](//; s/)$//' | sort -u)
 }
