@@ -1,17 +1,20 @@
 #!/bin/sh
-# Times runs of two scenarios of 64 nodes over 256 frames. For each it prints the sendings and deliveries of a run, the
+# Times runs of three scenarios of 64 nodes over 256 frames. For each it prints the sendings and deliveries of a run, the
 # processor time of a run, the cost of one sending in processor time, and the most memory that a run takes.
 # The first is sparse: its network is random from a fixed seed, and connected. It has two hosts, and 32 streams with a
 # packet every tenth frame. The second is dense: all nodes hear each other, a node sends up to four times in a flood, and
 # 32 streams of 8 nodes are owed more than the 40 slots that a round has, and have a packet in each frame.
+# The third is lossy: the scenario that `demo 7 64 256` runs, with some 32 lost links in each frame. Its text is drawn by
+# bench/made.py; without python3 it is left out, and a line says so.
 # The memory is measured by GNU time (/usr/bin/time), or else read again and again from /proc/PID/status of Linux; without
 # either it is not printed.
-# Usage: bench/run.sh PROGRAM [sparse | dense | sizes], where PROGRAM is the proved program; or bench/run.sh --text sparse | dense,
-# which writes the text alone. With sizes it runs the dense scenario over as many frames as make about 10^3, 10^4, 10^5 and
-# 10^6 sendings, to compare the cost of one sending.
+# Usage: bench/run.sh PROGRAM [sparse | dense | lossy | sizes], where PROGRAM is the proved program; or bench/run.sh --text
+# sparse | dense | lossy, which writes the text alone. With sizes it runs the dense scenario over as many frames as make about
+# 10^3, 10^4, 10^5 and 10^6 sendings, to compare the cost of one sending.
 set -eu
 
 program=${1:?the program}
+bench=$(cd "$(dirname "$0")" && pwd)
 folder=$(mktemp -d)
 trap 'rm -rf "$folder"' EXIT
 
@@ -69,6 +72,14 @@ dense() {
     }'
 }
 
+lossy() {
+    if ! command -v python3 > /dev/null; then
+        echo "lossy: left out, since there is no python3, which draws its text" >&2
+        return 1
+    fi
+    python3 "$bench/made.py" 7 64 256
+}
+
 # The peak of a run in the background, as long as it runs.
 peak_by_status() {
     "$program" run < "$folder/text" > "$folder/answer" &
@@ -120,12 +131,13 @@ if [ "$program" = --text ]; then
     case ${2:-} in
         sparse) sparse ;;
         dense) dense 256 ;;
-        *) echo "bench/run.sh: sparse or dense" >&2; exit 2 ;;
+        lossy) lossy ;;
+        *) echo "bench/run.sh: sparse, dense or lossy" >&2; exit 2 ;;
     esac
     exit
 fi
 
-for name in ${2:-sparse dense}; do
+for name in ${2:-sparse dense lossy}; do
     case $name in
         sparse)
             sparse > "$folder/text"
@@ -134,6 +146,9 @@ for name in ${2:-sparse dense}; do
         dense)
             dense 256 > "$folder/text"
             measure dense 1
+            ;;
+        lossy)
+            if lossy > "$folder/text"; then measure lossy 3; fi
             ;;
         sizes)
             while read -r frames runs; do
@@ -147,7 +162,7 @@ for name in ${2:-sparse dense}; do
 END
             ;;
         *)
-            echo "bench/run.sh: sparse, dense or sizes, and not $name" >&2
+            echo "bench/run.sh: sparse, dense, lossy or sizes, and not $name" >&2
             exit 2
             ;;
     esac

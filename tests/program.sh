@@ -1,8 +1,8 @@
 #!/usr/bin/env bash
 # Runs the built program and says what it does other than it should: on each example, whose report in examples/expected was
-# worked out from the rules; on words that are no command, texts that are rejected, streams that fail, and the greatest sizes;
-# built by the second compiler, on each example again; and by the front end ./foldcairn. The last line is 'N passed, M failed', and the status is 0 where
-# M is 0.
+# worked out from the rules; on texts that bench/made.py draws; on words that are no command, texts that are rejected, streams
+# that fail, and the greatest sizes; built by the second compiler, on each example again; and by the front end ./foldcairn.
+# The last line is 'N passed, M failed', and the status is 0 where M is 0.
 # Usage: tests/program.sh [PROGRAM [OTHER]]. OTHER is the same program as the second compiler builds it. By default they are
 # what the gate built, or they are built.
 set -u
@@ -125,6 +125,20 @@ demos() {
     ends "$name, with an input" 0 "$text"
 }
 
+# What bench/made.py draws of these three numbers: its run sums up to that.
+drawn() {
+    local name=$1 text=$2
+    shift 2
+    python3 "$top/bench/made.py" "$@" > "$folder/in"
+    "$program" run < "$folder/in" > "$folder/report"
+    status=$?
+    awk '{ count[$1]++ }
+        $1 == "energy" { sent += $3; on += $6 }
+        END { printf "deliveries %d\ndrops %d\nsent %.0f\non %.0f\n", count["deliver"], count["drop"], sent, on }' \
+        "$folder/report" > "$folder/out"
+    ends "$name" 0 "$text"
+}
+
 usage=$'usage: flood | run | log | bus | demo SEED NODES FRAMES | deadlines\n'
 line=$'sends 2\nnode 1 0\nnode 2 0\nnode 3 0\npair 1 2\npair 2 3\nstart 1\n'
 base=$'sends 2\nnode 1 0\nnode 2 0\nhost 0 1\npair 1 2\n'
@@ -217,6 +231,13 @@ little_memory() {
 examples
 demos "a demo of two nodes" $'deliveries 0\ndrops 0\nsent 0\non 512000000\n' 7 2 1
 demos "a demo of twenty nodes" $'deliveries 295\ndrops 0\nsent 52015104\non 111995785254\n' 7 20 50
+if command -v python3 > /dev/null; then
+    drawn "a drawn text of two nodes" $'deliveries 0\ndrops 0\nsent 0\non 512000000\n' 7 2 1
+    drawn "a drawn text of twenty nodes" $'deliveries 295\ndrops 0\nsent 52015104\non 111995785254\n' 7 20 50
+    drawn "a drawn text of 64 nodes in 256 frames" $'deliveries 63103\ndrops 2223\nsent 6072967168\non 435905812220\n' 7 64 256
+else
+    echo "left out: the texts that bench/made.py draws, since there is no python3" >&2
+fi
 words_and_texts
 ends_that_fail
 greatest_sizes
