@@ -41,6 +41,7 @@ impl Calendar {
     }
 
     /// The map has that tick of 1/64 µs there, and all else stays. Places are counted from 0.
+    #[inline(always)]
     pub fn set(&mut self, place: u8, class: Class, tick: u64)
         requires { place < length self.old }
         ensures { self.new ≡ changed self.old place class (Some tick) }
@@ -51,6 +52,7 @@ impl Calendar {
     }
 
     /// The map has nothing there, and all else stays. Places are counted from 0.
+    #[inline(always)]
     pub fn clear(&mut self, place: u8, class: Class)
         requires { place < length self.old }
         ensures { self.new ≡ changed self.old place class None }

@@ -27,10 +27,12 @@ pub trait Orders {
 impl Orders for Calendar {
     ghost map = { λ c. c };
 
+    #[inline(always)]
     fn set(&mut self, place: u8, class: Class, tick: u64) {
         Calendar::set(self, place, class, tick);
     }
 
+    #[inline(always)]
     fn clear(&mut self, place: u8, class: Class) {
         Calendar::clear(self, place, class);
     }

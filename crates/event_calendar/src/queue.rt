@@ -41,6 +41,7 @@ impl Queue {
     }
 
     /// Adds an order at its place in time. No memory is taken.
+    #[inline(always)]
     pub fn add(&mut self, entry: Entry)
         requires room { length self.old.entries < self.old.room }
         requires order { IsInOrder self.old.entries }
@@ -57,6 +58,7 @@ impl Queue {
     }
 
     /// Removes an order that stands in it.
+    #[inline(always)]
     pub fn remove(&mut self, entry: Entry)
         requires order { IsInOrder self.old.entries }
         requires there { Contains self.old.entries entry }
@@ -71,6 +73,7 @@ impl Queue {
     }
 
     // How many orders come before that one. A new order mostly comes last, or nearly so.
+    #[inline(always)]
     fn place_of(&self, entry: &Entry) -> usize
         requires order { IsInOrder self.now.entries }
         requires apart { Contains self.now.entries entry.now → ⊥ }
@@ -90,6 +93,7 @@ impl Queue {
     }
 
     // Where that order stands. It is mostly the first.
+    #[inline(always)]
     fn index_of(&self, entry: &Entry) -> usize
         requires there { Contains self.now.entries entry.now }
         ensures bound { result < length self.now.entries }

@@ -36,6 +36,7 @@ impl Queues {
     }
 
     /// Adds an order of that class.
+    #[inline(always)]
     pub fn add(&mut self, class: Class, entry: Entry)
         requires room { length (queue_of class self.old).entries < (queue_of class self.old).room }
         requires order { IsInOrder (queue_of class self.old).entries }
@@ -50,6 +51,7 @@ impl Queues {
     }
 
     /// Removes an order of that class that stands there.
+    #[inline(always)]
     pub fn remove(&mut self, class: Class, entry: Entry)
         requires order { IsInOrder (queue_of class self.old).entries }
         requires there { Contains (queue_of class self.old).entries entry }

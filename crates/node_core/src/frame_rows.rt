@@ -6,7 +6,7 @@ ghost use Rattle.node_core.specs.Rows.{boots, frame_alarms, waits};
 ghost use Rattle.node_core.specs.Standing.{IsDue};
 ghost use Rattle.lwb_base.specs.Orders.{Gives};
 
-use crate::node::Node;
+use crate::node::{Node, forget};
 use crate::stage::Stage;
 use crate::times::{frame_alarm, frame_at, next_frame};
 use bus_rules::Tune;
@@ -38,7 +38,7 @@ impl Node {
     {
         let profile = self.member.profile();
         self.stage = Stage::AwaitFrame;
-        self.delivery = None;
+        forget(&mut self.delivery);
         let begins = self.member.frame_ended(self.frame);
         self.frame = next_frame(self.frame);
         match self.member.tune() {

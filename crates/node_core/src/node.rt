@@ -160,6 +160,15 @@ impl Node {
     }
 }
 
+// No delivery is left there. It is long, and mostly there is none, so that it is not to be blanked.
+pub(crate) fn forget(delivery: &mut Option<Delivery>)
+    ensures { delivery.new ≡ None }
+{
+    if delivery.is_some() {
+        *delivery = None;
+    }
+}
+
 // The rank that a node hosts, if it is one of the hosts.
 fn rank_among(id: NodeId, hosts: &[NodeId]) -> Option<Rank>
     requires { length hosts.now ≤ 4 }

@@ -9,7 +9,7 @@ ghost use Rattle.node_core.specs.Rows.{at_heard, in_window, joins, last_by as la
 ghost use Rattle.node_core.specs.Standing.{Follows};
 ghost use Rattle.lwb_base.specs.Orders.{Gives};
 
-use crate::node::Node;
+use crate::node::{Node, forget};
 use crate::sending::relay;
 use crate::stage::Stage;
 use crate::times::{closes_at, heard_reference};
@@ -78,7 +78,7 @@ impl Node {
                 reference: Some(reference.zero()),
             },
         );
-        self.delivery = None;
+        forget(&mut self.delivery);
         relay(&profile, now, &reply, radio);
         radio.alarm(closes_at(&profile, &reference, slot));
     }
@@ -95,7 +95,7 @@ impl Node {
             return;
         };
         let reply = window.hear(&profile, rank, now, packet);
-        self.delivery = None;
+        forget(&mut self.delivery);
         relay(&profile, now, &reply, radio);
     }
 }

@@ -5,7 +5,7 @@ ghost use Rattle.node_core.specs.Rows.{at_sent, relaying};
 ghost use Rattle.node_core.specs.Standing.{Follows};
 ghost use Rattle.lwb_base.specs.Orders.{Gives};
 
-use crate::node::Node;
+use crate::node::{Node, forget};
 use crate::stage::Stage;
 use glossy_relay::{After, Reply};
 use lwb_base::{Profile, Radio};
@@ -23,7 +23,7 @@ impl Node {
             return;
         }
         let after = window.sent();
-        self.delivery = None;
+        forget(&mut self.delivery);
         match after {
             After::Off => radio.off(),
             After::More => {}

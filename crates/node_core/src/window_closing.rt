@@ -12,7 +12,7 @@ ghost use Rattle.node_core.specs.Standing.{Follows, HostsIn, IsOwn, IsWindow};
 ghost use Rattle.lwb_base.specs.Orders.{Gives};
 ghost use Rattle.node_core.specs.declared.stage.Stage.TheVariants.{InWindow};
 
-use crate::node::Node;
+use crate::node::{Node, forget};
 use crate::stage::Stage;
 use crate::times::frame_alarm;
 use crate::window::Window;
@@ -39,7 +39,7 @@ impl Node {
         let (slot, last, part) = (*slot, window.last, window.part);
         let initiated = window.flood.initiated();
         self.stage = Stage::AwaitFrame;
-        self.delivery = None;
+        forget(&mut self.delivery);
         self.member.pass(self.frame, part, initiated);
         self.go_on(slot, last, radio);
     }

@@ -9,7 +9,7 @@ ghost use Rattle.lwb_member.specs.Said.{IsSaid};
 ghost use Rattle.node_core.specs.WindowOpening.{flood_with, sent_first};
 ghost use Rattle.lwb_base.specs.Orders.{Gives};
 
-use crate::node::Node;
+use crate::node::{Node, forget};
 use crate::stage::Stage;
 use crate::window::Window;
 use bus_rules::Part;
@@ -41,7 +41,7 @@ impl Node {
         let rank = self.member.rank();
         let packet = self.member.speak(&part, slot, frame);
         order(rank, &packet, times.start, times.until, radio);
-        self.delivery = None;
+        forget(&mut self.delivery);
         open(&mut self.stage, slot, part, last, sends, &packet);
     }
 }

@@ -1,8 +1,10 @@
 use Rattle.std.proofs.Common.{◌∙◌, ap, subst, List, None, option_map, rules}
+use Rattle.std.specs.declared.option.Option.{Option}
 use Rattle.lwb_base.specs.Profile.{Numbers}
 use Rattle.lwb_base.specs.declared.order.Order.{Order}
 use Rattle.time_reference.specs.Reference.{RoundTimes}
 use Rattle.round_runner.specs.Rounds.{round_of}
+use Rattle.bus_rules.specs.declared.delivery.Delivery.{Delivery}
 use Rattle.bus_rules.specs.declared.part.Part.{Part}
 use Rattle.bus_rules.specs.Plans.{last_slot}
 use Rattle.bus_rules.specs.Tuning.{rank_of}
@@ -49,5 +51,8 @@ returns-clause-node g c =
     let after = c.speak-packet.ensures.core ∙ ap (λ (p : Part). record m { core = (opened m.setup i.frame p m.core).core }) c.part-part.ensures.value in
     let node : Member → Stage → Node = λ x s. record { core = x.core; frame = i.frame; zero = i.reference.zero; stage = s } in
     let at : Member → Stage → NodeState = λ x s. record { setup = x.setup; node = node x s; delivery = None } in
-    ap (at c.speak-packet.new.self) stage ∙ ap (λ (x : Member). at x (opened_stage m.setup slot (last_slot m.core.plan) part o.message)) after
+    let left : Option Delivery → NodeState = λ d.
+    record { setup = c.speak-packet.new.self.setup; node = node c.speak-packet.new.self c.open.new.stage; delivery = d } in
+    ap left c.forget.ensures
+    ∙ ap (at c.speak-packet.new.self) stage ∙ ap (λ (x : Member). at x (opened_stage m.setup slot (last_slot m.core.plan) part o.message)) after
     ∙ ap (λ (n : NodeState). record n { node = (window_opens n.setup n.node slot).node; delivery = None }) c.self.view_is
