@@ -12,6 +12,7 @@ from typing import BinaryIO
 
 import numpy as np
 import pandas as pd
+from numpy.typing import NDArray
 
 from .program import CutOutput
 
@@ -50,10 +51,10 @@ def read(source: BinaryIO, lines: Mapping[str, Columns], skipped: Collection[str
 
 
 def _read_block(
-    block: np.ndarray, lines: Mapping[str, Columns], skipped: Collection[str], parts: dict[str, list[pd.DataFrame]]
+    block: NDArray[np.uint8], lines: Mapping[str, Columns], skipped: Collection[str], parts: dict[str, list[pd.DataFrame]]
 ) -> None:
     ends = np.flatnonzero(block == _LINE_FEED) + 1
-    starts = np.concatenate(([0], ends[:-1]))
+    starts = np.insert(ends[:-1], 0, 0)
     heads = np.zeros(len(starts), np.uint32)
     for place in range(_HEAD_BYTES):
         heads = heads << 8 | block[np.minimum(starts + place, len(block) - 1)]

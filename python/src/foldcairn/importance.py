@@ -9,11 +9,12 @@ import os
 from collections import Counter
 from collections.abc import Iterable, Sequence
 from concurrent.futures import Executor, ProcessPoolExecutor
-from contextlib import nullcontext
+from contextlib import ExitStack
 from itertools import repeat
 
 import numpy as np
 import pandas as pd
+from numpy.typing import NDArray
 
 from . import losses, results
 from .events import Put
@@ -32,11 +33,11 @@ def importance(
 ) -> pd.DataFrame:
     """How much is delivered without each of the "links" (both directions of a pair) or of the "nodes".
 
-    Each candidate (all pairs of linked nodes, or all nodes, by default; else pairs of ids, or ids) is cut for the whole run, once for
-    each seed. The losses are drawn anew for each cut, by `losses.draw` with the reception ratios (`prr`) of the scenario: losses
-    that were drawn for one network and kept for another rank links wrongly. The measure is the part, 0 to 1, of what was put
-    that was delivered, over all pairs of a source and another node. A node is cut by cutting all its links, and is then no
-    source and no receiver, neither with the cut nor without it.
+    Each candidate is cut for the whole run, once for each seed: a pair of ids, or an id, and all pairs of linked nodes or all
+    nodes if `candidates` is not given. The losses are drawn anew for each cut, by `losses.draw` with the reception ratios
+    (`prr`) of the scenario: losses that were drawn for one network and kept for another rank links wrongly. The measure is the
+    part, 0 to 1, of what was put that was delivered, over all pairs of a source and another node. A node is cut by cutting all
+    its links, and is then no source and no receiver, neither with the cut nor without it.
 
     one, other, or node    what is cut
     ratio                  the measure without the cut, the mean over the seeds
@@ -46,8 +47,8 @@ def importance(
     least, greatest        the least and the greatest change of any seed
     error                  the standard error of `change`: `spread` over the square root of the number of seeds. A change of less
                            than two errors tells nothing
-    The rows begin with the most harmful cut. It takes a drawing for each candidate and seed; `executor` runs them (a process
-    for each processor by default). Raises `ValueError` where `what` is another word, there is no seed, or nothing is put, and
+    The rows begin with the most harmful cut. It takes a drawing for each candidate and seed; `executor` runs them, a process
+    for each processor if it is not given. Raises `ValueError` where `what` is another word, there is no seed, or nothing is put, and
     what `losses.draw` raises.
     """
     if what not in ("links", "nodes"):
@@ -59,8 +60,8 @@ def importance(
         raise ValueError("nothing is put in this scenario, so nothing can be delivered")
     cuts = _candidates(scenario, what, candidates)
     jobs = [(cut, seed) for cut in (None, *cuts) for seed in seeds]
-    pool = nullcontext(executor) if executor is not None else ProcessPoolExecutor(min(len(jobs), os.cpu_count() or 1))
-    with pool as runner:
+    with ExitStack() as stack:
+        runner = executor or stack.enter_context(ProcessPoolExecutor(min(len(jobs), os.cpu_count() or 1)))
         delivered = dict(zip(jobs, runner.map(_deliveries, repeat(scenario), *zip(*jobs))))
     rows = []
     for cut in cuts:
@@ -74,7 +75,7 @@ def importance(
     return pd.DataFrame(rows, columns=columns).sort_values("change", ignore_index=True)
 
 
-def _summary(changes: np.ndarray) -> tuple[float, float, float, float, float]:
+def _summary(changes: NDArray[np.float64]) -> tuple[float, float, float, float, float]:
     spread = float(changes.std(ddof=1)) if len(changes) > 1 else float("nan")
     return float(changes.mean()), spread, float(changes.min()), float(changes.max()), spread / len(changes) ** 0.5
 

@@ -238,7 +238,8 @@ def _read(data: bytes) -> Packet:
     if kind == _DATA:
         if len(data) < 8:
             raise IndexError
-        return Data(*data[1:6], int.from_bytes(data[6:8], "big"), data[8:])
+        slot, counter, node, boot, stream = data[1:6]
+        return Data(slot, counter, node, boot, stream, int.from_bytes(data[6:8], "big"), data[8:])
     if kind == _REQUEST:
         if len(data) != 7:
             raise NotAPacket(f"a request has 7 bytes, not {len(data)}")

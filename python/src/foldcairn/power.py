@@ -62,7 +62,7 @@ class _Queue:
 
     # Which filling of a queue it is, counted over all queues: puts of one filling share their queue.
     filling: int
-    wished: bool = False
+    requested: bool = False
     # The puts that no line has emptied from the queue so far.
     waiting: list[int] = field(default_factory=list)
 
@@ -132,9 +132,9 @@ def _by_script(scenario: Scenario) -> _Puts:
             for queue in queues.pop(line.node).values():
                 _clear(told, queue, LOST)
         elif isinstance(line, Stream) and streams is not None:
-            streams[line.stream].wished = True
+            streams[line.stream].requested = True
         elif isinstance(line, Leave) and streams is not None:
-            streams[line.stream].wished = False
+            streams[line.stream].requested = False
             _clear(told, streams[line.stream], WITHDRAWN)
         elif isinstance(line, Put):
             _put(told, line, streams[line.stream] if streams is not None else None, boot[line.node])
@@ -149,14 +149,15 @@ def _clear(told: _Puts, queue: _Queue, why: str) -> None:
 
 
 def _put(told: _Puts, line: Put, queue: _Queue | None, boot: int) -> None:
-    queued = queue is not None and queue.wished
-    if queued:
+    dropped, filling = OFF if queue is None else NO_STREAM, 0
+    if queue is not None and queue.requested:
         queue.waiting.append(len(told.rows))
+        dropped, filling = "", queue.filling
     told.rows.append(line)
     told.boot.append(0 if queue is None else boot)
-    told.dropped.append("" if queued else OFF if queue is None else NO_STREAM)
+    told.dropped.append(dropped)
     told.cleared.append("")
-    told.filling.append(queue.filling if queued else 0)
+    told.filling.append(filling)
 
 
 def _drop_by_full_queues(told: _Puts, drops: pd.DataFrame) -> None:

@@ -32,18 +32,19 @@ _SHOWN = {
 }
 
 
-def add_command(commands: argparse._SubParsersAction) -> None:
+def add_command(commands: argparse._SubParsersAction[argparse.ArgumentParser]) -> None:
     """Adds the command to those of `python3 -m foldcairn`."""
     parser = commands.add_parser(
         "report",
         help="Runs a scenario and writes what a planner asks for",
-        description="Runs a scenario and writes what a planner asks for: delivery ratios, where packets went, latencies, joining, "
-        "contention, outages, radio time, and battery lives. What the columns mean is said by docs/PLANNING.md and by the functions "
-        "of foldcairn.planning.",
+        description="Runs a scenario and writes what a planner asks for: delivery ratios, where packets went, latencies, "
+        "joining, contention, outages, radio time, and battery lives. What the columns mean is said by docs/PLANNING.md and "
+        "by the functions of foldcairn.planning.",
     )
     parser.add_argument("file", metavar="FILE", help="a scenario, or - for standard input")
-    parser.add_argument("--csv", metavar="FOLDER", help="write all tables as CSV files into this folder instead, those with a row "
-                        "for each packet among them")  # fmt: skip
+    parser.add_argument(
+        "--csv", metavar="FOLDER", help="write all tables as CSV files into this folder instead, also those with a row a packet"
+    )
     parser.set_defaults(run=main)
 
 

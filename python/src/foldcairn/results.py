@@ -12,13 +12,13 @@ from __future__ import annotations
 import re
 import tempfile
 import warnings
+from collections.abc import Sequence
 from dataclasses import dataclass
 from functools import cached_property
 from io import BytesIO
 from pathlib import Path
 from typing import BinaryIO
 
-import numpy as np
 import pandas as pd
 
 from . import columns, lines, packets, program as programs
@@ -158,14 +158,16 @@ def commands(*, program: Path | None = None) -> frozenset[str]:
 def run(scenario: Scenario | str | bytes, *, program: Path | None = None, timeout: float | None = None) -> Report:
     """The report of a run. `timeout` is in seconds of real time."""
     output = programs.execute(["run"], _text(scenario), program=program, timeout=timeout)
-    return Report(whole := _scenario(scenario), *_report(columns.read(BytesIO(output), _REPORT_LINES), whole))
+    whole = _scenario(scenario)
+    return Report(whole, *_report(columns.read(BytesIO(output), _REPORT_LINES), whole))
 
 
 def bus(scenario: Scenario | str | bytes, *, program: Path | None = None, timeout: float | None = None) -> Report:
     """The report by the rules of the ideal single-hop bus: the same deliveries and drops as `run`, sooner, without clocks."""
     output = programs.execute(["bus"], _text(scenario), program=program, timeout=timeout)
     read = columns.read(BytesIO(output), {"deliver": _DELIVER, "drop": _DROP, "cost": _COST})
-    return Report(whole := _scenario(scenario), *_report({**read, "energy": read["cost"]}, whole))
+    whole = _scenario(scenario)
+    return Report(whole, *_report({**read, "energy": read["cost"]}, whole))
 
 
 def log(scenario: Scenario | str | bytes, *, program: Path | None = None, timeout: float | None = None) -> Log:
@@ -191,7 +193,8 @@ def read_log(source: BinaryIO, scenario: Scenario | str | bytes) -> Log:
         codes = decoded.index.get_indexer(read[word]["packet"].cat.categories)[read[word]["packet"].cat.codes]
         for name in ("kind", "slot", "step"):
             read[word][name] = decoded[name].array.take(codes)
-    return Log(whole, *_report(read, whole), read["sent"], read["heard"], read["tuned"], decoded)
+    deliveries, drops, energy = _report(read, whole)
+    return Log(whole, deliveries, drops, energy, read["sent"], read["heard"], read["tuned"], decoded)
 
 
 def flood(text: str, *, program: Path | None = None) -> FloodReport:
@@ -236,7 +239,9 @@ def returns(scenario: Scenario | str | bytes, *, program: Path | None = None) ->
     output = programs.execute(["return"], _text(scenario), program=program)
     extra = {"return": {"frame": "uint16", "node": "uint8", "rank": "uint8"}, "probe": {"node": "uint8", "frames": "uint16"}}
     read = columns.read(BytesIO(output), {**_REPORT_LINES, **extra})
-    return ReturnReport(whole := _scenario(scenario), *_report(read, whole), read["return"], read["probe"])
+    whole = _scenario(scenario)
+    deliveries, drops, energy = _report(read, whole)
+    return ReturnReport(whole, deliveries, drops, energy, read["return"], read["probe"])
 
 
 def _text(scenario: Scenario | str | bytes) -> str | bytes:
@@ -252,7 +257,7 @@ def _scenario(scenario: Scenario | str | bytes) -> Scenario:
     return scenario.copy() if isinstance(scenario, Scenario) else Scenario.read(scenario)
 
 
-def _numbers(rows: list[object], **types: str) -> pd.DataFrame:
+def _numbers(rows: Sequence[Sequence[object]], **types: str) -> pd.DataFrame:
     return pd.DataFrame(rows, columns=list(types)).astype(types)
 
 
@@ -267,6 +272,6 @@ def _report(read: dict[str, pd.DataFrame], scenario: Scenario) -> tuple[pd.DataF
     return deliveries, read["drop"], energy
 
 
-def slot_seconds(profile: int, frame: pd.Series | np.ndarray | int, slot: pd.Series | np.ndarray | int) -> pd.Series:
+def slot_seconds(profile: int, frame: pd.Series, slot: pd.Series) -> pd.Series:
     """When a slot starts by plan, in seconds from the start of the run."""
     return frame * float(lines.frame_seconds(profile)) + ROUND_SECONDS + slot * (lines.slot_ticks(profile) / TICKS_A_SECOND)

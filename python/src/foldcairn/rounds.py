@@ -42,7 +42,8 @@ def rounds(log: Log) -> pd.DataFrame:
             "contention_slots": opening["contention_slots"].astype("uint8"),
         }
     )
-    table["acknowledgements"] = pd.Series([len(one.acknowledgements) for one in closing["decoded"]], closing.index, dtype="uint8")
+    taken = [len(one.acknowledgements) for one in closing["decoded"]]
+    table["acknowledgements"] = pd.Series(taken, closing.index, dtype="uint8")
     table["gap"] = closing["gap"]
     return table.reset_index().sort_values(keys, ignore_index=True)
 
@@ -86,7 +87,7 @@ def streams(log: Log) -> pd.DataFrame:
 
     rank, host, host_boot    the term
     node, boot, stream       the stream of that boot of the node
-    wished_seconds           when the first `stream` line of it took effect
+    configured_seconds       when the first `stream` line of it took effect
     requests                 how many requests its node transmitted in the rounds of the term (a host asks itself, without any)
     requested_seconds        when it transmitted the first of them
     accepted_seconds         when the host first acknowledged one; for a stream of the host itself, when it first planned a slot
@@ -99,8 +100,8 @@ def streams(log: Log) -> pd.DataFrame:
     terms = opened.groupby(TERM, as_index=False).agg(
         host=("host", "first"), first_seconds=("start_seconds", "min"), last_seconds=("start_seconds", "max")
     )
-    table = terms.merge(_wishes(log), how="cross")
-    table = table[(table["wished_seconds"] <= table["last_seconds"]) & (table["off_seconds"] > table["first_seconds"])]
+    table = terms.merge(_configured(log), how="cross")
+    table = table[(table["configured_seconds"] <= table["last_seconds"]) & (table["off_seconds"] > table["first_seconds"])]
     keys = [*TERM, *STREAM]
     for part in (_requested(log, opened), _accepted(log), _planned_by_hosts(log), _slots(log)):
         table = table.merge(part.astype({key: "int64" for key in keys}), how="left", on=keys)
@@ -108,12 +109,12 @@ def streams(log: Log) -> pd.DataFrame:
     table["accepted_seconds"] = table["accepted_seconds"].where(~own, table["planned_seconds"])
     for name in ("requests", "slots", "packets"):
         table[name] = table[name].fillna(0).astype("int64")
-    columns = ["rank", "host", "host_boot", *STREAM, "wished_seconds", "requests", "requested_seconds", "accepted_seconds",
+    columns = ["rank", "host", "host_boot", *STREAM, "configured_seconds", "requests", "requested_seconds", "accepted_seconds",
                "first_slot_seconds", "slots", "packets"]  # fmt: skip
     return table[columns].sort_values(["rank", "host_boot", "accepted_seconds", "node"], ignore_index=True)
 
 
-def _wishes(log: Log) -> pd.DataFrame:
+def _configured(log: Log) -> pd.DataFrame:
     """The streams that a `stream` line of a node with power gives, by boot."""
     boots = power.boots(log.scenario)
     rows = [
@@ -121,10 +122,11 @@ def _wishes(log: Log) -> pd.DataFrame:
         for line in power.script(log.scenario)
         if isinstance(line, Stream)
     ]
-    wishes = pd.DataFrame(rows, columns=["node", "stream", "wished_seconds"]).astype({"node": "int64", "stream": "int64"})
-    table = boots.astype({"node": "int64", "boot": "int64"}).merge(wishes, on="node")
-    table = table[(table["wished_seconds"] >= table["on_seconds"]) & (table["wished_seconds"] < table["off_seconds"])]
-    return table.groupby(STREAM, as_index=False).agg(wished_seconds=("wished_seconds", "min"), off_seconds=("off_seconds", "max"))
+    configured = pd.DataFrame(rows, columns=["node", "stream", "configured_seconds"])
+    configured = configured.astype({"node": "int64", "stream": "int64"})
+    table = boots.astype({"node": "int64", "boot": "int64"}).merge(configured, on="node")
+    table = table[(table["configured_seconds"] >= table["on_seconds"]) & (table["configured_seconds"] < table["off_seconds"])]
+    return table.groupby(STREAM, as_index=False).agg({"configured_seconds": "min", "off_seconds": "max"})
 
 
 def _requested(log: Log, opened: pd.DataFrame) -> pd.DataFrame:

@@ -6,6 +6,8 @@ All times are seconds of true time from the start of the run; `rounds` says what
 
 from __future__ import annotations
 
+from typing import Any
+
 import numpy as np
 import pandas as pd
 
@@ -27,8 +29,9 @@ def hosts(log: Log) -> pd.DataFrame:
     """
     opened = rounds(log)
     table = opened.groupby(TERM, as_index=False).agg(
-        host=("host", "first"), first_seconds=("start_seconds", "min"), last_seconds=("start_seconds", "max"), rounds=("frame", "size")
-    )
+        host=("host", "first"), rounds=("frame", "size"),
+        first_seconds=("start_seconds", "min"), last_seconds=("start_seconds", "max"),
+    )  # fmt: skip
     joined = joins(log).groupby(TERM).agg(
         joined=("node", "nunique"), nodes=("node", frozenset), last_joined=("joined_seconds", "max")
     )
@@ -94,7 +97,11 @@ def contention(log: Log, by: str = "host") -> pd.DataFrame:
 
 def _acknowledged(log: Log) -> pd.DataFrame:
     closings = log.initiations[log.initiations["kind"] == "closing"]
-    rows = [(row.rank, row.host_boot, one.node, one.boot) for row in closings.itertuples() for one in row.decoded.acknowledgements]
+    rows = [
+        (closing.rank, closing.host_boot, one.node, one.boot)
+        for closing in closings.itertuples()
+        for one in closing.decoded.acknowledgements
+    ]
     return pd.DataFrame(rows, columns=[*TERM, "node", "boot"]).astype("int64")
 
 
@@ -123,9 +130,9 @@ def outages(log: Log, by: str = "host") -> pd.DataFrame:
 
     By "stream": the same for each term but the first and each `source` and `stream` that was delivered before it or in it.
 
-    By "node": a row for each time in which a node that had joined searched for a host again: `node`, `start_seconds`,
-    `end_seconds`, `outage_seconds`, and `joined_again`, whether it was followed by a round and not by the end of the run or
-    of the node's power.
+    By "node": a row for each time in which a node that had taken part in a round searched for a host again: `node`,
+    `start_seconds`, `end_seconds`, `outage_seconds`, and `joined_again`, whether it was followed by a round and not by the end
+    of the run or of the node's power.
 
     Raises `ValueError` where `by` is another word.
     """
@@ -167,7 +174,7 @@ def _deliveries_by_term(log: Log) -> pd.DataFrame:
     return table.merge(terms, on=["frame", "rank"], how="left")
 
 
-def _outages_of(change: dict[str, object], deliveries: pd.DataFrame, keys: list[str]) -> pd.DataFrame:
+def _outages_of(change: dict[str, Any], deliveries: pd.DataFrame, keys: list[str]) -> pd.DataFrame:
     ours = (deliveries["rank"] == change["rank"]) & (deliveries["host_boot"] == change["host_boot"])
     group = keys or (lambda _: 0)
     first = deliveries[ours].groupby(group)["seconds"].min()
@@ -184,12 +191,12 @@ def _outages_of(change: dict[str, object], deliveries: pd.DataFrame, keys: list[
 
 
 def _searches(log: Log) -> pd.DataFrame:
-    """The times in which nodes searched after they had joined: tunings that search, those that meet taken as one."""
+    """The times in which nodes searched again: tunings that search, those that meet taken as one, but the first of a boot."""
     table = radio.tunings(log)
     table = table[table["purpose"] == "searching"].sort_values(["node", "start_ticks"])
     before = table.groupby("node")["end_ticks"].shift()
     table["search"] = (before != table["start_ticks"]).cumsum()
-    table = table.groupby(["node", "search"], as_index=False).agg(start_seconds=("start_seconds", "min"), end_seconds=("end_seconds", "max"))
+    table = table.groupby(["node", "search"], as_index=False).agg({"start_seconds": "min", "end_seconds": "max"})
     boots = power.boots(log.scenario)
     begun, ended = (pd.MultiIndex.from_frame(boots[["node", name]]) for name in ("on_seconds", "off_seconds"))
     first = pd.MultiIndex.from_frame(table[["node", "start_seconds"]]).isin(begun)

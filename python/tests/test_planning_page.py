@@ -1,0 +1,41 @@
+"""docs/PLANNING.md: its code runs in order and prints what the page shows below it; and how long its tables take."""
+
+from __future__ import annotations
+
+import time
+
+import pages
+import pytest
+from conftest import REPOSITORY
+
+from foldcairn import planning
+
+PAGE = REPOSITORY / "docs" / "PLANNING.md"
+
+
+@pytest.fixture(scope="module")
+def page() -> tuple[str, dict[str, object]]:
+    """The page with what its code prints now, and the names that the code makes."""
+    return pages.run(PAGE)
+
+
+def test_the_page_shows_what_its_code_prints(page: tuple[str, dict[str, object]]) -> None:
+    assert page[0].splitlines() == PAGE.read_text(encoding="utf-8").splitlines()
+
+
+def test_all_code_of_the_page_is_run() -> None:
+    text = PAGE.read_text(encoding="utf-8")
+    assert len(pages.blocks(text)) == text.count("```python") >= 15
+
+
+def test_the_network_takes_at_most_25_lines(page: tuple[str, dict[str, object]]) -> None:
+    first = pages.blocks(PAGE.read_text(encoding="utf-8"))[0]
+    assert len([line for line in first.splitlines() if line.strip()]) <= 25
+    network = page[1]["network"]
+    assert len(network.nodes) == 25 and network.seconds == 1_800
+
+
+def test_all_tables_of_the_network_take_at_most_5_seconds(page: tuple[str, dict[str, object]]) -> None:
+    begun = time.process_time()
+    planning.tables(page[1]["log"])
+    assert time.process_time() - begun < 5
