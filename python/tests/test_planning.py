@@ -292,6 +292,18 @@ def test_tables_has_every_answer(line: Log) -> None:
     assert all(isinstance(table, pd.DataFrame) for table in tables.values())
 
 
+def test_the_summary_of_a_run(failover: Log) -> None:
+    expected = {
+        "ratio_of_put": 0.5, "ratio_of_sent_while_on": 1, "latency_median": (37.033 + 125.033 - 80) / 2, "hosts": 2,
+        "all_joined_seconds": 21.06764, "all_accepted_seconds": 21.067, "requests": 2, "request_success": 1, "outage_seconds": 88,
+    }  # fmt: skip
+    told = planning.summary(failover)
+    assert {name: told[name] for name in expected} == pytest.approx(expected)
+    assert planning.summary(FAILOVER) == pytest.approx(told)
+    empty = planning.summary("frames 1\nsends 1\nnode 1 0\nnode 2 0\nhost 0 1\n")
+    assert empty["hosts"] == empty["requests"] == 0 and np.isnan(empty["ratio_of_put"]) and np.isnan(empty["outage_seconds"])
+
+
 @pytest.mark.parametrize(
     "text",
     [

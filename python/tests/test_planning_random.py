@@ -51,7 +51,7 @@ def drawn(seed: int) -> Scenario:
     return made
 
 
-@pytest.fixture(scope="module", params=range(4))
+@pytest.fixture(scope="module", params=range(3))
 def log(request: pytest.FixtureRequest) -> results.Log:
     return results.log(drawn(request.param).text(warn=False))
 

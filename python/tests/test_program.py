@@ -107,6 +107,15 @@ def test_a_program_that_takes_too_long(fake):
         program.execute(["run"], b"", program=fake("exec sleep 60"), timeout=0.2)
 
 
+def test_the_script_of_a_repository_shows_how_far_it_is(tmp_path, capfd):
+    (tmp_path / "crates.txt").write_text("")
+    (tmp_path / "foldcairn").write_text("#!/bin/sh\necho 3 of 51 crates proved >&2\nexit 127\n")
+    (tmp_path / "foldcairn").chmod(0o755)
+    with pytest.warns(UserWarning, match="the program is not built yet"), pytest.raises(program.ToolchainMissing):
+        program.execute(["run"], b"", program=tmp_path / "foldcairn")
+    assert capfd.readouterr().err == "3 of 51 crates proved\n"
+
+
 def test_out_of_memory(fake):
     path = fake(f"ulimit -v 6000; exec {os.environ['FOLDCAIRN']} \"$@\"")
     with pytest.raises(program.OutOfMemory, match="out of memory"):

@@ -6,7 +6,7 @@ one word are read by pandas. Tested, not proved.
 
 from __future__ import annotations
 
-from collections.abc import Mapping
+from collections.abc import Collection, Mapping
 from io import BytesIO
 from typing import BinaryIO
 
@@ -29,8 +29,10 @@ class UnknownLine(ValueError):
     """The program wrote a line that this package does not know: it is of another version."""
 
 
-def read(source: BinaryIO, lines: Mapping[str, Columns]) -> dict[str, pd.DataFrame]:
+def read(source: BinaryIO, lines: Mapping[str, Columns], skipped: Collection[str] = ()) -> dict[str, pd.DataFrame]:
     """A table for each first word in `lines`, with the columns named there, its rows in the order of the lines.
+
+    Lines whose first word is in `skipped` are passed over.
 
     The first words differ in their first three bytes. Raises `UnknownLine` for a line with another first word, too few or
     other words, and `CutOutput` where the last line has no line feed.
@@ -42,21 +44,23 @@ def read(source: BinaryIO, lines: Mapping[str, Columns]) -> dict[str, pd.DataFra
         end = block.rfind(b"\n") + 1
         rest = block[end:]
         if end:
-            _read_block(np.frombuffer(block, np.uint8, end), lines, parts)
+            _read_block(np.frombuffer(block, np.uint8, end), lines, skipped, parts)
     if rest:
         raise CutOutput(f"the output is cut: its last line, {rest[:80].decode('utf-8', 'replace')!r}, has no end")
     return {word: _joined(parts.pop(word), columns) for word, columns in lines.items()}
 
 
-def _read_block(block: NDArray[np.uint8], lines: Mapping[str, Columns], parts: dict[str, list[pd.DataFrame]]) -> None:
+def _read_block(
+    block: NDArray[np.uint8], lines: Mapping[str, Columns], skipped: Collection[str], parts: dict[str, list[pd.DataFrame]]
+) -> None:
     ends = np.flatnonzero(block == _LINE_FEED) + 1
     starts = np.insert(ends[:-1], 0, 0)
     heads = np.zeros(len(starts), np.uint32)
     for place in range(_HEAD_BYTES):
         heads = heads << 8 | block[np.minimum(starts + place, len(block) - 1)]
-    known = np.zeros(len(starts), bool)
+    known = np.isin(heads, [_head(word) for word in skipped])
     for word, columns in lines.items():
-        ours = heads == int.from_bytes(word.encode()[:_HEAD_BYTES], "big")
+        ours = heads == _head(word)
         if ours.any():
             known |= ours
             text = block[np.repeat(ours, ends - starts)]
@@ -67,6 +71,10 @@ def _read_block(block: NDArray[np.uint8], lines: Mapping[str, Columns], parts: d
     if not known.all():
         line = int(np.argmin(known))
         raise UnknownLine(f"unknown line {block[starts[line] : ends[line] - 1].tobytes()!r}")
+
+
+def _head(word: str) -> int:
+    return int.from_bytes(word.encode()[:_HEAD_BYTES], "big")
 
 
 def _read_lines(text: bytes, word: str, columns: Columns) -> pd.DataFrame:

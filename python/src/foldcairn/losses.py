@@ -8,8 +8,10 @@ changes. What is delivered is then the same as with all losses written. Nothing 
 
 from __future__ import annotations
 
+import itertools
 from collections.abc import Iterable
-from dataclasses import dataclass
+from dataclasses import dataclass, replace
+from io import BytesIO
 from pathlib import Path
 from typing import Any, TypeVar
 
@@ -17,7 +19,7 @@ import numpy
 import pandas
 from numpy.typing import NDArray
 
-from . import lines, program as programs, tables
+from . import columns, lines, program as programs, tables
 from .events import Loss
 from .scenario import Scenario, ScenarioError
 
@@ -26,6 +28,8 @@ Array = NDArray[Any]
 
 _GOLDEN = 0x9E3779B97F4A7C15
 _MASK = (1 << 64) - 1
+# For how many pairs of a transmission and a link losses are worked out at once: each takes some 200 bytes.
+_PAIRS_AT_ONCE = 1 << 21
 
 
 class TooManyLosses(Exception):
@@ -100,38 +104,32 @@ class _Log:
     tuned_key: Array
     tuned_end: Array
 
+    def part(self, first: int, end: int) -> _Log:
+        """The log with the transmissions from `first` on, before `end`."""
+        sent = ("frame", "rank", "slot", "step", "sender", "start", "end", "packet")
+        return replace(self, **{name: getattr(self, name)[first:end] for name in sent})
+
+
+_TUNED = {"rank": "int64", "node": "int64", "start": "int64", "end": "int64"}
+_SENT = {**_TUNED, "packet": "category"}
+
 
 def _tuned_key(rank: Array, node: Array, start: Array) -> Array:
     return ((rank * 256 + node) << 42) + start
 
 
-def _read_log(text: bytes, ticks: int) -> _Log:
+def _read_log(output: bytes, ticks: int) -> _Log:
     """The transmissions and radio times of the output of `log`, where a frame has that many ticks."""
-    rows = text[_start_of_log(text) :].split(b"\n")
-    sent = [row.rpartition(b" ") for row in rows if row.startswith(b"sent ")]
-    tuned = _table((row for row in rows if row.startswith(b"tuned ")), b"tuned ")
-    del rows
-    numbers = _table((row[0] for row in sent), b"sent ")
-    heads = numpy.frombuffer(bytes.fromhex(b"".join([row[2][:6] for row in sent]).decode()), numpy.uint8).reshape(-1, 3)
-    packets: dict[bytes, int] = {}
-    packet = numpy.array([packets.setdefault(row[2], len(packets)) for row in sent], numpy.int64)
-    rank, sender, start, end = numbers.T
-    keys = _tuned_key(tuned[:, 0], tuned[:, 1], tuned[:, 2])
+    read = columns.read(BytesIO(output), {"sent": _SENT, "tuned": _TUNED}, ("deliver", "drop", "energy", "heard"))
+    sent, tuned = read["sent"], read["tuned"]
+    packets = sent["packet"].cat
+    heads = numpy.array([[int(packet[at : at + 2], 16) for at in (2, 4)] for packet in packets.categories], numpy.int64)
+    packet = packets.codes.to_numpy(numpy.int64)
+    slot, step = heads.reshape(-1, 2)[packet].T
+    rank, sender, start, end = (sent[name].to_numpy() for name in list(_SENT)[:4])
+    keys = _tuned_key(*(tuned[name].to_numpy() for name in list(_TUNED)[:3]))
     order = numpy.argsort(keys)
-    slot, step = heads[:, 1].astype(numpy.int64), heads[:, 2].astype(numpy.int64)
-    return _Log(start // ticks, rank, slot, step, sender, start, end, packet, keys[order], tuned[order, 3])
-
-
-def _table(rows: Iterable[bytes], word: bytes) -> Array:
-    """The four numbers of each row, after the word that it begins with."""
-    text = b"\n".join(rows).replace(word, b"")
-    return numpy.fromstring(text, numpy.int64, sep=" ").reshape(-1, 4) if text else numpy.empty((0, 4), numpy.int64)
-
-
-def _start_of_log(text: bytes) -> int:
-    """Where the lines of the log begin, after those of the report."""
-    found = [at for word in (b"\nsent ", b"\ntuned ") if (at := text.find(word)) >= 0]
-    return min(found, default=len(text))
+    return _Log(start // ticks, rank, slot, step, sender, start, end, packet, keys[order], tuned["end"].to_numpy()[order])
 
 
 class _Links:
@@ -195,7 +193,16 @@ def _keys_of(losses: Iterable[Loss]) -> Array:
 
 
 def _needed(log: _Log, links: _Links, seed: int) -> Array:
-    """The losses that change who receives in this log, as ordered keys.
+    """The losses that change who receives in this log, as ordered keys; worked out by batches of whole frames."""
+    pairs = numpy.cumsum(links.first[log.sender + 1] - links.first[log.sender])
+    frames = numpy.flatnonzero(numpy.diff(log.frame, prepend=-1))
+    batches = frames[numpy.flatnonzero(numpy.diff(pairs[frames] // _PAIRS_AT_ONCE, prepend=-1))].tolist()
+    bounds = itertools.pairwise([*batches, len(log.frame)])
+    return numpy.concatenate([numpy.empty(0, numpy.int64), *(_needed_in(log.part(*bound), links, seed) for bound in bounds)])
+
+
+def _needed_in(log: _Log, links: _Links, seed: int) -> Array:
+    """The losses that change who receives in a part of a log that has whole frames, as ordered keys.
 
     A receiver is one that a link leads to, whose radio is on at the channel all the while, and that doesn't transmit. Where all
     packets that reach it in a step are equal, it receives as long as one link passes: so losses count where all links fail.

@@ -12,6 +12,7 @@ import shutil
 import signal as signals
 import subprocess
 import tempfile
+import warnings
 from collections.abc import Sequence
 from pathlib import Path
 from typing import IO
@@ -218,10 +219,24 @@ def _bytes_of(text: str | bytes) -> bytes:
 
 def _started(words: Sequence[str], program: Path | None, stdout: int | IO[bytes]) -> subprocess.Popen[bytes]:
     path = program if program is not None else find()
+    stderr: int | None = subprocess.PIPE
+    if _is_to_be_built(path):
+        warnings.warn(
+            "the program is not built yet: this call proves and builds it, which takes some 40 minutes; how far it is is written "
+            "on standard error. FOLDCAIRN may name a program that is built.",
+            stacklevel=4,
+        )
+        stderr = None
     try:
-        return subprocess.Popen([str(path), *words], stdin=subprocess.PIPE, stdout=stdout, stderr=subprocess.PIPE)
+        return subprocess.Popen([str(path), *words], stdin=subprocess.PIPE, stdout=stdout, stderr=stderr)
     except OSError as error:
         raise NotFound(f"the program {path} can't be run: {error.strerror}", words) from error
+
+
+def _is_to_be_built(path: Path) -> bool:
+    """Whether this is the script of a repository, and the program that it builds is not there."""
+    folder = path.parent
+    return (folder / "crates.txt").is_file() and not (folder / "crates" / "foldcairn" / "out" / "foldcairn").is_file()
 
 
 def _talk(process: subprocess.Popen[bytes], data: bytes, words: Sequence[str], timeout: float | None) -> tuple[bytes, str]:
@@ -229,17 +244,22 @@ def _talk(process: subprocess.Popen[bytes], data: bytes, words: Sequence[str], t
     try:
         output, stderr = process.communicate(data, timeout)
     except subprocess.TimeoutExpired:
-        process.terminate()
-        try:
-            process.communicate(timeout=_GRACE_SECONDS)
-        except subprocess.TimeoutExpired:
-            process.kill()
-            process.communicate()
+        _end(process)
         raise Killed(f"`{' '.join(words)}` took longer than {timeout} seconds", words) from None
     except BaseException:
-        process.kill()
+        _end(process)
         raise
     return output or b"", (stderr or b"")[-_STDERR_MOST:].decode("utf-8", "replace")
+
+
+def _end(process: subprocess.Popen[bytes]) -> None:
+    """Ends a process, which may first stop what it started."""
+    process.terminate()
+    try:
+        process.communicate(timeout=_GRACE_SECONDS)
+    except subprocess.TimeoutExpired:
+        process.kill()
+        process.communicate()
 
 
 def _raise_unless_done(words: Sequence[str], status: int, data: bytes, output: bytes, stderr: str) -> None:
