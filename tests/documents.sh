@@ -204,6 +204,22 @@ words() {
         counts_failure "the pages have too many words that an engineer would not expect: tools/words.py --list"
         cat "$folder/written"
     fi
+    # A page with one such word, and the same in a code span; and one with twelve.
+    mkdir -p "$folder/words"
+    printf 'A node hears it, as `heard` says.\n' > "$folder/words/README.md"
+    if python3 "$top/tools/words.py" --list "$folder/words" > "$folder/written" &&
+        grep -q '^pages: 1 words in 1 files$' "$folder/written" &&
+        grep -q '^README.md:1: hears -> receives' "$folder/written"; then
+        counts_pass
+    else
+        counts_failure "tools/words.py does not find a word"
+    fi
+    printf '%.0sIt stands behind it. ' 1 2 3 4 5 6 > "$folder/words/README.md"
+    if python3 "$top/tools/words.py" "$folder/words" > "$folder/written"; then
+        counts_failure "tools/words.py accepts twelve words"
+    else
+        counts_pass
+    fi
 }
 
 cd "$top" || exit 1

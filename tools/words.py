@@ -1,10 +1,11 @@
 #!/usr/bin/env python3
 """Counts words that an engineer would not expect: in the pages, and in the doc comments of the crates.
 
-Usage: tools/words.py [--list]. Code spans, fenced blocks and link targets do not count: commands, outputs, clauses and names
-keep their words. In README.md and docs/*.md it also counts sentences of more than 35 words and table cells of more than 25.
-`--list` prints each place with what to write there. The status is 1 if these pages have more than ten such words, or a table
-cell that is too long; the pages below docs/internals and the doc comments are counted and printed alone.
+Usage: tools/words.py [--list] [FOLDER], where FOLDER is the repository, this one if none is given. Code spans, fenced blocks
+and link targets do not count: commands, outputs, clauses and names keep their words. In README.md and docs/*.md it also counts
+sentences of more than 35 words and table cells of more than 25. `--list` prints each place with what to write there. The
+status is 1 if these pages have more than ten such words, or a table cell that is too long; the pages below docs/internals and
+the doc comments are counted and printed alone.
 Only Python's standard library is used.
 """
 
@@ -12,7 +13,6 @@ import pathlib
 import re
 import sys
 
-TOP = pathlib.Path(__file__).resolve().parent.parent
 MOST = 10
 LONG_SENTENCE = 35
 LONG_CELL = 25
@@ -105,10 +105,11 @@ def long_sentences(name, lines):
                     yield name, number, sentence
 
 
-def read(pattern, reader):
-    for path in sorted(TOP.glob(pattern)):
-        if "out" not in path.relative_to(TOP).parts:
-            yield str(path.relative_to(TOP)), list(reader(path.read_text()))
+def read(top, pattern, reader):
+    """The files of a pattern below the folder, each as its name and its lines; what was built there is no source."""
+    for path in sorted(top.glob(pattern)):
+        if "out" not in path.relative_to(top).parts:
+            yield str(path.relative_to(top)), list(reader(path.read_text()))
 
 
 def count(title, texts):
@@ -118,16 +119,22 @@ def count(title, texts):
 
 
 def main():
-    if sys.argv[1:] not in ([], ["--list"]):
-        sys.exit(__doc__)
-    pages = [*read("README.md", prose), *read("docs/*.md", prose)]
+    words = sys.argv[1:]
+    listed = words[:1] == ["--list"]
+    folders = words[listed:]
+    if len(folders) > 1 or folders and not pathlib.Path(folders[0]).is_dir():
+        print(__doc__, file=sys.stderr)
+        sys.exit(2)
+    top = pathlib.Path(folders[0]) if folders else pathlib.Path(__file__).resolve().parent.parent
+    pages = [*read(top, "README.md", prose), *read(top, "docs/*.md", prose)]
     found = count("pages", pages)
     cells = [cell for name, lines in pages for cell in long_cells(name, lines)]
     sentences = [sentence for name, lines in pages for sentence in long_sentences(name, lines)]
     print(f"pages: {len(cells)} table cells of more than {LONG_CELL} words, {len(sentences)} sentences of more than {LONG_SENTENCE}")
-    inner = count("docs/internals", list(read("docs/internals/**/*.md", prose)))
-    comments = count("doc comments", [*read("crates/**/*.rt", doc_comments), *read("crates/**/*.antt", doc_comments)])
-    if sys.argv[1:]:
+    inner = count("docs/internals", list(read(top, "docs/internals/**/*.md", prose)))
+    sources = [*read(top, "crates/**/*.rt", doc_comments), *read(top, "crates/**/*.antt", doc_comments)]
+    comments = count("doc comments", sources)
+    if listed:
         for name, number, word, better in found + inner + comments:
             print(f"{name}:{number}: {word} -> {better}")
         for name, number, text in cells + sentences:
