@@ -11,10 +11,10 @@ use Rattle.air_log.specs.Devices.{Listening}
 use Rattle.air_log.specs.Entries.{hearings_of}
 use Rattle.air_log.specs.HearsAir.{scene_of, HearsAir}
 use Rattle.air_log.specs.Safe.{Safe, SameStep}
-use Rattle.air_safety.proofs.SentInTrails.{sent_lasts}
-use Rattle.air_safety.proofs.TunedInTrails.{tuned_listens}
-use Rattle.safe_air.proofs.SafeRuns.{lawful_logs_are_safe}
-use Rattle.bus_alignment.specs.LawfulRuns.{IsLawfulRun}
+use Rattle.law_trails.proofs.SentInTrails.{sent_lasts}
+use Rattle.law_trails.proofs.TunedInTrails.{tuned_listens}
+use Rattle.law_safety.proofs.SafeRuns.{lawful_logs_are_safe}
+use Rattle.law_terms.specs.LawfulRuns.{IsLawfulRun}
 use Rattle.law_one_log.proofs.EntriesApart.{HearingsApart, Other}
 use Rattle.law_one_log.proofs.KeptApart.{weaker_pairs}
 use Rattle.law_one_log.proofs.OfTrails.{lasts, one_of_node}

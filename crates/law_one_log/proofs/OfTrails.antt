@@ -17,7 +17,7 @@ use Rattle.air_log.proofs.Elements.{filtered}
 use Rattle.air_log.proofs.SendingsKept.{profile_lasts}
 use Rattle.air_log.proofs.TrailSendings.{in_order}
 use Rattle.air_log.proofs.TrailTunings.{each_tuned, tuned_in_turn}
-use Rattle.air_safety.proofs.SentInTrails.{sent_known, sent_lasts, sent_below}
+use Rattle.law_trails.proofs.SentInTrails.{sent_known, sent_lasts, sent_below}
 use Rattle.energy_account.proofs.SendingsApart.{sendings_apart}
 use Rattle.law_one_log.proofs.SameElements.{which_first}
 use Rattle.law_one_log.proofs.KeptApart.{Apart, in_other_order, weaker_pairs, of_all_nodes}

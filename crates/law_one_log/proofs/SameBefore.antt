@@ -21,8 +21,8 @@ use Rattle.air_log.specs.Trails.{run_end, trail}
 use Rattle.air_log.proofs.Elements.{in_filtered, filtered}
 use Rattle.air_log.proofs.QuietTicks.{prefix, prefix_run}
 use Rattle.air_log.proofs.TunedBefore.{TunedAt}
-use Rattle.air_safety.specs.TrailLinks.{device_in}
-use Rattle.air_safety.proofs.SentInTrails.{sent_known, sent_lasts, sent_below}
+use Rattle.law_trails.specs.TrailLinks.{device_in}
+use Rattle.law_trails.proofs.SentInTrails.{sent_known, sent_lasts, sent_below}
 use Rattle.law_one_log.proofs.InTurn.{InTurn, by_end_moves, by_end_in_turn, same_in_turn}
 use Rattle.law_one_log.proofs.OfTrails.{lasts, heard_apart}
 use Rattle.law_one_log.proofs.TunedBack.{tuned_there, tuned_here, by_device, by_log}

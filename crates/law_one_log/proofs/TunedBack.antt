@@ -13,8 +13,8 @@ use Rattle.air_log.specs.Lawful.{FollowsTrails, heard_by, tuned_by}
 use Rattle.air_log.specs.Trails.{Reception, run_end, before_tick, trail}
 use Rattle.air_log.proofs.Elements.{in_filtered, filtered}
 use Rattle.air_log.proofs.TunedBefore.{TunedAt, silenced_stays, tick_by}
-use Rattle.air_safety.proofs.SentInTrails.{if_holds, holds_if}
-use Rattle.air_safety.proofs.TunedInTrails.{Tuned, step_stays}
+use Rattle.law_trails.proofs.SentInTrails.{if_holds, holds_if}
+use Rattle.law_trails.proofs.TunedInTrails.{Tuned, step_stays}
 
 module _ (s : ScenarioParts) (v : ℕ) (clock : ℕ → ℕ) (hs : List Reception) where
   back : (t u : ℕ) → t ≤ u → (r k : ℕ) → k < t → Tuned s v clock hs u r k ↔ Tuned s v clock hs t r k

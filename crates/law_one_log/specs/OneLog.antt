@@ -7,7 +7,7 @@ use Rattle.air_log.specs.Entries.{node_of}
 use Rattle.air_log.specs.FloodLaw.{FloodLaw}
 use Rattle.air_log.specs.LogText.{start_of, kind_of, log_text}
 use Rattle.energy_account.specs.Energies.{energy_of}
-use Rattle.bus_alignment.specs.LawfulRuns.{IsLawfulRun}
+use Rattle.law_terms.specs.LawfulRuns.{IsLawfulRun}
 use Rattle.lwb_flood.specs.FloodLog.{HasClocks}
 
 -- the order of the log text does not tell the two apart

@@ -14,7 +14,7 @@ use Rattle.lwb_world.specs.Moments.{Before}
 use Rattle.lwb_world.specs.Running.{IsRunning}
 use Rattle.lwb_world.specs.Runs.{IsRun, orders_left}
 use Rattle.lwb_world.specs.Worlds.{core_of}
-use Rattle.lawful_bus.proofs.BusRuns.{bus_run}
+use Rattle.law_bus.proofs.BusRuns.{bus_run}
 use Rattle.lwb_world.proofs.TrailsGoOn.{AreClocks}
 use Rattle.lwb_world.proofs.TrailsOver.{trails_over}
 use Rattle.lwb_world.proofs.DeliveriesOver.{deliveries_over}

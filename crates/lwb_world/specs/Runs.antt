@@ -15,7 +15,7 @@ use Rattle.air_log.specs.Devices.{Device, Power, PowerOff, PowerOn}
 use Rattle.air_log.specs.Lawful.{Lawful, trail_in}
 use Rattle.air_log.specs.Safe.{Safe}
 use Rattle.air_log.specs.Deliveries.{deliveries_of}
-use Rattle.lawful_bus.specs.BusRuns.{IsBusRun}
+use Rattle.law_bus.specs.BusRuns.{IsBusRun}
 use Rattle.air_log.specs.Courses.{tick_of}
 use Rattle.lwb_world.specs.Fields.{end_of}
 

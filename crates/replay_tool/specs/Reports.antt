@@ -17,7 +17,7 @@ use Rattle.air_log.specs.FloodLaw.{FloodLaw}
 use Rattle.air_log.specs.Lawful.{Lawful}
 use Rattle.air_log.specs.Safe.{Safe}
 use Rattle.air_log.specs.LogText.{log_text}
-use Rattle.lawful_bus.specs.BusRuns.{IsBusRun}
+use Rattle.law_bus.specs.BusRuns.{IsBusRun}
 use Rattle.replay_tool.specs.FloodReport.{flood_report}
 use Rattle.replay_tool.specs.RunReport.{run_report}
 use Rattle.replay_tool.specs.BusReport.{bus_report}

@@ -1,5 +1,0 @@
-use Rattle.air_bus.proofs.WindowFacts.{open_by_rows, close_by_rows}
-use Rattle.air_bus.proofs.window_laws.windows_go_by_rows.Goals as goal
-
-pub returns : goal.returns
-returns c = record { opening = open_by_rows; closing = close_by_rows }

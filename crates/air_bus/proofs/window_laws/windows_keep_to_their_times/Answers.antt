@@ -1,5 +1,0 @@
-use Rattle.air_bus.proofs.WindowFacts.{open_in_time, close_in_time}
-use Rattle.air_bus.proofs.window_laws.windows_keep_to_their_times.Goals as goal
-
-pub returns : goal.returns
-returns c = record { opening = open_in_time; closing = close_in_time }

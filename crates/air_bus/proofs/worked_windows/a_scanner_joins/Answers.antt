@@ -1,5 +1,0 @@
-use Rattle.air_bus.proofs.WorkedWindows.{joins, joins_closing, joins_flood}
-use Rattle.air_bus.proofs.worked_windows.a_scanner_joins.Goals as goal
-
-pub returns : goal.returns
-returns c = record { opening = joins; closing = joins_closing; flood = joins_flood }

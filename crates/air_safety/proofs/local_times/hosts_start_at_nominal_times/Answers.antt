@@ -1,5 +1,0 @@
-use Rattle.air_safety.proofs.HeardReferences.{host_starts}
-use Rattle.air_safety.proofs.local_times.hosts_start_at_nominal_times.Goals as goal
-
-pub returns : goal.returns
-returns c = host_starts

@@ -1,5 +1,0 @@
-use Rattle.air_safety.proofs.HeardReferences.{moved_on, moved_sum, good_now, good_ahead}
-use Rattle.air_safety.proofs.local_times.references_move_on_by_gaps.Goals as goal
-
-pub returns : goal.returns
-returns c = record { moved = moved_on; sum = moved_sum; now = good_now; ahead = good_ahead }

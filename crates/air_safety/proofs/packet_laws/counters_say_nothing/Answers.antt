@@ -1,5 +1,0 @@
-use Rattle.air_safety.proofs.OtherCounters.{same_again, relay_same, bodies_same}
-use Rattle.air_safety.proofs.packet_laws.counters_say_nothing.Goals as goal
-
-pub returns : goal.returns
-returns c = record { again = same_again; relay = relay_same; bodies = bodies_same }

@@ -1,6 +1,0 @@
-use Rattle.air_safety.proofs.SaidPackets.{says, kind_says, packets_say}
-use Rattle.air_safety.proofs.ProfilePackets.{in_slot}
-use Rattle.air_safety.proofs.packet_laws.messages_tell_of_their_packets.Goals as goal
-
-pub returns : goal.returns
-returns c = record { packet = says; kind = kind_says; some = packets_say; place = in_slot }

@@ -1,5 +1,0 @@
-use Rattle.air_safety.proofs.ProfilePackets.{slot_covered, last_covered}
-use Rattle.air_safety.proofs.packet_laws.rounds_fit_their_budget.Goals as goal
-
-pub returns : goal.returns
-returns c = record { slot = slot_covered; last = last_covered }

@@ -1,5 +1,0 @@
-use Rattle.air_safety.proofs.AwakeNodes.{awake_in_phase}
-use Rattle.air_safety.proofs.walks.nodes_that_are_on_are_awake.Goals as goal
-
-pub returns : goal.returns
-returns c = awake_in_phase

@@ -1,5 +1,0 @@
-use Rattle.air_safety.proofs.WalkOfRun.{known_before, known_in_phase}
-use Rattle.air_safety.proofs.walks.nothing_due_is_left.Goals as goal
-
-pub returns : goal.returns
-returns c = record { before = known_before; within = known_in_phase }

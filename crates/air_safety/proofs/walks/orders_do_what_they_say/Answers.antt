@@ -1,5 +1,0 @@
-use Rattle.air_safety.proofs.ObeyedOrders.{has_obeyed}
-use Rattle.air_safety.proofs.walks.orders_do_what_they_say.Goals as goal
-
-pub returns : goal.returns
-returns c = has_obeyed

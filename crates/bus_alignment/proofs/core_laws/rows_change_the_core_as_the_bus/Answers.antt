@@ -1,5 +1,0 @@
-use Rattle.bus_alignment.proofs.AlignedSlots.{open_core, close_core, frame_core}
-use Rattle.bus_alignment.proofs.core_laws.rows_change_the_core_as_the_bus.Goals as goal
-
-pub returns : goal.returns
-returns c = record { opening = open_core; closing = close_core; frame = frame_core }

@@ -1,2 +1,0 @@
-pub mod WindowSendings
-pub mod RunEnergies

@@ -1,5 +1,0 @@
-use Rattle.bus_induction.proofs.SameDeliveries.{any_clocks_law}
-use Rattle.bus_induction.proofs.run_laws.clocks_do_not_matter.Goals as goal
-
-pub returns : goal.returns
-returns c = any_clocks_law

@@ -1,5 +1,0 @@
-use Rattle.bus_induction.proofs.SameDeliveries.{deliveries_law, drops_law}
-use Rattle.bus_induction.proofs.run_laws.deliveries_are_those_of_the_bus.Goals as goal
-
-pub returns : goal.returns
-returns c = record { deliveries = deliveries_law; drops = drops_law }

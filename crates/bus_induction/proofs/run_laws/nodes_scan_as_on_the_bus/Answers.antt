@@ -1,5 +1,0 @@
-use Rattle.bus_induction.proofs.SameScans.{scans_law}
-use Rattle.bus_induction.proofs.run_laws.nodes_scan_as_on_the_bus.Goals as goal
-
-pub returns : goal.returns
-returns c = scans_law

@@ -1,5 +1,0 @@
-use Rattle.bus_induction.proofs.CoresOfWindows.{all_slots}
-use Rattle.bus_induction.proofs.run_laws.slots_are_the_bus.Goals as goal
-
-pub returns : goal.returns
-returns c = all_slots

@@ -1,2 +1,0 @@
-pub mod AllSlots
-pub mod ScannedFrames

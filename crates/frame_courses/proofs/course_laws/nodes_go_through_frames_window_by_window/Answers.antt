@@ -1,5 +1,0 @@
-use Rattle.frame_courses.proofs.Courses.{through_frames}
-use Rattle.frame_courses.proofs.course_laws.nodes_go_through_frames_window_by_window.Goals as goal
-
-pub returns : goal.returns
-returns c = through_frames

@@ -1,2 +1,0 @@
-pub mod FramePlaces
-pub mod WorkedCourses

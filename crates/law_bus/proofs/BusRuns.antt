@@ -1,0 +1,22 @@
+-- A lawful run is the bus's.
+use Rattle.std.proofs.Common.{List, sym, subst}
+use Rattle.bus_rules.specs.declared.delivery.Delivery.{Delivery}
+use Rattle.bus_model.specs.Bus.{Ordered}
+use Rattle.bus_model.proofs.OrderedDeliveries.{deliveries_in_order}
+use Rattle.bus_model.proofs.ReceivedInRounds.{received}
+use Rattle.law_safety.proofs.SafeRuns.{lawful_logs_are_safe}
+use Rattle.law_bus.proofs.BusCosts.{energies}
+use Rattle.law_bus.specs.BusRuns.{LawfulRunsAreTheBus}
+use Rattle.law_bus.proofs.BusLaws.{delivered, dropped}
+
+pub bus_run : LawfulRunsAreTheBus
+bus_run s clocks air lawful =
+    let same = delivered s clocks air lawful in
+    record {
+      safe = lawful_logs_are_safe s clocks air (record { sound = lawful.sound; drift = lawful.drift }) lawful.lawful;
+      delivered = same;
+      lost = dropped s clocks air lawful;
+      in_order = subst (λ (ds : List Delivery). Ordered ds) (sym same) (deliveries_in_order s lawful.sound);
+      received = received s lawful.sound;
+      costs = energies s clocks air lawful;
+    }

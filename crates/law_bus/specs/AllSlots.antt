@@ -1,0 +1,14 @@
+-- Before and in each slot of each round of a lawful run the nodes are the bus's.
+use Rattle.std.specs.Prelude.{ℕ, ◌≤◌, List}
+use Rattle.lwb_base.specs.Messages.{Plan}
+use Rattle.scenario_text.specs.ScenarioParts.{ScenarioParts}
+use Rattle.bus_rules.specs.Plans.{last_slot}
+use Rattle.air_log.specs.declared.entry.Entry.{Entry}
+use Rattle.law_terms.specs.LawfulRuns.{IsLawfulRun}
+use Rattle.law_terms.specs.SlotLaws.{IsRound}
+use Rattle.law_terms.specs.SlotSteps.{IsSlotStart, IsSlotHeard}
+
+abbrev pub AllSlotsLaw : Type 0
+AllSlotsLaw = (s : ScenarioParts) (clocks : ℕ → ℕ → ℕ) (air : List Entry) → IsLawfulRun s clocks air
+    → (f rank j : ℕ) (p : Plan) → IsRound s f rank p → j ≤ last_slot p
+    → IsSlotStart s clocks air f rank p j × IsSlotHeard s clocks air f rank p j

@@ -1,0 +1,10 @@
+pub mod AllSlots
+pub mod ScannedFrames
+pub mod SaidInWindows
+pub mod FloodedSlots
+pub mod SlotRun
+pub mod RunLaws
+pub mod ScannerLaws
+pub mod WindowSendings
+pub mod RunEnergies
+pub mod BusRuns

@@ -1,0 +1,18 @@
+-- What is sent in a window is what its node sends in the slot on the bus.
+use Rattle.std.specs.Prelude.{◌≡◌, ℕ, ◌≤◌, List, map}
+use Rattle.lwb_base.specs.Messages.{Plan}
+use Rattle.scenario_text.specs.ScenarioParts.{ScenarioParts}
+use Rattle.bus_rules.specs.Plans.{last_slot}
+use Rattle.bus_model.specs.Costs.{sent_by}
+use Rattle.air_log.specs.Charges.{sent_packets, step_and_length}
+use Rattle.air_log.specs.declared.entry.Entry.{Entry}
+use Rattle.air_log.specs.WindowLogs.{WindowLog}
+use Rattle.law_terms.specs.LawfulRuns.{IsLawfulRun}
+use Rattle.law_terms.specs.SlotLaws.{IsRound, IsWindowOf, bus_slot}
+
+-- by step and length, one after another, in each window of each slot
+abbrev pub WindowSendingsLaw : Type 0
+WindowSendingsLaw = (s : ScenarioParts) (clocks : ℕ → ℕ → ℕ) (air : List Entry) → IsLawfulRun s clocks air
+    → (f rank j v : ℕ) (p : Plan) → IsRound s f rank p → j ≤ last_slot p
+    → (w : WindowLog) → IsWindowOf s clocks air f rank j v w
+    → map step_and_length (sent_packets w) ≡ sent_by (bus_slot s f rank p j) v

@@ -1,0 +1,21 @@
+//! The rounds of a lawful run, slot by slot, each law a function that does nothing and has the law as its contract.
+
+ghost use Rattle.law_terms.specs.SlotSteps.{FirstSlotLaw, SlotStepLaw, RoundEndLaw};
+
+/// Where the nodes are the bus's after the script lines of a frame, they are so before slot 0 of each of its rounds:
+/// who takes part awaits it, and goes by the plan of the round.
+pub fn rounds_begin_as_the_bus()
+    ensures { FirstSlotLaw }
+{}
+
+/// Where they are so before a slot, and its flood gives in the air what it gives on the bus, they are so before the
+/// next: who has a window is as that has left it, and every other node as it was.
+pub fn slots_follow_as_on_the_bus()
+    ensures { SlotStepLaw }
+{}
+
+/// And behind the last slot: who had a window in it is as that has left it, and every other node as the frame found
+/// it.
+pub fn rounds_end_as_on_the_bus()
+    ensures { RoundEndLaw }
+{}

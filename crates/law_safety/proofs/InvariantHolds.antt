@@ -1,0 +1,40 @@
+-- Each step of a tick keeps what it has to keep, so the invariant holds before each tick of a run.
+use Rattle.law_safety.specs.Invariant.{HoldsThroughout}
+use Rattle.law_safety.specs.Rows.{AllRows}
+use Rattle.law_safety.proofs.RowBoot.{boot_row}
+use Rattle.law_safety.proofs.RowsOfScript.{declare_row, leave_row, loss_row, off_row, put_row}
+use Rattle.law_safety.proofs.RowJoining.{joining_row}
+use Rattle.law_safety.proofs.RowHearing.{hearing_row}
+use Rattle.law_safety.proofs.RowsOfSent.{late_sent_row, sent_elsewhere_row, sent_row}
+use Rattle.law_safety.proofs.RowFrameAlarm.{alarm_elsewhere_row, frame_alarm_row}
+use Rattle.law_safety.proofs.RowOpening.{opening_row}
+use Rattle.law_safety.proofs.RowClosing.{closing_row}
+use Rattle.law_safety.proofs.RowsOfStart.{beginning_row, missed_start_row}
+use Rattle.law_safety.proofs.RowsOnwards.{onwards_row, passing_row}
+use Rattle.law_safety.proofs.Induction.{rows_suffice}
+
+pub all_rows : AllRows
+all_rows = record {
+  boot = boot_row;
+  off = off_row;
+  declaring = declare_row;
+  leaving = leave_row;
+  putting = put_row;
+  loss = loss_row;
+  joining = joining_row;
+  hearing = hearing_row;
+  sent = sent_row;
+  late_sent = late_sent_row;
+  sent_elsewhere = sent_elsewhere_row;
+  frame_alarm = frame_alarm_row;
+  opening = opening_row;
+  closing = closing_row;
+  alarm_elsewhere = alarm_elsewhere_row;
+  beginning = beginning_row;
+  missed_start = missed_start_row;
+  onwards = onwards_row;
+  passing = passing_row;
+}
+
+pub holds_throughout : HoldsThroughout
+holds_throughout = rows_suffice all_rows

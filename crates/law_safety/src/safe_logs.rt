@@ -1,0 +1,24 @@
+//! From the invariant of a run to safe logs, each law a function that does nothing and has the law as its contract.
+
+ghost use Rattle.law_safety.specs.Invariant.{HoldsThroughout, HeedfulLogsAreSafe, LawfulLogsAreSafe};
+ghost use Rattle.law_safety.specs.Endings.{LogsInOrderAreSafe};
+
+/// Where the invariant holds at the end of a run, its log is safe: a sending lies in one frame, none meets one of
+/// another frame, slot or step of its channel, those of a slot differ in the counter alone unless both are requests,
+/// one node at most begins the flood of a slot, and who neither hosts nor heard that it may begins none.
+pub fn logs_in_order_are_safe()
+    ensures { LogsInOrderAreSafe }
+{}
+
+/// So if the invariant holds throughout every run, every heedful log and every lawful log is safe.
+pub fn the_invariant_makes_logs_safe()
+    ensures heedful { HoldsThroughout → HeedfulLogsAreSafe }
+    ensures lawful { HoldsThroughout → LawfulLogsAreSafe }
+{}
+
+/// It does hold. So for every sound scenario and all clocks of the drift law, every log whose nodes do what they heard
+/// calls for, and heard only what was in their reach, is safe (`heedful`). So is every lawful log (`lawful`).
+pub fn every_lawful_log_is_safe()
+    ensures heedful { HeedfulLogsAreSafe }
+    ensures lawful { LawfulLogsAreSafe }
+{}

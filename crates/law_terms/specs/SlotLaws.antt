@@ -1,0 +1,111 @@
+-- Slot by slot a lawful air is the bus's: who sends, who accepts, and the cores round each window.
+use Rattle.std.specs.Prelude.{◌≡◌, ℕ, suc, ◌<◌, ◌≤◌, ◌↔◌, List, Contains, true, Some, is_some, length, slice_set}
+use Rattle.std.specs.Option.{IfSome}
+use Rattle.lwb_base.specs.Messages.{Plan}
+use Rattle.scenario_text.specs.ScenarioParts.{ScenarioParts}
+use Rattle.scenario_text.specs.FloodParts.{knows}
+use Rattle.radio_model.specs.declared.sending.Sending.{Sending}
+use Rattle.radio_model.specs.Hearing.{frame_of, slot_of as slot_byte}
+use Rattle.glossy_relay.specs.Relaying.{accepted_of}
+use Rattle.bus_rules.specs.Plans.{last_slot}
+use Rattle.bus_rules.specs.Slots.{Message}
+use Rattle.bus_model.specs.Flooding.{Sends, Accepts, has}
+use Rattle.lwb_member.specs.Said.{bytes_of}
+use Rattle.air_log.specs.declared.entry.Entry.{Entry}
+use Rattle.air_log.specs.Entries.{sendings_of}
+use Rattle.air_log.specs.WindowLogs.{WindowLog}
+use Rattle.air_log.specs.Lawful.{trail_in}
+use Rattle.bus_rules.specs.States.{State, StateOn}
+use Rattle.bus_model.specs.Rounds.{Slot, round_plan, before_slot, slot_at, said_in}
+use Rattle.bus_model.specs.Bus.{state_at}
+use Rattle.law_terms.specs.LawfulRuns.{IsLawfulRun}
+
+-- the bus has a round of this rank in this frame, by this plan
+pub record IsRound (s : ScenarioParts) (f rank : ℕ) (p : Plan) : Type 0 where
+  pub in_run : f < s.frames
+  pub hosted : rank < length s.hosts
+  pub plan : round_plan s rank f (state_at s f) ≡ Some p
+
+-- slot j of it
+abbrev pub bus_slot : ScenarioParts → ℕ → ℕ → Plan → ℕ → Slot
+bus_slot s f rank p j = slot_at s rank f p (state_at s f) j
+
+-- the state of v before slot j of it
+abbrev pub bus_before : ScenarioParts → ℕ → ℕ → Plan → ℕ → ℕ → State
+bus_before s f rank p j v = before_slot s rank f p (state_at s f) j v
+
+-- o initiates in slot j of it, and says m
+abbrev pub Says : ScenarioParts → ℕ → ℕ → Plan → ℕ → ℕ → Message → Type 0
+Says s f rank p j o m = (has (bus_slot s f rank p j).flood.initiators o ≡ true) × (said_in ((bus_slot s f rank p j).window o) ≡ Some m)
+
+-- a sending of v in this slot, with this counter, of this message
+pub record IsSending (s : ScenarioParts) (air : List Entry) (f rank j v k : ℕ) (m : Message) : Type 0 where
+  pub sending : Sending
+  pub there : Contains (sendings_of air) sending
+  pub node : sending.node ≡ v
+  pub channel : sending.rank ≡ rank
+  pub frame : frame_of s.profile sending ≡ f
+  pub packet : sending.packet ≡ slice_set (bytes_of m j) 2 k
+
+pub record IsWindowOf (s : ScenarioParts) (clocks : ℕ → ℕ → ℕ) (air : List Entry) (f rank j v : ℕ) (w : WindowLog) : Type 0 where
+  pub there : Contains (trail_in s clocks air v).made.windows w
+  pub frame : w.frame ≡ f
+  pub channel : w.rank ≡ rank
+  pub slot : w.slot ≡ j
+
+-- a window of v of this slot closed, and had accepted this message first with this counter
+pub record IsAcceptance (s : ScenarioParts) (clocks : ℕ → ℕ → ℕ) (air : List Entry) (f rank j v k : ℕ) (m : Message) : Type 0 where
+  pub window : WindowLog
+  pub here : IsWindowOf s clocks air f rank j v window
+  pub closed : is_some window.closed ≡ true
+  pub accepted : accepted_of window.last.flood ≡ Some (slice_set (bytes_of m j) 2 k, k)
+
+-- Slot: who sends in a step, and who accepts, is the flood's
+pub record IsSlot (s : ScenarioParts) (clocks : ℕ → ℕ → ℕ) (air : List Entry) (f rank : ℕ) (p : Plan) (j : ℕ) : Type 0 where
+  pub sends : (v k o : ℕ) (m : Message) → Says s f rank p j o m → k ≤ 11
+      → Sends (bus_slot s f rank p j).flood v k o ↔ IsSending s air f rank j v k m
+  pub accepts : (v k o : ℕ) (m : Message) → Says s f rank p j o m → k ≤ 11
+      → Accepts (bus_slot s f rank p j).flood v o k ↔ IsAcceptance s clocks air f rank j v k m
+
+abbrev pub SlotLaw : Type 0
+SlotLaw = (s : ScenarioParts) (clocks : ℕ → ℕ → ℕ) (air : List Entry) → IsLawfulRun s clocks air
+    → (f rank j : ℕ) (p : Plan) → IsRound s f rank p → j ≤ last_slot p → IsSlot s clocks air f rank p j
+
+-- nothing else is sent
+pub record IsSaidIn (s : ScenarioParts) (air : List Entry) (x : Sending) : Type 0 where
+  pub plan : Plan
+  pub round : IsRound s (frame_of s.profile x) x.rank plan
+  pub slot : slot_byte x ≤ last_slot plan
+  pub origin : ℕ
+  pub message : Message
+  pub said : Says s (frame_of s.profile x) x.rank plan (slot_byte x) origin message
+  pub counter : ℕ
+  pub few : counter ≤ 11
+  pub packet : x.packet ≡ slice_set (bytes_of message (slot_byte x)) 2 counter
+
+abbrev pub SentLaw : Type 0
+SentLaw = (s : ScenarioParts) (clocks : ℕ → ℕ → ℕ) (air : List Entry) → IsLawfulRun s clocks air
+    → (x : Sending) → Contains (sendings_of air) x → IsSaidIn s air x
+
+-- the cores round a window are the bus's before and after its slot
+pub record IsAligned (s : ScenarioParts) (v : ℕ) (w : WindowLog) : Type 0 where
+  pub plan : Plan
+  pub round : IsRound s w.frame w.rank plan
+  pub slot : w.slot ≤ last_slot plan
+  pub before : StateOn w.before.core ≡ bus_before s w.frame w.rank plan w.slot v
+  pub after : IfSome w.closed (λ c. StateOn c.after.core ≡ bus_before s w.frame w.rank plan (suc w.slot) v)
+
+abbrev pub CoresLaw : Type 0
+CoresLaw = (s : ScenarioParts) (clocks : ℕ → ℕ → ℕ) (air : List Entry) → IsLawfulRun s clocks air
+    → (v : ℕ) (w : WindowLog) → knows s.nodes v ≡ true → Contains (trail_in s clocks air v).made.windows w → IsAligned s v w
+
+-- a node has the windows that open by an alarm which it has in the bus
+pub record HasWindow (s : ScenarioParts) (clocks : ℕ → ℕ → ℕ) (air : List Entry) (f rank j v : ℕ) : Type 0 where
+  pub window : WindowLog
+  pub here : IsWindowOf s clocks air f rank j v window
+  pub by_alarm : window.by_alarm ≡ true
+
+abbrev pub WindowsLaw : Type 0
+WindowsLaw = (s : ScenarioParts) (clocks : ℕ → ℕ → ℕ) (air : List Entry) → IsLawfulRun s clocks air
+    → (f rank j v : ℕ) (p : Plan) → IsRound s f rank p → j ≤ last_slot p → knows s.nodes v ≡ true
+    → (is_some ((bus_slot s f rank p j).window v) ≡ true) ↔ HasWindow s clocks air f rank j v

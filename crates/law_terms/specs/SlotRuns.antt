@@ -1,0 +1,45 @@
+-- What is on the air in a slot, as a run of the theorem on floods.
+use Rattle.std.specs.Prelude.{◌≡◌, ℕ, ◌≤◌, ◌↔◌, List, Contains, true, is_some}
+use Rattle.lwb_base.specs.Messages.{Plan}
+use Rattle.scenario_text.specs.ScenarioParts.{ScenarioParts}
+use Rattle.radio_model.specs.declared.sending.Sending.{Sending}
+use Rattle.radio_model.specs.Hearing.{frame_of, slot_of as slot_byte}
+use Rattle.glossy_relay.specs.Relaying.{accepted_of}
+use Rattle.bus_rules.specs.Plans.{last_slot}
+use Rattle.bus_rules.specs.Slots.{Message}
+use Rattle.lwb_member.specs.Said.{bytes_of}
+use Rattle.lwb_member.specs.Places.{kind_for}
+use Rattle.air_log.specs.declared.entry.Entry.{Entry}
+use Rattle.air_log.specs.Entries.{sendings_of, IsHeard}
+use Rattle.air_log.specs.WindowLogs.{WindowLog}
+use Rattle.lwb_flood.specs.FloodRun.{Run, WasHeard, takes_part}
+use Rattle.lwb_flood.specs.FloodBySteps.{IsFloodBySteps, ended}
+use Rattle.law_terms.specs.LawfulRuns.{IsLawfulRun}
+use Rattle.law_terms.specs.SlotLaws.{IsRound, IsWindowOf, Says, bus_slot}
+use Rattle.law_terms.specs.SlotSteps.{IsSlotStart}
+
+-- v has a window of the slot that has closed
+pub record HasClosed (s : ScenarioParts) (clocks : ℕ → ℕ → ℕ) (air : List Entry) (f rank j v : ℕ) : Type 0 where
+  pub window : WindowLog
+  pub here : IsWindowOf s clocks air f rank j v window
+  pub closed : is_some window.closed ≡ true
+
+-- its setting is the bus's, its sendings are all of this frame, channel and slot, and each window's flood at the end is the fold of its events
+pub record IsRunOf (s : ScenarioParts) (clocks : ℕ → ℕ → ℕ) (air : List Entry) (f rank : ℕ) (p : Plan) (j : ℕ) (r : Run) : Type 0 where
+  pub setting : r.setting ≡ (bus_slot s f rank p j).flood
+  pub slot : r.slot ≡ j
+  pub channel : r.rank ≡ rank
+  pub kind : r.kind ≡ kind_for (bus_slot s f rank p j).part
+  pub message : (o : ℕ) (m : Message) → Says s f rank p j o m → r.message o ≡ bytes_of m j
+  pub sendings : (x : Sending) → Contains r.sendings x
+      ↔ (Contains (sendings_of air) x × (x.rank ≡ rank) × (frame_of s.profile x ≡ f) × (slot_byte x ≡ j))
+  pub hearings : (v : ℕ) (x : Sending) → takes_part r v → WasHeard r v x ↔ (IsHeard air v x × Contains r.sendings x)
+  pub flood : (v : ℕ) (w : WindowLog) → IsWindowOf s clocks air f rank j v w → is_some w.closed ≡ true → ended r v ≡ w.last.flood
+  -- who has a window takes part, and who has accepted has a closed one
+  pub part : (v : ℕ) (w : WindowLog) → IsWindowOf s clocks air f rank j v w → takes_part r v
+  pub closes : (v : ℕ) → takes_part r v → is_some (accepted_of (ended r v)) ≡ true → HasClosed s clocks air f rank j v
+
+abbrev pub RunsLaw : Type 0
+RunsLaw = (s : ScenarioParts) (clocks : ℕ → ℕ → ℕ) (air : List Entry) → IsLawfulRun s clocks air
+    → (f rank j : ℕ) (p : Plan) → IsRound s f rank p → j ≤ last_slot p → IsSlotStart s clocks air f rank p j
+    → (r : Run) × IsRunOf s clocks air f rank p j r × IsFloodBySteps r

@@ -1,0 +1,77 @@
+-- The induction over the slots of a round: what is claimed before each of them, the step, and the end.
+use Rattle.std.specs.Prelude.{◌≡◌, ℕ, zero, suc, ◌<◌, ◌≤◌, List, true, Some, None, is_some, length}
+use Rattle.lwb_base.specs.Messages.{Plan}
+use Rattle.scenario_text.specs.ScenarioParts.{ScenarioParts}
+use Rattle.scenario_text.specs.ScenarioFacts.{IsSoundScenario}
+use Rattle.scenario_text.specs.FloodParts.{knows}
+use Rattle.bus_rules.specs.Plans.{last_slot}
+use Rattle.bus_rules.specs.Cores.{Core, is_member}
+use Rattle.node_core.specs.Rows.{accepted_in}
+use Rattle.air_log.specs.declared.entry.Entry.{Entry}
+use Rattle.air_log.specs.Trails.{at_frame}
+use Rattle.air_log.specs.Lawful.{heard_by}
+use Rattle.air_log.specs.WindowLogs.{WindowLog, Closing}
+use Rattle.bus_rules.specs.States.{State, StateOn}
+use Rattle.bus_model.specs.Rounds.{accepted_at, round, rounds, said_in}
+use Rattle.bus_model.specs.Bus.{state_at}
+use Rattle.air_log.specs.Devices.{seen}
+use Rattle.law_terms.specs.LawfulRuns.{IsLawfulRun}
+use Rattle.law_terms.specs.SlotLaws.{IsRound, IsWindowOf, HasWindow, bus_slot, bus_before}
+
+-- after the script lines of frame f the nodes are the bus's
+abbrev pub IsFrameStart : ScenarioParts → (ℕ → ℕ → ℕ) → List Entry → ℕ → Type 0
+IsFrameStart s clocks air f = (v : ℕ) → knows s.nodes v ≡ true → seen (at_frame s v (clocks v) (heard_by air v) f).power ≡ state_at s f v
+
+-- before slot j: a member is the bus's as it comes to its window, and goes by the round's plan; every other node is the bus's as the frame found it
+pub record IsSlotStart (s : ScenarioParts) (clocks : ℕ → ℕ → ℕ) (air : List Entry) (f rank : ℕ) (p : Plan) (j : ℕ) : Type 0 where
+  pub found : IsFrameStart s clocks air f
+  pub core : (v : ℕ) (w : WindowLog) → IsWindowOf s clocks air f rank j v w → w.by_alarm ≡ true → bus_before s f rank p j v ≡ StateOn w.before.core
+  pub member : (v : ℕ) (w : WindowLog) → IsWindowOf s clocks air f rank j v w → w.by_alarm ≡ true → is_member rank f w.before.core ≡ true
+  pub plan : (v : ℕ) (w : WindowLog) → IsWindowOf s clocks air f rank j v w → w.by_alarm ≡ true → w.before.core.plan ≡ p
+  pub window : (v : ℕ) (c : Core) → knows s.nodes v ≡ true → bus_before s f rank p j v ≡ StateOn c → is_member rank f c ≡ true
+      → HasWindow s clocks air f rank j v
+  pub others : (v : ℕ) → knows s.nodes v ≡ true → (HasWindow s clocks air f rank j v → ⊥) → bus_before s f rank p j v ≡ state_at s f v
+
+-- what the flood of slot j gives for the windows of it: all that the step asks of the theorem on floods
+pub record IsSlotHeard (s : ScenarioParts) (clocks : ℕ → ℕ → ℕ) (air : List Entry) (f rank : ℕ) (p : Plan) (j : ℕ) : Type 0 where
+  pub accepted : (v : ℕ) (w : WindowLog) → IsWindowOf s clocks air f rank j v w → is_some w.closed ≡ true
+      → accepted_in w.last ≡ accepted_at (bus_slot s f rank p j) v
+  pub initiated : (v : ℕ) (w : WindowLog) → IsWindowOf s clocks air f rank j v w → w.last.flood.initiated ≡ is_some (said_in ((bus_slot s f rank p j).window v))
+  -- a scanner with no window accepted nothing
+  pub deaf : (v : ℕ) → knows s.nodes v ≡ true → ((w : WindowLog) → IsWindowOf s clocks air f rank j v w → ⊥) → accepted_at (bus_slot s f rank p j) v ≡ None
+
+abbrev pub SlotHeardLaw : Type 0
+SlotHeardLaw = (s : ScenarioParts) (clocks : ℕ → ℕ → ℕ) (air : List Entry) → IsLawfulRun s clocks air
+    → (f rank j : ℕ) (p : Plan) → IsRound s f rank p → j ≤ last_slot p → IsSlotStart s clocks air f rank p j → IsSlotHeard s clocks air f rank p j
+
+abbrev pub SlotStepLaw : Type 0
+SlotStepLaw = (s : ScenarioParts) (clocks : ℕ → ℕ → ℕ) (air : List Entry) → IsLawfulRun s clocks air
+    → (f rank j : ℕ) (p : Plan) → IsRound s f rank p → j < last_slot p
+    → IsSlotStart s clocks air f rank p j → IsSlotHeard s clocks air f rank p j → IsSlotStart s clocks air f rank p (suc j)
+
+-- after the last slot: who had a window in it is as that left it
+pub record IsRoundEnd (s : ScenarioParts) (clocks : ℕ → ℕ → ℕ) (air : List Entry) (f rank : ℕ) (p : Plan) : Type 0 where
+  pub core : (v : ℕ) (w : WindowLog) (c : Closing) → IsWindowOf s clocks air f rank (last_slot p) v w → w.closed ≡ Some c
+      → round s rank f (state_at s f) v ≡ StateOn c.after.core
+  pub others : (v : ℕ) → knows s.nodes v ≡ true → ((w : WindowLog) → IsWindowOf s clocks air f rank (last_slot p) v w → ⊥)
+      → round s rank f (state_at s f) v ≡ state_at s f v
+
+abbrev pub RoundEndLaw : Type 0
+RoundEndLaw = (s : ScenarioParts) (clocks : ℕ → ℕ → ℕ) (air : List Entry) → IsLawfulRun s clocks air
+    → (f rank : ℕ) (p : Plan) → IsRound s f rank p
+    → IsSlotStart s clocks air f rank p (last_slot p) → IsSlotHeard s clocks air f rank p (last_slot p) → IsRoundEnd s clocks air f rank p
+
+-- it begins with the states at the start of the frame
+abbrev pub FirstSlotLaw : Type 0
+FirstSlotLaw = (s : ScenarioParts) (clocks : ℕ → ℕ → ℕ) (air : List Entry) → IsLawfulRun s clocks air → (f : ℕ)
+    → IsFrameStart s clocks air f
+    → (rank : ℕ) (p : Plan) → IsRound s f rank p → IsSlotStart s clocks air f rank p zero
+
+-- of the bus alone: ranks one after another come to the same
+unfoldable pub rank_by_rank : ScenarioParts → ℕ → (ℕ → State) → ℕ → ℕ → State
+rank_by_rank s f states zero = states
+rank_by_rank s f states (suc rank) = round s rank f (rank_by_rank s f states rank)
+
+abbrev pub AnyOrderLaw : Type 0
+AnyOrderLaw = (s : ScenarioParts) → IsSoundScenario s → (f v : ℕ) → f < s.frames
+    → rank_by_rank s f (state_at s f) (length s.hosts) v ≡ rounds s f (state_at s f) v

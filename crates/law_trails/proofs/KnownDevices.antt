@@ -1,0 +1,141 @@
+-- What is known of a device in each phase of a tick, through each step of it.
+use Rattle.std.proofs.Common.{◌≡◌, ℕ, suc, ◌+◌, ◌≤◌, List, false, ◌==◌, Some, None, Option, IfSome, refl, sym, subst, arith}
+use Rattle.std.proofs.lemmas.Bool.{cond_both}
+use Rattle.lwb_base.specs.declared.event.Event.{Event}
+use Rattle.lwb_base.specs.declared.event.Event.TheVariants.{Boot, Alarm, Sent, Heard}
+use Rattle.radio_model.specs.declared.sending.Sending.{Sending}
+use Rattle.scenario_text.specs.declared.script.Act.{Act}
+use Rattle.scenario_text.specs.declared.script.Act.TheVariants.{On, Off, Declare, Leave, Put}
+use Rattle.scenario_text.specs.declared.script.ScriptLine.{ScriptLine}
+use Rattle.bus_rules.specs.States.{refuses, queues}
+use Rattle.bus_rules.specs.Cores.{Setup}
+use Rattle.node_core.specs.Nodes.{rebooted}
+use Rattle.air_log.specs.Devices.{Device, Power, PowerOff, PowerOn, Listening, Ordered, event, event_by}
+use Rattle.air_log.specs.ScriptedDevices.{after_act, after_line, dropped, switched_on, with_new_core}
+use Rattle.air_log.specs.Trails.{Reception, hears, ended, ended_by, is_due, one_alarm, begun, begun_by, starts}
+use Rattle.air_log.proofs.KeptByEvents.{IsKept, in_event, in_end}
+use Rattle.air_log.proofs.NextDue.{Ahead, Sends, kept_ahead, kept_sends, end_over, alarm_over, begin_over}
+use Rattle.law_trails.specs.Phases.{Lines, Hearings, End, Alarms, Start, Over, SilentBy, IsKnown}
+use Rattle.law_trails.proofs.RowsOfDevices.{stepped_power, switched_on_is}
+
+module _ (clock : ℕ → ℕ) (s : Setup) (t : ℕ) where
+  -- what each event keeps, a script line keeps
+  pub act_keeps : (P : Device → Type 0) → IsKept P clock s t → (frame : ℕ) (d : Device) (a : Act) (p : Power) → P d → P (after_act clock s t frame d a p)
+  act_keeps P kept frame d On (PowerOff boots) is =
+      let n = PowerOn (rebooted (boots + 1)) in in_event P clock s t Boot None (record d { power = n }) kept (kept.powered d n is)
+  act_keeps P kept frame d On (PowerOn n) is = is
+  act_keeps P kept frame d Off (PowerOff boots) is = is
+  act_keeps P kept frame d Off (PowerOn n) is = kept.off d n.core.boot is
+  act_keeps P kept frame d (Declare i interval) (PowerOff boots) is = is
+  act_keeps P kept frame d (Declare i interval) (PowerOn n) is = kept.powered d _ is
+  act_keeps P kept frame d (Leave i) (PowerOff boots) is = is
+  act_keeps P kept frame d (Leave i) (PowerOn n) is = kept.powered d _ is
+  act_keeps P kept frame d (Put i payload) (PowerOff boots) is = kept.dropping frame i d is
+  act_keeps P kept frame d (Put i payload) (PowerOn n) is =
+      cond_both (refuses i n.core) (dropped s.id frame i d) (with_new_core d n (queues i payload n.core)) P (λ lost. kept.dropping frame i d is)
+      (λ queued. kept.powered d _ is)
+
+  -- a node that is off is silent
+  abbrev pub Silent : Device → Type 0
+  Silent d = SilentBy d d.power
+
+  silent_by : (e : Event) (x : Option Sending) (d : Device) (p : Power) → d.power ≡ p → SilentBy d p → Silent (event_by clock s t e x d p)
+  silent_by e x d (PowerOff boots) on is = subst (SilentBy d) (sym on) is
+  silent_by e x d (PowerOn n) on is = let y = event_by clock s t e x d (PowerOn n) in subst (SilentBy y) (sym (stepped_power clock s t e x d n)) tt
+
+  pub event_silent : (e : Event) (x : Option Sending) (d : Device) → Silent d → Silent (event clock s t e x d)
+  event_silent e x d is = silent_by e x d d.power refl is
+
+  act_silent : (frame : ℕ) (d : Device) (a : Act) (p : Power) → d.power ≡ p → SilentBy d p → Silent (after_act clock s t frame d a p)
+  act_silent frame d On (PowerOff boots) on is = subst (SilentBy (switched_on clock s t boots d)) (sym (switched_on_is clock s t boots d).power) tt
+  act_silent frame d On (PowerOn n) on is = subst (SilentBy d) (sym on) tt
+  act_silent frame d Off (PowerOff boots) on is = subst (SilentBy d) (sym on) is
+  act_silent frame d Off (PowerOn n) on is = record { radio = refl; alarm = refl; ordered = refl }
+  act_silent frame d (Declare i interval) (PowerOff boots) on is = subst (SilentBy d) (sym on) is
+  act_silent frame d (Declare i interval) (PowerOn n) on is = tt
+  act_silent frame d (Leave i) (PowerOff boots) on is = subst (SilentBy d) (sym on) is
+  act_silent frame d (Leave i) (PowerOn n) on is = tt
+  act_silent frame d (Put i payload) (PowerOff boots) on is = subst (SilentBy (dropped s.id frame i d)) (sym on) (record {
+    radio = is.radio;
+    alarm = is.alarm;
+    ordered = is.ordered;
+  })
+  act_silent frame d (Put i payload) (PowerOn n) on is =
+      cond_both (refuses i n.core) (dropped s.id frame i d) (with_new_core d n (queues i payload n.core)) Silent
+      (λ lost. subst (SilentBy (dropped s.id frame i d)) (sym on) tt) (λ queued. tt)
+
+  pub line_known : (d : Device) (l : ScriptLine) → IsKnown t Lines d → IsKnown t Lines (after_line clock s t d l)
+  line_known d l is =
+      let ahead = act_keeps (Ahead t) (kept_ahead clock s t) l.frame d l.act d.power (is.alarm, is.ordered, is.sending) in
+      record { alarm = ahead.0; ordered = ahead.1; sending = ahead.2; off = act_silent l.frame d l.act d.power refl is.off }
+
+  pub told_known : (d : Device) → IsKnown t Lines d → IsKnown t Hearings d
+  told_known d is = record { alarm = is.alarm; ordered = is.ordered; sending = is.sending; off = is.off }
+
+  pub hearing_known : (d : Device) (h : Reception) → IsKnown t Hearings d → IsKnown t Hearings (hears clock s t d h)
+  hearing_known d h is =
+      let ahead = in_event (Ahead t) clock s t (Heard h.packet) None d (kept_ahead clock s t) (is.alarm, is.ordered, is.sending) in
+      record { alarm = ahead.0; ordered = ahead.1; sending = ahead.2; off = event_silent (Heard h.packet) None d is.off }
+
+  pub taken_known : (d : Device) → IsKnown t Hearings d → IsKnown t End d
+  taken_known d is = record { alarm = is.alarm; ordered = is.ordered; sending = is.sending; off = is.off }
+
+  unsent : (d : Device) (p : Power) → SilentBy d p → SilentBy (record d { sending = None }) p
+  unsent d (PowerOff boots) is = record { radio = is.radio; alarm = is.alarm; ordered = is.ordered }
+  unsent d (PowerOn n) is = tt
+
+  end_silent : (d : Device) (x : Option Sending) → Silent d → Silent (ended_by clock s t d x)
+  end_silent d None is = is
+  end_silent d (Some x) is =
+      let y : Device = record d { sending = None } in
+      cond_both (x.end == t) (event clock s t Sent (Some x) y) d Silent (λ ends. event_silent Sent (Some x) y (unsent d d.power is)) (λ runs. is)
+
+  pub end_known : (d : Device) → IsKnown t End d → IsKnown t Alarms (ended clock s t d)
+  end_known d is =
+      let ahead = in_end (Ahead t) clock s t d (kept_ahead clock s t) (is.alarm, is.ordered, is.sending) in
+      record { alarm = ahead.0; ordered = ahead.1; sending = end_over clock s t d d.sending refl is.sending; off = end_silent d d.sending is.off }
+
+  unset : (d : Device) (p : Power) → SilentBy d p → SilentBy (record d { alarm = None }) p
+  unset d (PowerOff boots) is = record { radio = is.radio; alarm = refl; ordered = is.ordered }
+  unset d (PowerOn n) is = tt
+
+  pub alarm_known : (d : Device) → IsKnown t Alarms d → IsKnown t Alarms (one_alarm clock s t d)
+  alarm_known d is =
+      let y : Device = record d { alarm = None } in
+      let ahead = in_event (Ahead t) clock s t Alarm None y (kept_ahead clock s t) (tt, is.ordered, later d.sending is.sending) in
+      let runs = in_event (Sends (suc t)) clock s t Alarm None y (kept_sends clock s t (suc t)) is.sending in
+      record { alarm = ahead.0; ordered = ahead.1; sending = runs; off = event_silent Alarm None y (unset d d.power is.off) }
+    where
+      later : (x : Option Sending) → IfSome x (λ y. suc t ≤ y.end) → IfSome x (λ y. t ≤ y.end)
+      later None is = tt
+      later (Some x) is = omega (arith, is)
+
+  pub over_known : (d : Device) → is_due t d.alarm ≡ false → IsKnown t Alarms d → IsKnown t Start d
+  over_known d none is = record { alarm = alarm_over t d.alarm none is.alarm; ordered = is.ordered; sending = is.sending; off = is.off }
+
+  start_silent : (d : Device) (packet : List ℕ) (l : Option Listening) (x : Option Sending) (p : Power) → SilentBy d p → SilentBy (starts s t packet d l x) p
+  start_silent d packet None x (PowerOff boots) is = record { radio = is.radio; alarm = is.alarm; ordered = refl }
+  start_silent d packet (Some l) (Some x) (PowerOff boots) is = record { radio = is.radio; alarm = is.alarm; ordered = refl }
+  start_silent d packet (Some l) None (PowerOff boots) is = record { radio = is.radio; alarm = is.alarm; ordered = refl }
+  start_silent d packet l x (PowerOn n) is = tt
+
+  same_power : (d : Device) (packet : List ℕ) (l : Option Listening) (x : Option Sending) → (starts s t packet d l x).power ≡ d.power
+  same_power d packet None x = refl
+  same_power d packet (Some l) (Some x) = refl
+  same_power d packet (Some l) None = refl
+
+  begun_silent : (d : Device) (o : Option Ordered) → Silent d → Silent (begun_by s t d o)
+  begun_silent d None is = is
+  begun_silent d (Some o) is =
+      let y = starts s t o.packet d d.listening d.sending in
+      cond_both (o.tick == t) y d Silent
+      (λ now. subst (SilentBy y) (sym (same_power d o.packet d.listening d.sending)) (start_silent d o.packet d.listening d.sending d.power is))
+      (λ other. is)
+
+  pub begun_known : 1 ≤ s.profile.byte → (d : Device) → IsKnown t Start d → IsKnown t Over (begun s t d)
+  begun_known some d is =
+      let ahead = begin_over s t d d.ordered some refl is.alarm is.ordered is.sending in
+      record { alarm = ahead.0; ordered = ahead.1; sending = ahead.2; off = begun_silent d d.ordered is.off }
+
+  pub passed_known : (d : Device) → IsKnown t Over d → IsKnown (suc t) Lines d
+  passed_known d is = record { alarm = is.alarm; ordered = is.ordered; sending = is.sending; off = is.off }

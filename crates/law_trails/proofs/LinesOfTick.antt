@@ -1,0 +1,230 @@
+-- What the script lines of a tick leave of a node.
+use Rattle.std.proofs.Common.{◌≡◌, ◌≢◌, ℕ, ◌+◌, ◌≤◌, ◌↔◌, ◌⊎◌, inl, inr, List, [], ◌∷◌, Bool, ◌==◌, ◌&&◌, fold, Contains, refl, sym, ◌∙◌, ap, subst, arith}
+use Rattle.std.proofs.lemmas.Bool.{cond_both, and_parts, and_from, eqb-true, eq-eqb}
+use Rattle.scenario_text.specs.ScenarioParts.{ScenarioParts}
+use Rattle.scenario_text.specs.declared.script.Act.{Act}
+use Rattle.scenario_text.specs.declared.script.Act.TheVariants.{On, Off, Declare, Leave, Put}
+use Rattle.scenario_text.specs.declared.script.ScriptLine.{ScriptLine}
+use Rattle.bus_rules.specs.States.{refuses, queues}
+use Rattle.bus_rules.specs.Streams.{Streams, cleared, declared, left, put}
+use Rattle.bus_rules.specs.Cores.{Core, Setup}
+use Rattle.node_core.specs.Nodes.{Node, rebooted}
+use Rattle.node_core.specs.Rows.{boots}
+use Rattle.node_core.specs.Nodes.{with_streams}
+use Rattle.air_log.specs.Devices.{Device, Power, PowerOff, PowerOn}
+use Rattle.air_log.specs.ScriptedDevices.{after_act, after_line, dropped, switched_on, with_new_core}
+use Rattle.air_log.specs.Trails.{setup_of, frame_start, lines_at, scripted}
+use Rattle.air_log.proofs.Elements.{not_in_none, contains_head, contains_tail, contains_cases, in_filtered, filtered}
+use Rattle.law_trails.specs.Phases.{IsSilent, SilentBy}
+use Rattle.law_trails.specs.TrailLinks.{IsTold, HasBooted, WentOff, WentOffBy, StaysOn, boots_of}
+use Rattle.law_trails.proofs.RowsOfDevices.{switched_on_is}
+
+module _ (clock : ℕ → ℕ) (s : Setup) (t before : ℕ) where
+  -- no boot less than these, and silent where it is off
+  abbrev CountsBy : Device → Power → Type 0
+  CountsBy d p = SilentBy d p × (before ≤ boots_of p)
+
+  abbrev Counts : Device → Type 0
+  Counts d = CountsBy d d.power
+
+  -- and behind an off line
+  abbrev GoneBy : Device → Power → Type 0
+  GoneBy d p = SilentBy d p × WentOffBy clock s t before d p
+
+  abbrev Gone : Device → Type 0
+  Gone d = GoneBy d d.power
+
+  on_again : (count : ℕ) (d : Device) → IsSilent d → before ≤ count → Gone (switched_on clock s t count d)
+  on_again count d silent fewer =
+      let e = switched_on clock s t count d in
+      let is = switched_on_is clock s t count d in
+      let n = (boots s (rebooted (count + 1)) (clock t)).node in
+      let has : HasBooted clock s t n.core.boot e n = record {
+        node = record { streams = cleared; core = refl; frame = refl; zero = refl; stage = refl };
+        channel = is.channel;
+        alarm = is.alarm;
+        ordered = is.ordered ∙ silent.ordered;
+      } in
+      subst (GoneBy e) (sym is.power) (tt, (omega (arith, fewer), has))
+
+  counted : (count : ℕ) (d : Device) → before ≤ count → Counts (switched_on clock s t count d)
+  counted count d fewer = subst (CountsBy (switched_on clock s t count d)) (sym (switched_on_is clock s t count d).power) (tt, omega (arith, fewer))
+
+  counts_on : (frame : ℕ) (d : Device) (a : Act) (p : Power) → d.power ≡ p → CountsBy d p → Counts (after_act clock s t frame d a p)
+  counts_on frame d On (PowerOff count) at is = counted count d is.1
+  counts_on frame d On (PowerOn n) at is = subst (CountsBy d) (sym at) is
+  counts_on frame d Off (PowerOff count) at is = subst (CountsBy d) (sym at) is
+  counts_on frame d Off (PowerOn n) at is = (record { radio = refl; alarm = refl; ordered = refl }, is.1)
+  counts_on frame d (Declare i interval) (PowerOff count) at is = subst (CountsBy d) (sym at) is
+  counts_on frame d (Declare i interval) (PowerOn n) at is = is
+  counts_on frame d (Leave i) (PowerOff count) at is = subst (CountsBy d) (sym at) is
+  counts_on frame d (Leave i) (PowerOn n) at is = is
+  counts_on frame d (Put i payload) (PowerOff count) at is = subst (CountsBy (dropped s.id frame i d)) (sym at) (
+    record {
+      radio = is.0.radio;
+      alarm = is.0.alarm;
+      ordered = is.0.ordered;
+    },
+    is.1,
+  )
+  counts_on frame d (Put i payload) (PowerOn n) at is =
+      cond_both (refuses i n.core) (dropped s.id frame i d) (with_new_core d n (queues i payload n.core)) Counts
+      (λ lost. subst (CountsBy (dropped s.id frame i d)) (sym at) is) (λ kept. is)
+
+  goes_off : (frame : ℕ) (d : Device) (p : Power) → d.power ≡ p → CountsBy d p → Gone (after_act clock s t frame d Off p)
+  goes_off frame d (PowerOff count) at is = subst (GoneBy d) (sym at) is
+  goes_off frame d (PowerOn n) at is = (record { radio = refl; alarm = refl; ordered = refl }, is.1)
+
+  -- streams are told something
+  other_streams : (d : Device) (n : Node) (streams : Streams) → WentOffBy clock s t before d (PowerOn n)
+      → Gone (record d { power = PowerOn (with_streams n streams) })
+  other_streams d n streams is =
+      let was = is.1.node in (
+        tt,
+        (
+          is.0,
+          record {
+            node = record {
+              streams = streams;
+              core = ap (λ (c : Core). record c { streams = streams }) was.core;
+              frame = was.frame;
+              zero = was.zero;
+              stage = was.stage;
+            };
+            channel = is.1.channel;
+            alarm = is.1.alarm;
+            ordered = is.1.ordered;
+          },
+        ),
+      )
+
+  gone_on : (frame : ℕ) (d : Device) (a : Act) (p : Power) → d.power ≡ p → GoneBy d p → Gone (after_act clock s t frame d a p)
+  gone_on frame d On (PowerOff count) at is = on_again count d is.0 is.1
+  gone_on frame d On (PowerOn n) at is = subst (GoneBy d) (sym at) is
+  gone_on frame d Off (PowerOff count) at is = subst (GoneBy d) (sym at) is
+  gone_on frame d Off (PowerOn n) at is = (record { radio = refl; alarm = refl; ordered = refl }, (let later = is.1.0 in omega (arith, later)))
+  gone_on frame d (Declare i interval) (PowerOff count) at is = subst (GoneBy d) (sym at) is
+  gone_on frame d (Declare i interval) (PowerOn n) at is = other_streams d n (declared i interval n.core.streams) is.1
+  gone_on frame d (Leave i) (PowerOff count) at is = subst (GoneBy d) (sym at) is
+  gone_on frame d (Leave i) (PowerOn n) at is = other_streams d n (left i n.core.streams) is.1
+  gone_on frame d (Put i payload) (PowerOff count) at is = subst (GoneBy (dropped s.id frame i d)) (sym at) (
+    record {
+      radio = is.0.radio;
+      alarm = is.0.alarm;
+      ordered = is.0.ordered;
+    },
+    is.1,
+  )
+  gone_on frame d (Put i payload) (PowerOn n) at is =
+      cond_both (refuses i n.core) (dropped s.id frame i d) (with_new_core d n (queues i payload n.core)) Gone
+      (λ lost. subst (GoneBy (dropped s.id frame i d)) (sym at) (
+        tt,
+        (
+          is.1.0,
+          record {
+            node = is.1.1.node;
+            channel = is.1.1.channel;
+            alarm = is.1.1.alarm;
+            ordered = is.1.1.ordered;
+          },
+        ),
+      ))
+      (λ kept. other_streams d n (put i payload n.core.streams) is.1)
+
+  gone_lines : (ls : List ScriptLine) (d : Device) → Gone d → Gone (fold (after_line clock s t) d ls)
+  gone_lines [] d is = is
+  gone_lines (l ∷ ls) d is = gone_lines ls (after_line clock s t d l) (gone_on l.frame d l.act d.power refl is)
+
+  off_lines : (ls : List ScriptLine) (d : Device) → Counts d → (l : ScriptLine) → Contains ls l → l.act ≡ Off → Gone (fold (after_line clock s t) d ls)
+  off_lines [] d is l there off = absurd (not_in_none l there)
+  off_lines (x ∷ ls) d is l there off =
+      elim (contains_cases x ls l there) [
+        | inl same ↦
+            let gone = goes_off x.frame d d.power refl is in
+            let act : x.act ≡ Off = ap (λ (k : ScriptLine). k.act) same ∙ off in
+            gone_lines ls (after_line clock s t d x) (subst (λ (a : Act). Gone (after_act clock s t x.frame d a d.power)) (sym act) gone)
+        | inr later ↦ off_lines ls (after_line clock s t d x) (counts_on x.frame d x.act d.power refl is) l later off
+      ]
+
+-- no off line
+module _ (clock : ℕ → ℕ) (s : Setup) (t : ℕ) (n : Node) (d : Device) where
+  new_streams : (e : Device) (is : StaysOn n d e) (m : Node) (streams : Streams) → StaysOn n d (record e { power = PowerOn (with_streams n streams) })
+  new_streams e is m streams = record {
+    streams = streams;
+    power = refl;
+    listening = is.listening;
+    alarm = is.alarm;
+    ordered = is.ordered;
+    sending = is.sending;
+  }
+
+  -- the node of e, with what is told
+  stays : (frame : ℕ) (e : Device) (a : Act) → a ≢ Off → StaysOn n d e → StaysOn n d (after_act clock s t frame e a e.power)
+  stays frame e a other is = subst (λ (p : Power). StaysOn n d (after_act clock s t frame e a p)) (sym is.power) (by_act a other)
+    where
+      m : Node
+      m = with_streams n is.streams
+
+      by_act : (a : Act) → a ≢ Off → StaysOn n d (after_act clock s t frame e a (PowerOn m))
+      by_act On other = is
+      by_act Off other = absurd (other refl)
+      by_act (Declare i interval) other = new_streams e is m (declared i interval is.streams)
+      by_act (Leave i) other = new_streams e is m (left i is.streams)
+      by_act (Put i payload) other =
+          cond_both (refuses i m.core) (dropped s.id frame i e) (with_new_core e m (queues i payload m.core)) (StaysOn n d)
+          (λ lost. record { streams = is.streams; power = is.power; listening = is.listening; alarm = is.alarm; ordered = is.ordered; sending = is.sending })
+          (λ kept. new_streams e is m (put i payload is.streams))
+
+  stays_lines : (ls : List ScriptLine) (e : Device) → StaysOn n d e → ((l : ScriptLine) → Contains ls l → l.act ≢ Off)
+      → StaysOn n d (fold (after_line clock s t) e ls)
+  stays_lines [] e is none = is
+  stays_lines (l ∷ ls) e is none =
+      let on = stays l.frame e l.act (none l (contains_head l ls)) is in
+      stays_lines ls (after_line clock s t e l) on (λ k there. none k (contains_tail l ls k there))
+
+pub off_or_none : (ls : List ScriptLine) → ((l : ScriptLine) × Contains ls l × (l.act ≡ Off)) ⊎ ((l : ScriptLine) → Contains ls l → l.act ≢ Off)
+off_or_none [] = inr (λ l there. absurd (not_in_none l there))
+off_or_none (x ∷ ls) = by_act x.act refl (off_or_none ls)
+  where
+    other : (a : Act) → x.act ≡ a → a ≢ Off → ((l : ScriptLine) × Contains ls l × (l.act ≡ Off)) ⊎ ((l : ScriptLine) → Contains ls l → l.act ≢ Off)
+        → ((l : ScriptLine) × Contains (x ∷ ls) l × (l.act ≡ Off)) ⊎ ((l : ScriptLine) → Contains (x ∷ ls) l → l.act ≢ Off)
+    other a is differs rest =
+        elim rest [
+          | inl one ↦ inl (one.0, contains_tail x ls one.0 one.1, one.2)
+          | inr none ↦ inr (λ l there off. elim (contains_cases x ls l there) [
+            | inl same ↦ differs (sym is ∙ ap (λ (k : ScriptLine). k.act) same ∙ off)
+            | inr later ↦ none l later off
+          ])
+        ]
+
+    by_act : (a : Act) → x.act ≡ a → ((l : ScriptLine) × Contains ls l × (l.act ≡ Off)) ⊎ ((l : ScriptLine) → Contains ls l → l.act ≢ Off)
+        → ((l : ScriptLine) × Contains (x ∷ ls) l × (l.act ≡ Off)) ⊎ ((l : ScriptLine) → Contains (x ∷ ls) l → l.act ≢ Off)
+    by_act Off is rest = inl (x, contains_head x ls, is)
+    by_act On is rest = other On is (λ e. cc) rest
+    by_act (Declare i interval) is rest = other (Declare i interval) is (λ e. cc) rest
+    by_act (Leave i) is rest = other (Leave i) is (λ e. cc) rest
+    by_act (Put i payload) is rest = other (Put i payload) is (λ e. cc) rest
+
+pub went_off : (s : ScenarioParts) (v : ℕ) (clock : ℕ → ℕ) (t : ℕ) (d : Device) → SilentBy d d.power
+    → (l : ScriptLine) → Contains (lines_at s v t) l → l.act ≡ Off → WentOff clock (setup_of s v) t (boots_of d.power) (scripted s v clock t d)
+went_off s v clock t d silent l there off = (off_lines clock (setup_of s v) t (boots_of d.power) (lines_at s v t) d (silent, omega arith) l there off).1
+
+pub stays_on : (s : ScenarioParts) (v : ℕ) (clock : ℕ → ℕ) (t : ℕ) (d : Device) (n : Node) → d.power ≡ PowerOn n
+    → ((l : ScriptLine) → Contains (lines_at s v t) l → l.act ≢ Off) → StaysOn n d (scripted s v clock t d)
+stays_on s v clock t d n on none =
+    stays_lines clock (setup_of s v) t n d (lines_at s v t) d
+    (record { streams = n.core.streams; power = on; listening = refl; alarm = refl; ordered = refl; sending = refl }) none
+
+pub is_told : (s : ScenarioParts) (v t : ℕ) (l : ScriptLine) → Contains (lines_at s v t) l ↔ IsTold s v t l
+is_told s v t l = (
+  λ there.
+      let both = filtered now s.script l there in
+      let tests = and_parts (l.node == v) (frame_start s l.frame == t) both.1 in
+      record { there = both.0; node = eqb-true l.node v tests.0; now = eqb-true (frame_start s l.frame) t tests.1 },
+  λ told.
+      let own = eq-eqb l.node v told.node in
+      in_filtered now s.script l told.there (and_from (l.node == v) (frame_start s l.frame == t) own (eq-eqb (frame_start s l.frame) t told.now)),
+)
+  where
+    now : ScriptLine → Bool
+    now k = (k.node == v) && (frame_start s k.frame == t)

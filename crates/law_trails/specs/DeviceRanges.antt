@@ -1,0 +1,45 @@
+-- A device in its ranges: what its node keeps, what is ordered and sent, and what was sent.
+use Rattle.std.specs.Prelude.{ℕ, ◌<◌, ◌≤◌, List, All, length}
+use Rattle.std.specs.Option.{IfSome}
+use Rattle.bus_rules.specs.Cores.{Setup}
+use Rattle.air_log.specs.Devices.{Device, Power, PowerOff, PowerOn}
+use Rattle.air_log.specs.Trails.{Reception, setup_of, scripted, heard, before_alarms, before_start, before_tick}
+use Rattle.scenario_text.specs.ScenarioParts.{ScenarioParts}
+use Rattle.law_trails.specs.NodeRanges.{IsNode}
+use Rattle.law_trails.specs.SpokenRanges.{IsSpoken, IsProper}
+
+-- at most 200 boots
+abbrev pub IsPower : Setup → Power → Type 0
+IsPower s (PowerOff boots) = boots ≤ 200
+IsPower s (PowerOn n) = IsNode s n
+
+-- Q holds of each packet that is ordered, sent or was sent
+pub record IsRanged (Q : List ℕ → Type 0) (s : Setup) (d : Device) : Type 0 where
+  pub power : IsPower s d.power
+  pub ordered : IfSome d.ordered (λ o. Q o.packet)
+  pub sending : IfSome d.sending (λ x. Q x.packet)
+  pub sent : All (λ x. Q x.packet) d.made.sent
+
+-- the device of node v: its packets say what may be said, and what is of the profile
+abbrev pub IsWell : ScenarioParts → ℕ → Device → Type 0
+IsWell s v d = IsRanged (IsSpoken s.profile) (setup_of s v) d
+
+abbrev pub IsWellAndProper : ScenarioParts → ℕ → Device → Type 0
+IsWellAndProper s v d = IsRanged (IsProper s.profile) (setup_of s v) d
+
+-- H holds of each packet whose hearing ended before tick t
+abbrev pub HeardBefore : (List ℕ → Type 0) → List Reception → ℕ → Type 0
+HeardBefore H hs t = All (λ h. h.end < t → H h.packet) hs
+
+-- none of them is longer than the profile's greatest packet
+abbrev pub AreShort : ScenarioParts → List Reception → ℕ → Type 0
+AreShort s hs t = HeardBefore (λ q. length q ≤ s.profile.packet_max) hs t
+
+-- P holds of the device of v before tick t, and behind each of its phases: the script lines, the hearings, the end of
+-- the own sending, and the alarms
+pub record HoldsThrough (P : Device → Type 0) (s : ScenarioParts) (v : ℕ) (clock : ℕ → ℕ) (hs : List Reception) (t : ℕ) : Type 0 where
+  pub before : P (before_tick s v clock hs t)
+  pub told : P (scripted s v clock t (before_tick s v clock hs t))
+  pub hearing : P (heard clock (setup_of s v) t hs (scripted s v clock t (before_tick s v clock hs t)))
+  pub end : P (before_alarms s v clock hs t (before_tick s v clock hs t))
+  pub alarms : P (before_start s v clock hs t (before_tick s v clock hs t))

@@ -1,5 +1,0 @@
-use Rattle.safe_air.proofs.SafeRuns.{heedful_logs_are_safe, lawful_logs_are_safe}
-use Rattle.safe_air.proofs.safe_logs.every_lawful_log_is_safe.Goals as goal
-
-pub returns : goal.returns
-returns c = record { heedful = heedful_logs_are_safe; lawful = lawful_logs_are_safe }

@@ -1,5 +1,0 @@
-use Rattle.safe_air.proofs.FloodPackets.{one_flood_says}
-use Rattle.safe_air.proofs.slot_laws.a_slot_has_one_flood.Goals as goal
-
-pub returns : goal.returns
-returns c = one_flood_says

@@ -1,5 +1,0 @@
-use Rattle.safe_air.proofs.SentPlans.{one_planned}
-use Rattle.safe_air.proofs.slot_laws.one_plan_is_sent_for_a_round.Goals as goal
-
-pub returns : goal.returns
-returns c = one_planned

@@ -1,4 +1,0 @@
--- kept for the crates above
-pub mod HeardSlots
--- for this crate alone
-mod SayableWindows

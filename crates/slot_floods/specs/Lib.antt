@@ -1,2 +1,0 @@
-pub mod SaidInWindows
-pub mod FloodedSlots

@@ -1,3 +1,0 @@
-pub mod SlotRun
-pub mod RunLaws
-pub mod ScannerLaws

@@ -1,9 +1,0 @@
--- for this crate alone
-mod TuningTimes
-mod TimesInLogs
-mod SendingsEnded
-mod FewSendings
-mod WindowLengths
-mod WindowsNearCharge
-mod AllWindows
-mod WorkedCharges

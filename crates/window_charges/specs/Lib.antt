@@ -1,3 +1,0 @@
-pub mod RadioTimes
-pub mod ChargeLaws
-pub mod WorkedCharges
