@@ -2,7 +2,8 @@
 use Rattle.std.proofs.Common.{◌≡◌, ap, ◌∙◌, sym}
 use Rattle.scenario_text.specs.ScenarioParts.{ScenarioParts}
 use Rattle.bus_model.specs.Bus.{bus_deliveries, bus_drops}
-use Rattle.lwb_world.specs.Worlds.{WorldState, IsLeftByRun}
+use Rattle.world_engine.specs.Worlds.{WorldState}
+use Rattle.lwb_world.specs.Worlds.{IsLeftByRun}
 
 pub delivered : (w : WorldState) → IsLeftByRun w → w.deliveries ≡ bus_deliveries w.scenario
 delivered w (clocks, old, has) = has.run.deliveries ∙ has.run.bus.delivered ∙ ap (λ (s : ScenarioParts). bus_deliveries s) (sym has.scenario)

@@ -1,45 +1,8 @@
--- A world as its callers see it.
-use Rattle.std.specs.Prelude.{◌≡◌, ℕ, List, [], ◌∷◌, Bool, ◌==◌, if◌then◌else◌, Some, None, map, false, true}
-use Rattle.std.specs.declared.option.Option.{Option}
-use Rattle.scenario_text.specs.ScenarioParts.{ScenarioParts}
-use Rattle.scenario_text.specs.declared.lines.NodeLine.{NodeLine}
-use Rattle.bus_rules.specs.declared.delivery.Delivery.{Delivery}
-use Rattle.bus_rules.specs.declared.delivery.DropLine.{DropLine}
-use Rattle.node_core.specs.Nodes.{NodeState, rebooted}
-use Rattle.air_log.specs.declared.entry.Entry.{Entry}
-use Rattle.air_log.specs.declared.charge.NodeCharge.{NodeCharge}
+-- A run of a world as its callers see it.
+use Rattle.std.specs.Prelude.{◌≡◌, ℕ, map, true}
 use Rattle.air_log.specs.NodeCharges.{charges_in}
-use Rattle.air_log.specs.Trails.{setup_of}
+use Rattle.world_engine.specs.Worlds.{WorldState, core_of, core_id, line_id}
 use Rattle.lwb_world.specs.Runs.{IsRun}
-
--- ran: the run was begun; charges and cores: those of the nodes by ascending ids
-pub record WorldState : Type 0 where
-  pub scenario : ScenarioParts
-  pub ran : Bool
-  pub air : List Entry
-  pub deliveries : List Delivery
-  pub drops : List DropLine
-  pub charges : List NodeCharge
-  pub cores : List NodeState
-
--- the core of a node, if it is one of the scenario
-abbrev pub core_of : List NodeState → ℕ → Option NodeState
-core_of [] v = None
-core_of (c ∷ cs) v = if c.setup.id == v then Some c else core_of cs v
-
-abbrev pub core_id : NodeState → ℕ
-core_id c = c.setup.id
-
-abbrev pub line_id : NodeLine → ℕ
-line_id n = n.node
-
--- a core as it is made
-abbrev pub new_core : ScenarioParts → NodeLine → NodeState
-new_core s n = record { setup = setup_of s n.node; node = rebooted 1; delivery = None }
-
--- nothing has happened yet
-abbrev pub new_world : ScenarioParts → WorldState
-new_world s = record { scenario = s; ran = false; air = []; deliveries = []; drops = []; charges = []; cores = map (new_core s) s.nodes }
 
 -- what a run has left, over these clocks
 pub record HasRun (clocks : ℕ → ℕ → ℕ) (old new : WorldState) : Type 0 where

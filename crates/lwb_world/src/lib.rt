@@ -1,14 +1,6 @@
-//! The run of a scenario: its nodes over one radio medium in true time, each with a clock of its own.
+//! The run of a scenario, and that it is the single-hop bus's: the engine, with what follows from a lawful log.
 #![tactic(auto)]
 
-mod deliveries;
-mod event_radio;
-mod field;
-mod field_bounds;
-mod field_counts;
-mod field_ends;
-mod field_script;
-mod frames;
 mod world;
 
 pub use lwb_flood::{flood, flood_air};

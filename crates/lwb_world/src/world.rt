@@ -4,10 +4,10 @@ ghost use Rattle.std.specs.Prelude.{◌≡◌, false, IfOk, OnOk, length, replic
 ghost use Rattle.bus_model.specs.Bus.{bus_deliveries, bus_drops};
 ghost use Rattle.event_calendar.specs.Orders.{nothing_due};
 ghost use Rattle.air_log.specs.ClockLists.{clocks_by};
-ghost use Rattle.lwb_world.specs.Runs.{orders_left};
-ghost use Rattle.lwb_world.specs.Worlds.{new_world, core_of, HasRun, IsLeftByRun};
+ghost use Rattle.world_engine.specs.Runs.{orders_left};
+ghost use Rattle.world_engine.specs.Worlds.{new_world, core_of};
+ghost use Rattle.lwb_world.specs.Worlds.{HasRun, IsLeftByRun};
 
-use crate::field::Field;
 use air_log::{Air, NodeCharge};
 use bus_rules::{Delivery, DropLine};
 use event_calendar::{Calendar, Orders};
@@ -17,41 +17,22 @@ use scenario_text::Scenario;
 use std::alloc::Global;
 use std::marker::Model;
 use tick_clock::DriftClock;
+use world_engine::Engine;
 
 /// The nodes of a scenario over one radio medium in true time: a node core, a radio and a drifting clock each. Contracts
 /// see what the run has left, and the clocks by ascending ids of the nodes.
 #[derive(Drop)]
 pub struct World<'a, C: DriftClock> {
-    pub(crate) scenario: &'a Scenario,
-    pub(crate) clocks: Vec<C>,
-    pub(crate) ran: bool,
-    pub(crate) field: Field,
-    pub(crate) deliveries: Vec<Delivery>,
-    pub(crate) charges: Vec<NodeCharge>,
+    engine: Engine<'a, C>,
 }
 
 impl<'a, C: DriftClock> Model for World<'a, C> {
-    ghost use Rattle.std.specs.Prelude.{List, ◌≡◌, length, map};
-    ghost use Rattle.lwb_world.specs.Worlds.{WorldState};
-    ghost use Rattle.lwb_world.specs.WorldShapes.{IsWorld};
-    ghost use Rattle.air_log.specs.DeviceStates.{core_in};
+    ghost use Rattle.std.specs.Prelude.{List};
+    ghost use Rattle.world_engine.specs.Worlds.{WorldState};
 
     ghost Value = { WorldState × List C };
 
-    ghost view = { λ w. (
-      record {
-        scenario = w.scenario.now;
-        ran = w.ran;
-        air = w.field.air;
-        deliveries = w.deliveries.items;
-        drops = w.field.drops;
-        charges = w.charges.items;
-        cores = map core_in w.field.devices;
-      },
-      w.clocks.items,
-    ) };
-
-    ghost invariant = { λ w. IsWorld w.scenario.now w.ran w.field w.deliveries.items (length w.clocks.items) };
+    ghost view = { λ w. w.engine };
 }
 
 impl<'a, C: DriftClock> World<'a, C> {
@@ -62,12 +43,7 @@ impl<'a, C: DriftClock> World<'a, C> {
         ensures { IfOk result (λ w. w ≡ (new_world s.now, clocks.items)) }
     {
         Ok(World {
-            scenario: s,
-            clocks,
-            ran: false,
-            field: Field::new(alloc, s)?,
-            deliveries: Vec::new(alloc),
-            charges: Vec::new(alloc),
+            engine: Engine::new(alloc, s, clocks)?,
         })
     }
 
@@ -78,7 +54,7 @@ impl<'a, C: DriftClock> World<'a, C> {
         ensures run { OnOk result (HasRun (clocks_by C.readings self.old.0.scenario.nodes self.old.1) self.old.0 self.new.0) }
         ensures clocks { OnOk result (self.new.1 ≡ self.old.1) }
     {
-        let mut calendar = Calendar::new(alloc, self.field.places())?;
+        let mut calendar = Calendar::new(alloc, self.engine.places())?;
         self.run_with(alloc, &mut calendar)
     }
 
@@ -93,24 +69,14 @@ impl<'a, C: DriftClock> World<'a, C> {
         ensures left { OnOk result
             (Q.map orders.new ≡ orders_left self.old.0.scenario (clocks_by C.readings self.old.0.scenario.nodes self.old.1) self.new.0.air) }
     {
-        let profile = self.scenario.profile();
-        self.ran = true;
-        let clocks = self.clocks.as_slice();
-        let scanned = self.field.frames(alloc, orders, self.scenario, clocks)?;
-        let end = u64::from(self.scenario.frames()) * profile.frame();
-        self.field.close(end)?;
-        let deliveries = self.field.take_deliveries(alloc)?;
-        self.deliveries = deliveries;
-        let charges = self.field.charges(alloc, scanned.as_slice())?;
-        self.charges = charges;
-        Ok(())
+        self.engine.run_with(alloc, orders)
     }
 
     /// The log of the run. It is empty before the run.
     pub fn air(&self) -> &Air
         ensures { result.now ≡ self.now.0.air }
     {
-        &self.field.air
+        self.engine.air()
     }
 
     /// What the nodes delivered, by frame, rank, slot and node: after a run that ended with Ok what the single-hop bus
@@ -119,7 +85,7 @@ impl<'a, C: DriftClock> World<'a, C> {
         ensures value { result.now ≡ self.now.0.deliveries }
         ensures bus { IsLeftByRun self.now.0 → result.now ≡ bus_deliveries self.now.0.scenario }
     {
-        &self.deliveries
+        self.engine.deliveries()
     }
 
     /// The packets that were lost before they were queued, in the order of the text: after a run that ended with Ok those of
@@ -128,33 +94,28 @@ impl<'a, C: DriftClock> World<'a, C> {
         ensures value { result.now ≡ self.now.0.drops }
         ensures bus { IsLeftByRun self.now.0 → result.now ≡ bus_drops self.now.0.scenario }
     {
-        &self.field.drops
+        self.engine.drops()
     }
 
     /// What the windows of each node count and in how many frames it scans, by ascending ids. There are none before the run.
     pub fn charges(&self) -> &[NodeCharge]
         ensures { result.now ≡ self.now.0.charges }
     {
-        &self.charges
+        self.engine.charges()
     }
 
     /// The core that the world drives for a node. None comes exactly for a node that is not in the scenario.
     pub fn node(&self, node: NodeId) -> Option<&Node>
         ensures { option_copied result ≡ core_of self.now.0.cores node }
     {
-        for device in &self.field.devices {
-            if device.node() == node {
-                return Some(device.core());
-            }
-        }
-        None
+        self.engine.node(node)
     }
 
     /// The log of the run, and nothing else of the world.
     pub fn into_air(self) -> Air
         ensures { result ≡ self.entry.0.air }
     {
-        let field = self.field;
-        field.into_air()
+        let engine = self.engine;
+        engine.into_air()
     }
 }

@@ -12,7 +12,8 @@ use Rattle.node_core.specs.Nodes.{NodeState}
 use Rattle.air_log.specs.declared.entry.Entry.{Entry}
 use Rattle.air_log.specs.NodeCharges.{charges_in}
 use Rattle.lwb_world.specs.Runs.{IsRun}
-use Rattle.lwb_world.specs.Worlds.{WorldState, new_world, core_of, HasRun}
+use Rattle.lwb_world.specs.Worlds.{HasRun}
+use Rattle.world_engine.specs.Worlds.{WorldState, new_world, core_of}
 
 -- a run over clocks is one over any that read the same
 same_run : (s : ScenarioParts) (clocks others : ℕ → ℕ → ℕ) (air : List Entry) (made : List Delivery) (lost : List DropLine)

@@ -4,7 +4,7 @@ ghost use Rattle.scenario_clocks.specs.ClockLists.{clocks_by};
 ghost use Rattle.scenario_clocks.specs.StatedClocks.{scenario_clock};
 ghost use Rattle.air_log.specs.NodeCharges.{charges_in};
 ghost use Rattle.lwb_world.specs.Runs.{IsRun};
-ghost use Rattle.lwb_world.specs.Worlds.{new_world, core_of};
+ghost use Rattle.world_engine.specs.Worlds.{new_world, core_of};
 ghost use Rattle.replay_tool.specs.Answers.{Answers};
 ghost use Rattle.replay_tool.specs.declared.command.Command.TheVariants as asked;
 

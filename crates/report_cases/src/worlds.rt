@@ -1,7 +1,7 @@
 //! Scenarios, and their worlds over the clocks that they state.
 
 ghost use Rattle.std.specs.Prelude.{◌≡◌, IfOk};
-ghost use Rattle.lwb_world.specs.Worlds.{new_world};
+ghost use Rattle.world_engine.specs.Worlds.{new_world};
 
 use crate::calls::joined;
 use lwb_base::{INPUT_LIMIT, Memory};

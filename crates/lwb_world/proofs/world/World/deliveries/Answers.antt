@@ -1,5 +1,5 @@
 use Rattle.std.proofs.Common.{◌≡◌, ap, ◌∙◌, List}
-use Rattle.lwb_world.specs.Worlds.{WorldState}
+use Rattle.world_engine.specs.Worlds.{WorldState}
 use Rattle.lwb_world.proofs.ListsOfTheBus.{delivered}
 use Rattle.lwb_world.proofs.world.World.deliveries.Goals as goal
 
@@ -7,5 +7,5 @@ pub returns-clause-bus : goal.returns-clause-bus
 returns-clause-bus g c =
     λ left.
     let w = c.args.self.now.0 in
-    let is : c.deref.result.now ≡ w.deliveries = c.deref.ensures.value ∙ ap (λ (v : WorldState × List g.row.C.Denot). v.0.deliveries) c.self.view_is in
+    let is : c.deliveries.result.now ≡ w.deliveries = c.deliveries.ensures ∙ ap (λ (v : WorldState × List g.row.C.Denot). v.0.deliveries) c.self.view_is in
     is ∙ delivered w left

@@ -1,4 +1,5 @@
-use Rattle.std.proofs.Common.{◌≡◌, ◌∙◌, rules}
+use Rattle.std.proofs.Common.{◌≡◌, ap, ◌∙◌, List}
+use Rattle.world_engine.specs.Worlds.{WorldState}
 use Rattle.lwb_world.proofs.ListsOfTheBus.{dropped}
 use Rattle.lwb_world.proofs.world.World.drops.Goals as goal
 
@@ -6,5 +7,5 @@ pub returns-clause-bus : goal.returns-clause-bus
 returns-clause-bus g c =
     λ left.
     let w = c.args.self.now.0 in
-    let is : c.deref.result.now ≡ w.drops = search rules in
+    let is : c.drops.result.now ≡ w.drops = c.drops.ensures ∙ ap (λ (v : WorldState × List g.row.C.Denot). v.0.drops) c.self.view_is in
     is ∙ dropped w left

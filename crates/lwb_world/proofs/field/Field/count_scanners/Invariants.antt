@@ -1,5 +1,0 @@
-use Rattle.lwb_world.proofs.CountedPlaces.{IsCountedUpto}
-use Rattle.lwb_world.proofs.field.Field.count_scanners.Given as goal
-
-abbrev pub invariant-loop-place : goal.invariant-loop-place
-invariant-loop-place l = IsCountedUpto l.self.devices l.place l.fn.scanned.items l.scanned.items

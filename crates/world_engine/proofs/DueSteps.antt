@@ -1,0 +1,161 @@
+-- The step that is due next: what the field asks for, and what holds after it.
+use Rattle.std.proofs.Common.{◌≡◌, ℕ, ◌<◌, ◌≤◌, ◌^◌, List, [], length, Some, refl, sym, subst, ◌∙◌, arith}
+use Rattle.std.specs.Prelude.{slice_get}
+use Rattle.link_trace.specs.Passes.{Lines}
+use Rattle.link_trace.specs.Sealed.{Traced}
+use Rattle.scenario_text.specs.FloodParts.{IsSealed}
+use Rattle.scenario_text.specs.ScenarioParts.{ScenarioParts}
+use Rattle.scenario_text.specs.ScenarioFacts.{IsSoundScenario}
+use Rattle.scenario_text.specs.declared.lines.NodeLine.{NodeLine}
+use Rattle.scenario_text.specs.declared.script.ScriptLine.{ScriptLine}
+use Rattle.radio_model.specs.declared.sending.Sending.{Sending}
+use Rattle.radio_model.specs.Hearing.{Scene}
+use Rattle.radio_model.specs.Holding.{Holds}
+use Rattle.radio_model.specs.Stations.{Ends, nodes_of}
+use Rattle.event_calendar.specs.declared.class.Class.{Class}
+use Rattle.event_calendar.specs.declared.class.Class.TheVariants.{SendingEnd, Alarm, SendingStart}
+use Rattle.event_calendar.specs.Orders.{Due, IsNext}
+use Rattle.tick_clock.specs.Clocks.{IsClock}
+use Rattle.bus_rules.specs.Cores.{Setup}
+use Rattle.air_log.specs.Devices.{Device}
+use Rattle.air_log.specs.AlarmRuns.{IsAlarmRun}
+use Rattle.air_log.specs.Trails.{run_end, alarmed, begun, starting}
+use Rattle.air_log.proofs.AlarmLoop.{early_in_run}
+use Rattle.air_log.specs.ClockLists.{clocks_by}
+use Rattle.world_engine.specs.Fields.{FieldState, Shows, IsShown}
+use Rattle.world_engine.specs.FieldSteps.{Acts, EndsSending, Sends, readings_at}
+use Rattle.world_engine.specs.Counting.{TrailsStay}
+use Rattle.world_engine.specs.Frames.{IsPast}
+use Rattle.world_engine.specs.Moments.{At}
+use Rattle.world_engine.specs.Running.{IsRunning}
+use Rattle.world_engine.proofs.AlarmsAtPlaces.{alarms_end}
+use Rattle.world_engine.proofs.ClocksAtPlaces.{all_drift, own_clock, clocks_at_places}
+use Rattle.world_engine.proofs.CountedScans.{acts_stay, end_stays}
+use Rattle.world_engine.proofs.HeardAtEnds.{not_own, heard_at_end}
+use Rattle.world_engine.proofs.KnownAtPlaces.{shown_within, sends_at, ends_at_place}
+use Rattle.world_engine.proofs.PastOrders.{past, later_places, were_at, were_at_end, alarm_gone, start_gone}
+use Rattle.world_engine.proofs.PlacedNodes.{node_of_place, as_many_devices, at_place}
+use Rattle.world_engine.proofs.RunPlaces.{place_of_order, sealed}
+use Rattle.world_engine.proofs.StepsGoOn.{end_goes_on, alarm_goes_on, begin_goes_on}
+use Rattle.world_engine.proofs.TrailsGoOn.{AreClocks}
+
+module _ {C : Type 0} (R : C → ℕ → ℕ) (law : (c : C) → IsClock (R c)) (s : ScenarioParts) (sound : IsSoundScenario s) (cs : List C)
+    (count : length cs ≡ length s.nodes)
+    (t p : ℕ) (within : t < run_end s) (class : Class) (old : FieldState) (old_due : List Due) (next : IsNext old_due (Some (t, class, p))) where
+  abbrev pub clocks : ℕ → ℕ → ℕ
+  clocks = clocks_by R s.nodes cs
+
+  abbrev pub Runs : List ScriptLine → FieldState → List Due → Type 0
+  Runs told w due = IsRunning s clocks told t (At class) w due
+
+  pub drifts : AreClocks clocks
+  drifts = all_drift R law s.nodes cs
+
+  pub early : t ≤ 2 ^ 45
+  early = early_in_run s t sound (omega (arith, within))
+
+  module _ (told : List ScriptLine) (run : Runs told old old_due) where
+    pub inside : p < length old.devices
+    inside = place_of_order s old old_due run.places p class t next.0
+
+    pub in_clocks : p < length cs
+    in_clocks = let long = as_many_devices s old old_due run.places in omega (arith, inside, long, count)
+
+    node : (n : NodeLine) × (slice_get s.nodes p ≡ Some n)
+    node = node_of_place s old old_due run.places p inside
+
+    pub shown : (q : ℕ) → q < length old.devices → IsShown t old old_due q
+    shown = shown_within s clocks t (At class) old old_due run.places run.trails
+
+    pub trace_sealed : (trace : Traced) → IsSealed trace s.nodes → trace.nodes ≡ nodes_of old.medium
+    trace_sealed = sealed s old old_due run.places
+
+    pub held : (lines : Lines) → lines ≡ s.trace → (a : Scene) × Holds old.medium a × (a.lines ≡ lines)
+    held lines is = (run.air.scene, run.air.holds.held, run.air.holds.lines ∙ sym is)
+
+    few : p < 64
+    few = let long = as_many_devices s old old_due run.places in omega (arith, inside, long, sound.few_nodes)
+
+    -- the end of a sending
+    module _ (is_end : class ≡ SendingEnd) where
+      run_end_of : IsRunning s clocks told t (At SendingEnd) old old_due
+      run_end_of = subst (λ (k : Class). IsRunning s clocks told t (At k) old old_due) is_end run
+
+      next_end : IsNext old_due (Some (t, SendingEnd, p))
+      next_end = subst (λ (k : Class). IsNext old_due (Some (t, k, p))) is_end next
+
+      pub sending : (x : Sending) × (x.end ≡ t) × Sends t old old_due p x
+      sending = sends_at s clocks t (At SendingEnd) old old_due run.places run_end_of.trails p node.0 node.1 next_end.0
+
+      pub ends : (x : Setup) (d : Device) → Shows x t old old_due p d → Ends old.medium x.id t
+      ends = ends_at_place t old old_due p run.air.scene run.air.holds.held sending.0 sending.1 sending.2
+
+      pub end_done : (lines : Lines) → lines ≡ s.trace → (new : FieldState) (new_due : List Due)
+          → ((x : Sending) → Sends t old old_due p x → (hearers : List ℕ) × EndsSending lines (readings_at R cs) t p x hearers old old_due new new_due)
+          → IsRunning s clocks told t (At SendingEnd) new new_due × IsPast t SendingEnd p new_due × TrailsStay s clocks t old.air new.air
+      end_done lines by_trace new new_due done =
+          let x = sending.0 in
+          let all = done x sending.2 in
+          let air = run_end_of.air in
+          let after = end_goes_on s clocks sound told t p node.0 node.1 old old_due new new_due lines by_trace (readings_at R cs)
+          (clocks_at_places R s sound cs count) x sending.1 sending.2 next_end all.0 all.1 run_end_of in
+          let deaf = not_own s clocks sound lines by_trace
+          (readings_at R cs) t p x sending.1 all.0 old old_due new new_due all.1 run_end_of.places run_end_of.trails sending.2 node.0 node.1
+          air.scene air.holds _ air.has in (
+            after,
+            past s clocks sound drifts told t within SendingEnd p few new new_due after
+                (later_places t SendingEnd p old_due new_due next_end
+                (were_at_end s clocks told t p SendingEnd old old_due new new_due run_end_of after lines (readings_at R cs) x all.0 all.1 deaf refl)),
+            end_stays s clocks t x all.0 old.air new.air sending.1
+                (heard_at_end s clocks sound lines by_trace
+                (readings_at R cs) t p x sending.1 all.0 old old_due new new_due all.1 run_end_of.places run_end_of.trails sending.2 node.0 node.1
+                air.scene air.holds _ air.has),
+          )
+
+    -- alarms
+    module _ (is_alarm : class ≡ Alarm) (c : C) (clock : slice_get cs p ≡ Some c) where
+      run_alarm_of : IsRunning s clocks told t (At Alarm) old old_due
+      run_alarm_of = subst (λ (k : Class). IsRunning s clocks told t (At k) old old_due) is_alarm run
+
+      next_alarm : IsNext old_due (Some (t, Alarm, p))
+      next_alarm = subst (λ (k : Class). IsNext old_due (Some (t, k, p))) is_alarm next
+
+      pub alarms_over : (x : Setup) (d : Device) → Shows x t old old_due p d → IsAlarmRun (R c) x t d (alarmed (R c) x t d)
+      alarms_over = alarms_end s clocks t p (R c) (own_clock R s sound cs count p c clock) old old_due sound drifts within run.places run_alarm_of.trails
+
+      pub alarm_done : (new : FieldState) (new_due : List Due) → Acts t p (λ x d. alarmed (R c) x t d) [] [] old old_due new new_due
+          → IsRunning s clocks told t (At Alarm) new new_due × IsPast t Alarm p new_due × TrailsStay s clocks t old.air new.air
+      alarm_done new new_due acts =
+          let after = alarm_goes_on s clocks sound told t p node.0 node.1 old old_due new new_due drifts within (R c)
+          (own_clock R s sound cs count p c clock) acts run_alarm_of in (
+            after,
+            past s clocks sound drifts told t within Alarm p few new new_due after
+                (later_places t Alarm p old_due new_due next_alarm
+                (were_at s clocks told t p Alarm old old_due new new_due run_alarm_of after (λ x d. alarmed (R c) x t d) [] [] acts
+                (λ x d shows. alarm_gone (R c) x t d (alarms_over x d shows)))),
+            acts_stay s clocks t p (λ x d. alarmed (R c) x t d) [] [] old old_due new new_due acts,
+          )
+
+    -- a start
+    module _ (is_start : class ≡ SendingStart) where
+      run_start_of : IsRunning s clocks told t (At SendingStart) old old_due
+      run_start_of = subst (λ (k : Class). IsRunning s clocks told t (At k) old old_due) is_start run
+
+      next_start : IsNext old_due (Some (t, SendingStart, p))
+      next_start = subst (λ (k : Class). IsNext old_due (Some (t, k, p))) is_start next
+
+      pub start_done : (new : FieldState) (new_due : List Due)
+          → (starts : List Sending) × Acts t p (λ x d. begun x t d) starts [] old old_due new new_due
+          × ((x : Setup) (d : Device) → Shows x t old old_due p d → starts ≡ starting x t d)
+          → IsRunning s clocks told t (At SendingStart) new new_due × IsPast t SendingStart p new_due × TrailsStay s clocks t old.air new.air
+      start_done new new_due all =
+          let c = at_place cs p in_clocks in
+          let after = begin_goes_on s clocks sound told t p node.0 node.1 old old_due new new_due drifts within (R c.0)
+          (own_clock R s sound cs count p c.0 c.1) all.0 all.1 all.2 run_start_of in (
+            after,
+            past s clocks sound drifts told t within SendingStart p few new new_due after
+                (later_places t SendingStart p old_due new_due next_start
+                (were_at s clocks told t p SendingStart old old_due new new_due run_start_of after (λ x d. begun x t d) all.0 [] all.1
+                (λ x d shows. start_gone x t d))),
+            acts_stay s clocks t p (λ x d. begun x t d) all.0 [] old old_due new new_due all.1,
+          )

@@ -1,0 +1,141 @@
+-- The end of a sending, as code comes to it: from indices into the devices, and from what each call leaves.
+use Rattle.std.proofs.Common.{◌≡◌, ℕ, ◌<◌, ◌↔◌, List, set, get_or, length, Option, Some, None, is_some, if◌then◌else◌, refl, sym, ◌∙◌, ap, subst}
+use Rattle.std.proofs.Common.{arith, Contains, ◌==◌, eq-eqb}
+use Rattle.std.specs.Prelude.{All, AllPairs, slice_get}
+use Rattle.std.proofs.lemmas.Bool.{cond-true}
+use Rattle.std.proofs.lemmas.Option.{slice_get_read}
+use Rattle.link_trace.specs.Passes.{Lines}
+use Rattle.radio_model.specs.declared.sending.Sending.{Sending}
+use Rattle.radio_model.specs.Hearing.{Scene, Hears}
+use Rattle.radio_model.specs.Holding.{Holds, as_it_stands}
+use Rattle.radio_model.specs.Stations.{MediumState, IsTime, Ends, station_of, sending_of, nodes_of, finished, after}
+use Rattle.event_calendar.specs.Orders.{Due, changed}
+use Rattle.event_calendar.specs.declared.class.Class.TheVariants.{SendingEnd}
+use Rattle.bus_rules.specs.Cores.{Setup}
+use Rattle.air_log.specs.Devices.{Device}
+use Rattle.air_log.specs.DeviceStates.{DeviceState, ending_at}
+use Rattle.world_engine.specs.Fields.{FieldState, IsField, Shows, IsShown}
+use Rattle.world_engine.specs.FieldSteps.{EndsSending, Sends}
+use Rattle.world_engine.proofs.ShownPlaces.{shown_as}
+use Rattle.world_engine.proofs.EndedSendings.{IsEnding, over, over_is_field, one_sending, sends_only, set_there}
+use Rattle.world_engine.proofs.EndsOfSendings.{HasEnded}
+
+-- one device stands at a place
+one_there : (ds : List DeviceState) (p : ℕ) (a b : DeviceState) → slice_get ds p ≡ Some a → slice_get ds p ≡ Some b → a ≡ b
+one_there ds p a b at_a at_b = of_some (sym at_a ∙ at_b)
+  where
+    of_some : (let o : Option DeviceState = Some a in o ≡ Some b) → a ≡ b
+    of_some is = cc
+
+-- the device says that its sending ends
+says_end : (t : ℕ) (sending r : Option Sending) (x : Sending) → sending ≡ Some x → x.end ≡ t → r ≡ ending_at t sending → r ≡ Some x
+says_end t sending r x runs until is = is ∙ ap (ending_at t) runs ∙ cond-true (x.end == t) (Some x) None (eq-eqb x.end t until)
+
+-- the field with another medium and another device
+abbrev changed_field : FieldState → MediumState → List DeviceState → FieldState
+changed_field w medium devices = record {
+  medium = medium;
+  devices = devices;
+  air = w.air;
+  deliveries = w.deliveries;
+  drops = w.drops;
+  sums = w.sums;
+}
+
+as_over : (t i p u : ℕ) (w : FieldState) (m : MediumState) (st new : DeviceState) → i ≡ p → u ≡ st.setup.id → m ≡ after t u finished w.medium
+    → new ≡ record st { sending = None } → changed_field w m (set w.devices i new) ≡ over t p st w
+as_over t i p u w m st new place node medium device =
+    ap (λ (k : MediumState). changed_field w k (set w.devices i new)) (medium ∙ ap (λ (v : ℕ). after t v finished w.medium) node)
+    ∙ ap (λ (l : List DeviceState). changed_field w (after t st.setup.id finished w.medium) l)
+    (ap (λ (k : ℕ). set w.devices k new) place ∙ ap (set w.devices p) device)
+
+-- the same of the field that is given, and of any sending that it is asked of
+pub as_asked : {lines : Lines} {clocks : ℕ → ℕ → ℕ} {t p : ℕ} {x y : Sending} {hearers : List ℕ} {w given new : FieldState} {due new_due : List Due}
+    → w ≡ given → x ≡ y → EndsSending lines clocks t p x hearers w due new new_due → EndsSending lines clocks t p y hearers given due new new_due
+as_asked {lines} {clocks} {t} {p} {x} {y} {hearers} {w} {given} {new} {due} {new_due} seen is ends =
+    subst (λ (v : FieldState). EndsSending lines clocks t p y hearers v due new new_due) seen
+    (subst (λ (z : Sending). EndsSending lines clocks t p z hearers w due new new_due) is ends)
+
+-- what is asked of the call
+module _ {t p : ℕ} {w given : FieldState} {due : List Due} (seen : w ≡ given) (field : IsField w) (within : p < length given.devices)
+    (shown : (q : ℕ) → q < length given.devices → IsShown t given due q) (time : IsTime given.medium t)
+    (ends : (s : Setup) (d : Device) → Shows s t given due p d → Ends given.medium s.id t) where
+  -- of a device that is read at the place
+  is_ending : (i : ℕ) (st : DeviceState) → i ≡ p → st ≡ get_or w.devices i st → (x : Sending) × IsEnding t p w due st x
+  is_ending i st place is =
+      let back : (q : ℕ) → q < length w.devices → IsShown t w due q =
+      subst (λ (v : FieldState). (q : ℕ) → q < length v.devices → IsShown t v due q) (sym seen) shown in
+      let below : p < length w.devices = subst (λ (v : FieldState). p < length v.devices) (sym seen) within in
+      let there : slice_get w.devices p ≡ Some st = subst (λ (k : ℕ). slice_get w.devices k ≡ Some st) place
+      (slice_get_read w.devices (length w.devices) i st refl (omega (arith, below, place)) is) in
+      let at = back p below in
+      let sh = shown_as at.setup t w due p at.device st there at.shows in
+      let own : Ends w.medium st.setup.id t =
+      subst (λ (u : Setup). Ends w.medium u.id t) (sym sh.setup)
+      ((subst (λ (v : FieldState). (s : Setup) (d : Device) → Shows s t v due p d → Ends v.medium s.id t) (sym seen) ends) at.setup at.device at.shows) in (
+        own.sending,
+        record {
+          field = field;
+          here = there;
+          shown = back;
+          time = subst (λ (v : FieldState). IsTime v.medium t) (sym seen) time;
+          ends = own;
+          own = own.runs;
+          runs = sym sh.known.sending ∙ ap sending_of (sym sh.known.there) ∙ own.runs;
+          until = own.until;
+        },
+      )
+
+  -- the medium is told of the device's node
+  pub node_ends : {i u : ℕ} {st : DeviceState} → i ≡ p → st ≡ get_or w.devices i st → u ≡ st.setup.id → Ends w.medium u t
+  node_ends {i} {u} {st} place is node = subst (λ (v : ℕ). Ends w.medium v t) (sym node) (is_ending i st place is).1.ends
+
+  -- the queue has its place
+  pub place_due : {i : ℕ} {st : DeviceState} → i ≡ p → st ≡ get_or w.devices i st → p < length due
+  place_due {i} {st} place is = let e = is_ending i st place is in set_there t p w due st e.0 e.1
+
+  -- some sending ends at the device
+  pub some_ends : {i : ℕ} {st : DeviceState} {r : Option Sending} → i ≡ p → st ≡ get_or w.devices i st → r ≡ ending_at t st.sending
+      → (x : Sending) × (r ≡ Some x)
+  some_ends {i} {st} {r} place is ended = let e = is_ending i st place is in (e.0, says_end t st.sending r e.0 e.1.runs e.1.until ended)
+
+  -- the device is read for its node, and once more for its end
+  module _ {u i j : ℕ} {first st new : DeviceState} {r : Option Sending} {x : Sending} {m : MediumState} (place_i : i ≡ p)
+      (is_first : first ≡ get_or w.devices i first) (node : u ≡ first.setup.id) (place_j : j ≡ p) (is : st ≡ get_or w.devices j st)
+      (ended : r ≡ ending_at t st.sending) (silent : new ≡ record st { sending = if is_some r then None else st.sending }) (some : r ≡ Some x)
+      (medium : m ≡ after t u finished w.medium) where
+    node_of : u ≡ st.setup.id
+    node_of = node ∙ ap (λ (d : DeviceState). d.setup.id)
+        (one_there w.devices p first st (is_ending i first place_i is_first).1.here (is_ending j st place_j is).1.here)
+
+    ending : IsEnding t p w due st x
+    ending =
+        let e = is_ending j st place_j is in
+        subst (λ (y : Sending). IsEnding t p w due st y)
+        (one_sending r e.0 x (says_end t st.sending r e.0 e.1.runs e.1.until ended) some) e.1
+
+    is_over : changed_field w m (set w.devices j new) ≡ over t p st w
+    is_over = as_over t j p u w m st new place_j node_of medium
+        (silent ∙ ap (λ (o : Option Sending). record st { sending = if is_some o then None else st.sending }) some)
+
+    pub ended_field : IsField (changed_field w m (set w.devices j new))
+    ended_field = subst IsField (sym is_over) (over_is_field t p w due st x ending)
+
+    -- whatever trail the device is of, it sends x
+    pub sends_that : (y : Sending) → Sends t given due p y → x ≡ y
+    sends_that y sends = sym (sends_only t p w due st x ending y (subst (λ (v : FieldState). Sends t v due p y) (sym seen) sends))
+
+    pub has_ended : {lines : Lines} {ps : List (ℕ × ℕ)} {mid_due : List Due} → All (λ r. r.1 ≡ u) ps → AllPairs (λ r s. r.0 < s.0) ps
+        → ((a : Scene) (y : Sending) → Holds w.medium a → a.lines ≡ lines → sending_of (station_of w.medium u) ≡ Some y → (v : ℕ)
+        → Contains ps (v, u) ↔ (Contains (nodes_of w.medium) v × Hears (as_it_stands w.medium t a) v y))
+        → mid_due ≡ changed due p SendingEnd None → ((a : Scene) → Holds w.medium a → Holds m a)
+        → HasEnded lines t p u w due st x ps (changed_field w m (set w.devices j new)) mid_due
+    has_ended sender ascending hearers is_due keeps =
+        let own : sending_of (station_of w.medium u) ≡ Some x = ap (λ (n : ℕ). sending_of (station_of w.medium n)) node_of ∙ ending.own in
+        record {
+          ending = ending;
+          hearers = record { sender = sender; ascending = ascending; hear = λ a held same. hearers a x held same own };
+          is_over = is_over;
+          is_due = is_due;
+          keeps = keeps;
+        }

@@ -1,0 +1,129 @@
+-- A field after the ordered sending of a device has not started.
+use Rattle.std.proofs.Common.{◌≡◌, ℕ, ◌<◌, List, [], set, length, Option, Some, None, refl, sym, ◌∙◌, ap, inl}
+use Rattle.std.specs.Prelude.{slice_get}
+use Rattle.std.specs.Option.{option_map}
+use Rattle.std.proofs.lemmas.List.{append-nil, length-set}
+use Rattle.std.proofs.lemmas.Option.{slice_get_within, get_or_from_slice_get}
+use Rattle.radio_model.specs.declared.sending.Sending.{Sending}
+use Rattle.radio_model.specs.Stations.{IsTime, station_of}
+use Rattle.radio_model.proofs.Agreement.{agree_same}
+use Rattle.event_calendar.specs.Orders.{Due, at, changed, due_at, with_tick, nothing_due}
+use Rattle.event_calendar.specs.declared.class.Class.{Class}
+use Rattle.event_calendar.specs.declared.class.Class.TheVariants.{SendingStart}
+use Rattle.bus_rules.specs.Cores.{Setup}
+use Rattle.air_log.specs.Devices.{Device, Ordered, Made, nothing_made}
+use Rattle.air_log.specs.Trails.{begun, starting}
+use Rattle.air_log.specs.Entries.{sendings_of}
+use Rattle.air_log.specs.DeviceStates.{DeviceState, whole, with_sent, HappenedBy, IsSameNode}
+use Rattle.world_engine.specs.Fields.{FieldState, IsField, IsKnown, Shows, IsShown, due_of, end_of, setup_of, channel_of}
+use Rattle.world_engine.specs.FieldSteps.{Acts}
+use Rattle.world_engine.proofs.ShownPlaces.{there_now, elsewhere, same_marks, still_field, still_shown, shown_as}
+use Rattle.world_engine.proofs.BegunDevices.{silent_with}
+use Rattle.air_log.specs.Courses.{tick_of}
+
+-- what the start at a device comes to
+abbrev pub Begins : ℕ → ℕ → FieldState → List Due → FieldState → List Due → Type 0
+Begins t p old old_due new new_due =
+    (x : List Sending) × Acts t p (λ s d. begun s t d) x [] old old_due new new_due
+    × ((s : Setup) (d : Device) → Shows s t old old_due p d → x ≡ starting s t d)
+
+-- what a device has in the queue
+abbrev pub due_by : Option Sending → Option ℕ → Option Ordered → Due
+due_by sending alarm ordered = record { sending_end = option_map end_of sending; alarm = alarm; sending_start = option_map tick_of ordered }
+
+-- the queue at a place where an order is set
+pub due_there : (due : List Due) (p : ℕ) (class : Class) (tick : Option ℕ) (d : Due) → slice_get due p ≡ Some d
+    → slice_get (changed due p class tick) p ≡ Some (with_tick class tick d)
+due_there due p class tick d set_so =
+    there_now due p d (with_tick class tick (due_at due p)) set_so
+    ∙ ap (λ (e : Due). let o : Option Due = Some (with_tick class tick e) in o) (get_or_from_slice_get due p d nothing_due set_so)
+
+module _ (t p : ℕ) (w : FieldState) (field : IsField w) (due : List Due) (st new : DeviceState) (here : slice_get w.devices p ≡ Some st)
+    (node : IsSameNode st new) (keeps_time : (now : ℕ) → HappenedBy now st → HappenedBy now new) (stands : at due p SendingStart ≡ Some t)
+    (shown : IsShown t w due p) (time : IsTime w.medium t) where
+  pub known : IsKnown w due p st
+  known = (shown_as shown.setup t w due p shown.device st here shown.shows).known
+
+  pub ordered : option_map tick_of st.ordered ≡ Some t
+  ordered = ap (λ (d : Due). d.sending_start) (sym (get_or_from_slice_get due p (due_of st) nothing_due known.set)) ∙ stands
+
+  below : p < length due
+  below = slice_get_within due p (due_of st) known.set
+
+  -- where nothing starts
+  module _ (is : (made : Made) → begun st.setup t (whole st made) ≡ whole new (with_sent None made)) where
+    abbrev silent_field : FieldState
+    silent_field = record { medium = w.medium; devices = set w.devices p new; air = w.air; deliveries = w.deliveries; drops = w.drops; sums = w.sums }
+
+    abbrev silent_due : List Due
+    silent_due = changed due p SendingStart None
+
+    silent_now : whole new nothing_made ≡ record (whole st nothing_made) { ordered = None }
+    silent_now = sym (is nothing_made) ∙ (silent_with t st new ordered is nothing_made).is
+
+    silent_set : slice_get silent_due p ≡ Some (due_of new)
+    silent_set =
+        due_there due p SendingStart None (due_of st) known.set
+        ∙ ap (λ (d : Device). let o : Option Due = Some (due_by d.sending d.alarm d.ordered) in o) (sym silent_now)
+
+    silent_own : (s : Setup) (d : Device) → Shows s t w due p d → Shows s t silent_field silent_due p (begun s t d)
+    silent_own s d shows =
+        let sh = shown_as s t w due p d st here shows in
+        record {
+          state = new;
+          there = there_now w.devices p st new here;
+          setup = node.setup ∙ sh.setup;
+          made = sh.made;
+          is = sym (is sh.made) ∙ ap (λ (u : Setup). begun u t (whole st sh.made)) sh.setup ∙ ap (begun s t) sh.is;
+          logged = record { sent = sh.logged.sent; tuned = sh.logged.tuned; deliveries = sh.logged.deliveries };
+          known = record {
+            station = known.station;
+            there = ap (λ (u : Setup). station_of w.medium u.id) node.setup ∙ known.there;
+            tuned = known.tuned ∙ ap (λ (e : Device). option_map channel_of e.listening) (sym silent_now);
+            sending = known.sending ∙ ap (λ (e : Device). e.sending) (sym silent_now);
+            set = silent_set;
+          };
+          counted = sh.counted;
+          ended = sh.ended;
+          happened = keeps_time t sh.happened;
+          taken = node.delivery ∙ sh.taken;
+        }
+
+    pub not_begun : Begins t p w due silent_field silent_due
+    not_begun = (
+      [],
+      record {
+        own = silent_own;
+        others = λ q other s d shows. still_shown t q w due silent_field silent_due s d (record {
+          device = elsewhere w.devices p q new other;
+          sent = refl;
+          tuned = refl;
+          deliveries = refl;
+          station = refl;
+          due = elsewhere due p q _ other;
+          sums = refl;
+        }) shows;
+        hearings = refl;
+        sendings = sym (append-nil (sendings_of w.air));
+        drops = sym (append-nil w.drops);
+        air = record {
+          scene = λ a held. (a, record { held = held; lines = refl; sendings = sym (append-nil a.sendings); before = agree_same t _ });
+          time = time;
+          nodes = refl;
+          numbers = refl;
+          still = λ is. is;
+        };
+        same = record {
+          setups = same_marks setup_of w.devices p st new here node.setup;
+          places = length-set due p _;
+          entries = λ e there. inl there;
+          deliverers = λ d there. inl there;
+        };
+      },
+      λ s d shows.
+          let sh = shown_as s t w due p d st here shows in
+          sym (ap (λ (u : Setup). starting u t d) (sym sh.setup) ∙ ap (starting st.setup t) (sym sh.is) ∙ (silent_with t st new ordered is sh.made).starting),
+    )
+
+    pub silent_is_field : IsField silent_field
+    silent_is_field = still_field w w.medium p st new w.air w.deliveries w.drops field field.medium refl refl here node.setup

@@ -1,0 +1,114 @@
+-- What is known of a device by its place in a field.
+use Rattle.std.proofs.Common.{◌≡◌, ℕ, ◌<◌, ◌≤◌, List, [], ◌∷◌, Some, None, Option, option_map, refl, sym, ◌∙◌, ap, arith}
+use Rattle.std.specs.Prelude.{slice_get}
+use Rattle.std.specs.Option.{IfSome}
+use Rattle.std.proofs.lemmas.Option.{slice_get-map, get_or_from_slice_get}
+use Rattle.event_calendar.specs.declared.class.Class.{Class}
+use Rattle.event_calendar.specs.declared.class.Class.TheVariants.{SendingEnd, Alarm, SendingStart}
+use Rattle.event_calendar.specs.Orders.{Due, Order, nothing_due, tick_of, rank, at, IsNext}
+use Rattle.radio_model.specs.OnAir.{Tuning}
+use Rattle.radio_model.specs.declared.sending.Sending.{Sending}
+use Rattle.scenario_text.specs.ScenarioParts.{ScenarioParts}
+use Rattle.scenario_text.specs.declared.lines.NodeLine.{NodeLine}
+use Rattle.bus_rules.specs.Cores.{Setup}
+use Rattle.air_log.specs.declared.entry.TunedEntry.{TunedEntry}
+use Rattle.air_log.specs.Devices.{Device, Listening, Ordered}
+use Rattle.air_log.specs.Trails.{setup_of}
+use Rattle.air_log.specs.Ahead.{IsAhead}
+use Rattle.air_log.specs.DeviceStates.{DeviceState, EndedBefore}
+use Rattle.world_engine.specs.Fields.{FieldState, Shows, due_of, setup_of as setup_in}
+use Rattle.world_engine.specs.Running.{HasPlaces, setup_by}
+use Rattle.world_engine.specs.Runs.{standing}
+use Rattle.world_engine.proofs.TickPoints.{IsOver}
+
+-- time goes on
+ended_earlier : (t u : ℕ) (es : List Tuning) → t ≤ u → EndedBefore t es → EndedBefore u es
+ended_earlier t u [] up is = tt
+ended_earlier t u (e ∷ es) up is = omega (arith, up, is)
+
+closed_by : (t u : ℕ) (e : Option TunedEntry) → t ≤ u → IfSome e (λ x. x.end ≤ t) → IfSome e (λ x. x.end ≤ u)
+closed_by t u None up is = tt
+closed_by t u (Some e) up is = omega (arith, up, is)
+
+listening_by : (t u : ℕ) (l : Option Listening) → t ≤ u → IfSome l (λ x. x.since ≤ t) → IfSome l (λ x. x.since ≤ u)
+listening_by t u None up is = tt
+listening_by t u (Some l) up is = omega (arith, up, is)
+
+pub shows_later : (q : Setup) (t u : ℕ) (w : FieldState) (due : List Due) (p : ℕ) (d : Device) → t ≤ u → Shows q t w due p d → Shows q u w due p d
+shows_later q t u w due p d up shows = record {
+  state = shows.state;
+  there = shows.there;
+  setup = shows.setup;
+  made = shows.made;
+  is = shows.is;
+  logged = shows.logged;
+  known = shows.known;
+  counted = shows.counted;
+  ended = ended_earlier t u shows.made.tuned up shows.ended;
+  happened = record {
+    closed = closed_by t u shows.state.closed up shows.happened.closed;
+    listening = listening_by t u shows.state.listening up shows.happened.listening;
+  };
+  taken = shows.taken;
+}
+
+-- the place tells the state
+some_same : {X : Type 0} (x y : X) → Some x ≡ Some y → x ≡ y
+some_same x y is = cc
+
+module _ (q r : Setup) (t u : ℕ) (w : FieldState) (due : List Due) (p : ℕ) (d e : Device) (x : Shows q t w due p d) (y : Shows r u w due p e) where
+  same_state : x.state ≡ y.state
+  same_state = some_same x.state y.state (sym x.there ∙ y.there)
+
+  pub same_power : d.power ≡ e.power
+  same_power = ap (λ (z : Device). z.power) (sym x.is) ∙ ap (λ (z : DeviceState). z.power) same_state ∙ ap (λ (z : Device). z.power) y.is
+
+  pub same_alarm : d.alarm ≡ e.alarm
+  same_alarm = ap (λ (z : Device). z.alarm) (sym x.is) ∙ ap (λ (z : DeviceState). z.alarm) same_state ∙ ap (λ (z : Device). z.alarm) y.is
+
+  pub same_sending : d.sending ≡ e.sending
+  same_sending = ap (λ (z : Device). z.sending) (sym x.is) ∙ ap (λ (z : DeviceState). z.sending) same_state ∙ ap (λ (z : Device). z.sending) y.is
+
+-- the place is that of a node of the scenario
+pub node_there : (s : ScenarioParts) (q : Setup) (t : ℕ) (w : FieldState) (due : List Due) (p : ℕ) (d : Device) → HasPlaces s w due → Shows q t w due p d
+    → (n : NodeLine) × (slice_get s.nodes p ≡ Some n) × (q ≡ setup_of s n.node)
+node_there s q t w due p d places shows =
+    by (slice_get s.nodes p) refl
+    (sym (slice_get-map (setup_by s) s.nodes p)
+    ∙ ap (λ (xs : List Setup). slice_get xs p) (sym places.setups)
+    ∙ slice_get-map setup_in w.devices p
+    ∙ ap (option_map setup_in) shows.there
+    ∙ ap (λ (x : Setup). Some x) shows.setup)
+  where
+    by : (o : Option NodeLine) → slice_get s.nodes p ≡ o → option_map (setup_by s) o ≡ Some q
+        → (n : NodeLine) × (slice_get s.nodes p ≡ Some n) × (q ≡ setup_of s n.node)
+    by None is same = absurd (none_some same)
+      where
+        none_some : None ≡ Some q → ⊥
+        none_some is = cc
+    by (Some n) is same = (n, is, sym (some_same (setup_of s n.node) q same))
+
+-- what stands in the queue at the place stands at the device
+module _ (q : Setup) (t : ℕ) (w : FieldState) (due : List Due) (p : ℕ) (d : Device) (shows : Shows q t w due p d) where
+  pub stands_at : (c : Class) → at due p c ≡ tick_of c (standing d)
+  stands_at c =
+      ap (tick_of c) (get_or_from_slice_get due p (due_of shows.state) nothing_due shows.known.set)
+      ∙ ap (λ (e : Device). tick_of c (standing e)) shows.is
+
+  if_some : {X : Type 0} (P : X → Type 0) (o : Option X) → ((x : X) → o ≡ Some x → P x) → IfSome o P
+  if_some P None each = tt
+  if_some P (Some x) each = each x refl
+
+  -- no order stands before the tick
+  pub ahead_by : (u : ℕ) → ((c : Class) (tick : ℕ) → at due p c ≡ Some tick → u ≤ tick) → IsAhead u d
+  ahead_by u none = record {
+    alarm = if_some (λ (tick : ℕ). u ≤ tick) d.alarm (λ tick is. none Alarm tick (stands_at Alarm ∙ is));
+    ordered = if_some (λ (o : Ordered). u ≤ o.tick) d.ordered
+        (λ o is. none SendingStart o.tick (stands_at SendingStart ∙ ap (λ (z : Option Ordered). option_map (λ (o : Ordered). o.tick) z) is));
+    sending = if_some (λ (x : Sending). u ≤ x.end) d.sending
+        (λ x is. none SendingEnd x.end (stands_at SendingEnd ∙ ap (λ (z : Option Sending). option_map (λ (x : Sending). x.end) z) is));
+  }
+
+  -- the next order is at that tick, and of that class
+  pub over_by_next : (x : Order) → IsNext due (Some x) → (j : Class) → rank j < rank x.1 → IsOver j x.0 d
+  over_by_next x next j less is = omega (arith, less, (next.1 (x.0, j, p) (stands_at j ∙ is)).class refl)

@@ -1,0 +1,267 @@
+-- A line of the script that is told to the device at a place, as code comes to it: from an index into the devices.
+use Rattle.std.proofs.Common.{◌≡◌, ◌<◌, ℕ, List, [], ◌∷◌, ◌++◌, set, get_or, length, Bool, if◌then◌else◌, Option, Some, None, IfSome, option_map}
+use Rattle.std.proofs.Common.{option_to_list, refl, sym, ◌∙◌, ap, subst}
+use Rattle.std.specs.List.{slice_get}
+use Rattle.std.proofs.lemmas.List.{append-nil}
+use Rattle.std.proofs.lemmas.Option.{same_Some}
+use Rattle.event_calendar.specs.Orders.{Due, changed, with_tick}
+use Rattle.event_calendar.specs.declared.class.Class.TheVariants.{Alarm as AlarmOf, SendingStart}
+use Rattle.lwb_base.specs.declared.event.Event.TheVariants.{Boot}
+use Rattle.scenario_text.specs.declared.script.Act.{Act}
+use Rattle.scenario_text.specs.declared.script.Act.TheVariants.{On, Put}
+use Rattle.scenario_text.specs.declared.script.ScriptLine.{ScriptLine}
+use Rattle.bus_rules.specs.Cores.{Setup}
+use Rattle.bus_rules.specs.declared.delivery.DropLine.{DropLine}
+use Rattle.radio_model.specs.Hearing.{Scene}
+use Rattle.radio_model.specs.Holding.{Holds, after_tuning}
+use Rattle.radio_model.specs.Stations.{MediumState, IsTime, station_of, after as medium_after, retuned}
+use Rattle.air_log.specs.declared.entry.TunedEntry.{TunedEntry}
+use Rattle.air_log.specs.Devices.{Device, Power, Listening, Made, nothing_made, event}
+use Rattle.air_log.specs.ScriptedDevices.{after_act}
+use Rattle.air_log.specs.Drops.{drop_by}
+use Rattle.air_log.specs.DeviceStates.{DeviceState, whole, with_tuned, with_drop, HappenedBy, IsSameNode}
+use Rattle.air_log.specs.WindowLogs.{WindowLog}
+use Rattle.world_engine.specs.Fields.{FieldState, HasCounted, Shows, IsShown, IsField, entries_of, due_of, channel_of}
+use Rattle.world_engine.specs.FieldSteps.{Acts, IsTold}
+use Rattle.world_engine.proofs.ActsInTurn.{goes_nowhere, acts_then, acts_as}
+use Rattle.world_engine.proofs.DeviceSteps.{IsStepAt, GoesOnMaking, acts_at}
+use Rattle.world_engine.proofs.DeviceRetuned.{retuned_goes_on, retuned_station, retuned_others}
+use Rattle.world_engine.proofs.ObeyedOrders.{due_changed, due_kept, due_places, same_due, tuned_goes_on}
+use Rattle.world_engine.proofs.LineChanges.{StaysSet, one_drop, put_stays, put_loses}
+use Rattle.world_engine.proofs.StepsInCode.{state_here, state_known, state_taken}
+
+pub as_told : (clock : ℕ → ℕ) (line : ScriptLine) {t p : ℕ} {act what : Act} {v w x : FieldState} {dv dx : List Due} → v ≡ w → act ≡ what
+    → IsTold clock line t p act v dv x dx → IsTold clock line t p what w dv x dx
+as_told clock line {t} {p} {act} {what} {v} {w} {x} {dv} {dx} seen is told =
+    subst (λ (f : FieldState). IsTold clock line t p what f dv x dx) seen (subst (λ (a : Act). IsTold clock line t p a v dv x dx) is told)
+
+-- the power is another
+abbrev pub turned : Power → Setup → Device → Device
+turned power s d = record d { power = power }
+
+module _ (t p : ℕ) (old : FieldState) (old_due : List Due) (shown : IsShown t old old_due p) (i : ℕ) (at : i ≡ p) (state : DeviceState)
+    (is : state ≡ get_or old.devices i state) where
+  -- the medium and the queue are told nothing
+  pub told_acts : IsField old → IsTime old.medium t → (after : DeviceState) (lost : List DropLine) (lines : List DropLine)
+      → after.setup ≡ state.setup → after.delivery ≡ None → HappenedBy t after → lines ≡ old.drops ++ lost
+      → (change : Setup → Device → Device) (making : Made → Made) → ((made : Made) → GoesOnMaking None None made (making made))
+      → StaysSet (whole state nothing_made) (whole after (making nothing_made))
+      → ((made : Made) → change state.setup (whole state made) ≡ whole after (making made))
+      → ((made : Made) → (making made).windows ≡ made.windows)
+      → Acts t p change [] lost old old_due (record {
+        medium = old.medium;
+        devices = set old.devices i after;
+        air = old.air;
+        deliveries = old.deliveries;
+        drops = lines;
+        sums = old.sums;
+      }) old_due
+  told_acts field time after lost lines setup taken happened more change making goes set_as comes still =
+      let next : FieldState = record {
+        medium = old.medium;
+        devices = set old.devices i after;
+        air = old.air;
+        deliveries = old.deliveries;
+        drops = lines;
+        sums = old.sums;
+      } in
+      let known = state_known t p old old_due shown i at state is in
+      let step : IsStepAt t p state after None None lost old old_due next old_due = record {
+        here = state_here t p old old_due shown i at state is;
+        setup = setup;
+        devices = ap (λ (n : ℕ). set old.devices n after) at;
+        air = sym (append-nil old.air);
+        deliveries = sym (append-nil old.deliveries);
+        drops = more;
+        own_tuning = tt;
+        own_delivery = tt;
+        medium = goes_nowhere t old.medium time;
+        station = record {
+          station = known.station;
+          there = ap (λ (s : Setup). station_of old.medium s.id) setup ∙ known.there;
+          tuned = known.tuned ∙ sym (ap (λ (l : Option Listening). option_map channel_of l) set_as.listening);
+          sending = known.sending ∙ sym set_as.sending;
+        };
+        stations = λ u other. refl;
+        due = known.set ∙ ap (λ (d : Due). Some d) (same_due state after set_as.sending set_as.alarm set_as.ordered);
+        dues = λ q other. refl;
+        places = refl;
+        sums = λ q other. refl;
+      } in
+      acts_at t p state after None None lost old next old_due old_due step taken happened tt change making goes (λ made ended. comes made)
+      (λ made counted. subst (λ (ws : List WindowLog). HasCounted old.sums p state.setup ws) (sym (still made)) counted) field
+
+  -- the device goes off
+  pub off_acts : IsField old → IsTime old.medium t → (after : DeviceState) (closed : Option TunedEntry) (v : ℕ) (medium : MediumState)
+      (new : FieldState) (mid new_due : List Due)
+      → v ≡ state.setup.id
+      → medium ≡ medium_after t v (retuned None t) old.medium
+      → ((a : Scene) → Holds old.medium a → Holds medium (after_tuning old.medium v None t a))
+      → new ≡ record {
+        medium = medium;
+        devices = set old.devices i after;
+        air = old.air ++ entries_of closed;
+        deliveries = old.deliveries;
+        drops = old.drops;
+        sums = old.sums;
+      }
+      → mid ≡ changed old_due p AlarmOf None → new_due ≡ changed mid p SendingStart None
+      → after.setup ≡ state.setup → after.delivery ≡ state.delivery → IfSome closed (λ e. e.node ≡ state.setup.id) → IfSome closed (λ e. e.end < t)
+      → HappenedBy t after
+      → after.listening ≡ None → after.alarm ≡ None → after.ordered ≡ None → after.sending ≡ state.sending
+      → (change : Setup → Device → Device) → ((made : Made) → change state.setup (whole state made) ≡ whole after (with_tuned closed made))
+      → Acts t p change [] [] old old_due new new_due
+  off_acts field time after closed v medium new mid new_due id tuned holds is_new is_mid is_due setup delivery own before happened silent no_alarm
+      no_order sending change comes =
+      let known = state_known t p old old_due shown i at state is in
+      let next : FieldState = record {
+        medium = medium;
+        devices = set old.devices i after;
+        air = old.air ++ entries_of closed;
+        deliveries = old.deliveries;
+        drops = old.drops;
+        sums = old.sums;
+      } in
+      let cleared : slice_get new_due p ≡ Some (due_of after) =
+      ap (λ (l : List Due). slice_get l p) is_due
+      ∙ due_changed mid p SendingStart None (with_tick AlarmOf None (due_of state))
+      (ap (λ (l : List Due). slice_get l p) is_mid ∙ due_changed old_due p AlarmOf None (due_of state) known.set)
+      ∙ ap (λ (d : Due). Some d) (rw (no_alarm, no_order, sending) refl) in
+      let step : IsStepAt t p state after closed None [] old old_due next new_due = record {
+        here = state_here t p old old_due shown i at state is;
+        setup = setup;
+        devices = ap (λ (n : ℕ). set old.devices n after) at;
+        air = refl;
+        deliveries = sym (append-nil old.deliveries);
+        drops = sym (append-nil old.drops);
+        own_tuning = own;
+        own_delivery = tt;
+        medium = retuned_goes_on t v None old.medium medium tuned field.medium.nodes time holds;
+        station = retuned_station t v None old.medium medium tuned after known.station (ap (λ (s : Setup). s.id) setup ∙ sym id)
+            (ap (station_of old.medium) id ∙ known.there) (known.sending ∙ sym sending) (ap (λ (l : Option Listening). option_map channel_of l) silent);
+        stations = λ u other. retuned_others t v None old.medium medium tuned u (λ same. other (same ∙ id));
+        due = cleared;
+        dues = λ q other. ap (λ (l : List Due). slice_get l q) is_due ∙ due_kept mid p SendingStart None q other
+            ∙ ap (λ (l : List Due). slice_get l q) is_mid ∙ due_kept old_due p AlarmOf None q other;
+        places = ap (λ (l : List Due). length l) is_due ∙ due_places mid p SendingStart None ∙ ap (λ (l : List Due). length l) is_mid
+            ∙ due_places old_due p AlarmOf None;
+        sums = λ q other. refl;
+      } in
+      subst (λ (w : FieldState). Acts t p change [] [] old old_due w new_due) (sym is_new)
+      (acts_at t p state after closed None [] old next old_due new_due step
+      (delivery ∙ state_taken t p old old_due shown i at state is) happened before change (with_tuned closed) (tuned_goes_on closed)
+      (λ made ended. comes made) (λ made counted. counted) field)
+
+  -- what a trail's device at the place is
+  same_state : (s : Setup) (d : Device) → (shows : Shows s t old old_due p d) → shows.state ≡ state
+  same_state s d shows = same_Some _ _ (sym shows.there ∙ state_here t p old old_due shown i at state is)
+
+  pub setup_shown : (s : Setup) (d : Device) → Shows s t old old_due p d → state.setup ≡ s
+  setup_shown s d shows = ap (λ (x : DeviceState). x.setup) (sym (same_state s d shows)) ∙ shows.setup
+
+  pub power_shown : (s : Setup) (d : Device) → Shows s t old old_due p d → d.power ≡ state.power
+  power_shown s d shows = ap (λ (x : Device). x.power) (sym shows.is) ∙ ap (λ (x : DeviceState). x.power) (same_state s d shows)
+
+  same_shown : (f g : Setup → Device → Device) → ((made : Made) → f state.setup (whole state made) ≡ g state.setup (whole state made))
+      → (s : Setup) (d : Device) → Shows s t old old_due p d → f s d ≡ g s d
+  same_shown f g same s d shows =
+      let is_d : whole state shows.made ≡ d = ap (λ (x : DeviceState). whole x shows.made) (sym (same_state s d shows)) ∙ shows.is in
+      subst (λ (x : Device). f s x ≡ g s x) is_d
+      (subst (λ (u : Setup). f u (whole state shows.made) ≡ g u (whole state shows.made)) (setup_shown s d shows) (same shows.made))
+
+  -- the device goes on, of which it is to be told
+  pub on_acts : IsField old → IsTime old.medium t → (after : DeviceState)
+      → after ≡ record state { core = after.core; power = after.power; delivery = None } → HappenedBy t after
+      → Acts t p (turned after.power) [] [] old old_due (record {
+        medium = old.medium;
+        devices = set old.devices i after;
+        air = old.air;
+        deliveries = old.deliveries;
+        drops = old.drops;
+        sums = old.sums;
+      }) old_due
+  on_acts field time after changed happened =
+      let comes : (made : Made) → turned after.power state.setup (whole state made) ≡ whole after made = λ made. ap (λ (x : DeviceState). whole x made)
+      (sym changed) in
+      told_acts field time after [] old.drops (ap (λ (x : DeviceState). x.setup) changed) (ap (λ (x : DeviceState). x.delivery) changed) happened
+      (sym (append-nil old.drops))
+      (turned after.power) (λ made. made) (λ made. record { sent = refl; tuned = refl; deliveries = sym (append-nil made.deliveries) })
+      (subst (λ (x : Device). StaysSet (whole state nothing_made) x) (comes nothing_made) (record {
+        listening = refl;
+        alarm = refl;
+        ordered = refl;
+        sending = refl;
+      }))
+      comes (λ made. refl)
+
+  pub booted_acts : (clock : ℕ → ℕ) (frame : ℕ) (after : DeviceState) (mid new : FieldState) (new_due : List Due) → after ≡ record state {
+    core = after.core;
+    power = after.power;
+    delivery = None;
+  }
+      → ((made : Made) → after_act clock state.setup t frame (whole state made) On state.power ≡ event clock state.setup t Boot None (whole after made))
+      → Acts t p (turned after.power) [] [] old old_due mid old_due → Acts t p (λ s d. event clock s t Boot None d) [] [] mid old_due new new_due
+      → Acts t p (λ s d. after_act clock s t frame d On d.power) [] [] old old_due new new_due
+  booted_acts clock frame after mid new new_due changed boots on told =
+      acts_as t p (λ s d. event clock s t Boot None (turned after.power s d)) (λ s d. after_act clock s t frame d On d.power) [] [] old new old_due new_due
+      (same_shown (λ s d. event clock s t Boot None (turned after.power s d)) (λ s d. after_act clock s t frame d On d.power)
+      (λ made. ap (λ (x : DeviceState). event clock state.setup t Boot None (whole x made)) (sym changed) ∙ sym (boots made)))
+      (acts_then t p (turned after.power) (λ s d. event clock s t Boot None d) [] [] [] [] old mid new old_due old_due new_due on told)
+
+  -- a packet is put
+  module _ (clock : ℕ → ℕ) (line : ScriptLine) (stream : ℕ) (payload : List ℕ) (lost : Bool) (after : DeviceState)
+      (puts : (made : Made) → after_act clock state.setup t line.frame (whole state made) (Put stream payload) state.power ≡ whole after
+      (with_drop lost (one_drop line.frame state.setup.id stream) made)) where
+    abbrev pub lines : List DropLine
+    lines = if lost then one_drop line.frame state.setup.id stream ∷ [] else []
+
+    pub put_acts : IsField old → IsTime old.medium t → (drops : List DropLine) → IsSameNode state after → HappenedBy t after → drops ≡ old.drops ++ lines
+        → Acts t p (λ s d. after_act clock s t line.frame d (Put stream payload) d.power) [] lines old old_due (record {
+          medium = old.medium;
+          devices = set old.devices i after;
+          air = old.air;
+          deliveries = old.deliveries;
+          drops = drops;
+          sums = old.sums;
+        }) old_due
+    put_acts field time drops node happened more =
+        told_acts field time after lines drops node.setup (node.delivery ∙ state_taken t p old old_due shown i at state is) happened more
+        (λ s d. after_act clock s t line.frame d (Put stream payload) d.power) (with_drop lost (one_drop line.frame state.setup.id stream))
+        (λ made. record { sent = refl; tuned = refl; deliveries = sym (append-nil made.deliveries) })
+        (subst (λ (d : Device). StaysSet (whole state nothing_made) d) (puts nothing_made)
+        (put_stays clock state.setup t line.frame (whole state nothing_made) stream payload state.power))
+        puts (λ made. refl)
+
+    pub put_lost : line.node ≡ state.setup.id → (s : Setup) (d : Device) → Shows s t old old_due p d
+        → lines ≡ option_to_list (drop_by line (Put stream payload) d.power)
+    put_lost own s d shows =
+        sym (ap (λ (d : Device). d.made.drops) (puts nothing_made))
+        ∙ put_loses clock state.setup t line.frame (whole state nothing_made) line stream payload state.power refl own refl
+        ∙ ap (λ (x : Power). option_to_list (drop_by line (Put stream payload) x)) (sym (power_shown s d shows))
+
+  -- a stream wishes an interval, or nothing more
+  module _ (clock : ℕ → ℕ) (line : ScriptLine) (act : Act) (loses : (power : Power) → drop_by line act power ≡ None)
+      (stays : (power : Power) → StaysSet (whole state nothing_made) (after_act clock state.setup t line.frame (whole state nothing_made) act power))
+      (after : DeviceState)
+      (wishes : (made : Made) → after_act clock state.setup t line.frame (whole state made) act state.power ≡ whole after made) where
+    pub wish_told : IsField old → IsTime old.medium t → IsSameNode state after → HappenedBy t after
+        → IsTold clock line t p act old old_due (record {
+          medium = old.medium;
+          devices = set old.devices i after;
+          air = old.air;
+          deliveries = old.deliveries;
+          drops = old.drops;
+          sums = old.sums;
+        }) old_due
+    wish_told field time node happened = (
+      [],
+      told_acts field time after [] old.drops node.setup (node.delivery ∙ state_taken t p old old_due shown i at state is) happened (sym (append-nil old.drops))
+          (λ s d. after_act clock s t line.frame d act d.power) (λ made. made) (λ made. record {
+            sent = refl;
+            tuned = refl;
+            deliveries = sym (append-nil made.deliveries);
+          })
+          (subst (λ (d : Device). StaysSet (whole state nothing_made) d) (wishes nothing_made) (stays state.power))
+          wishes (λ made. refl),
+      λ s d shows. ap option_to_list (sym (loses d.power)),
+    )

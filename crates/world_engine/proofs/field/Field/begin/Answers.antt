@@ -1,0 +1,141 @@
+use Rattle.std.proofs.Common.{◌≡◌, ℕ, List, Option, Some, None, set, sym, ◌∙◌, ap, subst}
+use Rattle.std.proofs.lemmas.Result.{on_ok_weaker}
+use Rattle.radio_model.specs.Stations.{MediumState, IsTime}
+use Rattle.event_calendar.specs.Orders.{Due, at, changed}
+use Rattle.event_calendar.specs.declared.class.Class.TheVariants.{SendingEnd, SendingStart}
+use Rattle.radio_model.specs.declared.sending.Sending.{Sending}
+use Rattle.air_log.specs.Devices.{Made}
+use Rattle.air_log.specs.Trails.{begun}
+use Rattle.air_log.specs.DeviceStates.{whole, with_sent}
+use Rattle.world_engine.specs.Fields.{FieldState, IsField, IsShown}
+use Rattle.world_engine.proofs.BegunSendings.{has_begun, has_station, begun_is_field, as_given}
+use Rattle.world_engine.proofs.NothingBegun.{not_begun, silent_is_field}
+use Rattle.world_engine.proofs.ShownPlaces.{read_there}
+use Rattle.world_engine.proofs.field.Field.begin.Goals as goal
+
+pub invariant_of-self : goal.invariant_of-self
+invariant_of-self g c =
+    let w : FieldState = record {
+      medium = c.self.inside.medium;
+      devices = c.self.inside.devices.items;
+      air = c.self.inside.air;
+      deliveries = c.self.inside.deliveries.items;
+      drops = c.self.inside.drops.items;
+      sums = c.self.inside.sums.items;
+    } in
+    let due : List Due = g.Q.Orders.map c.args.orders.now in
+    let i = c.from.result in
+    let st = c.index_mut-device.result.now in
+    let shown : IsShown c.args.t w due i = subst (λ (k : ℕ). IsShown c.args.t w due k) (sym c.from.ensures)
+    (subst (λ (v : FieldState). IsShown c.args.t v due c.args.place) (sym c.self.view_is) c.requires.shown) in
+    let stands : at due i SendingStart ≡ Some c.args.t = ap (λ (k : ℕ). at due k SendingStart) c.from.ensures ∙ c.requires.stands in
+    let time : IsTime w.medium c.args.t = subst (λ (v : FieldState). IsTime v.medium c.args.t) (sym c.self.view_is) c.requires.time in
+    let answers : (made : Made) → begun st.setup c.args.t (whole st made) ≡ whole c.begin.new.self (with_sent None made) =
+    λ made. c.begin.ensures.whole made ∙ ap (λ (r : Option Sending). whole c.begin.new.self (with_sent r made)) c.in_default.is in
+    silent_is_field c.args.t i w c.self.invariant due st c.begin.new.self
+    (read_there c.args.t w due i st shown c.index_mut-device.ensures.value) c.begin.ensures.node c.begin.ensures.time stands shown time answers
+
+pub returns-in_default : goal.returns-in_default
+returns-in_default g c =
+    let w : FieldState = record {
+      medium = c.self.inside.medium;
+      devices = c.self.inside.devices.items;
+      air = c.self.inside.air;
+      deliveries = c.self.inside.deliveries.items;
+      drops = c.self.inside.drops.items;
+      sums = c.self.inside.sums.items;
+    } in
+    let due : List Due = g.Q.Orders.map c.args.orders.now in
+    let i = c.from.result in
+    let st = c.index_mut-device.result.now in
+    let shown : IsShown c.args.t w due i = subst (λ (k : ℕ). IsShown c.args.t w due k) (sym c.from.ensures)
+    (subst (λ (v : FieldState). IsShown c.args.t v due c.args.place) (sym c.self.view_is) c.requires.shown) in
+    let stands : at due i SendingStart ≡ Some c.args.t = ap (λ (k : ℕ). at due k SendingStart) c.from.ensures ∙ c.requires.stands in
+    let time : IsTime w.medium c.args.t = subst (λ (v : FieldState). IsTime v.medium c.args.t) (sym c.self.view_is) c.requires.time in
+    let answers : (made : Made) → begun st.setup c.args.t (whole st made) ≡ whole c.begin.new.self (with_sent None made) =
+    λ made. c.begin.ensures.whole made ∙ ap (λ (r : Option Sending). whole c.begin.new.self (with_sent r made)) c.in_default.is in
+    as_given c.args.t i c.args.place w c.args.self.now due _ _ _ c.self.view_is c.from.ensures
+    (c.clear.ensures ∙ ap (λ (k : ℕ). changed due k SendingStart None) (sym c.from.ensures))
+    (not_begun c.args.t i w c.self.invariant due st c.begin.new.self
+    (read_there c.args.t w due i st shown c.index_mut-device.ensures.value) c.begin.ensures.node c.begin.ensures.time stands shown time answers)
+
+pub start-requires-clause-node : goal.start-requires-clause-node
+start-requires-clause-node g c =
+    let w : FieldState = record {
+      medium = c.self.inside.medium;
+      devices = c.self.inside.devices.items;
+      air = c.self.inside.air;
+      deliveries = c.self.inside.deliveries.items;
+      drops = c.self.inside.drops.items;
+      sums = c.self.inside.sums.items;
+    } in
+    let due : List Due = g.Q.Orders.map c.args.orders.now in
+    let i = c.from.result in
+    let st = c.index_mut-device.result.now in
+    let shown : IsShown c.args.t w due i = subst (λ (k : ℕ). IsShown c.args.t w due k) (sym c.from.ensures)
+    (subst (λ (v : FieldState). IsShown c.args.t v due c.args.place) (sym c.self.view_is) c.requires.shown) in
+    let stands : at due i SendingStart ≡ Some c.args.t = ap (λ (k : ℕ). at due k SendingStart) c.from.ensures ∙ c.requires.stands in
+    let time : IsTime w.medium c.args.t = subst (λ (v : FieldState). IsTime v.medium c.args.t) (sym c.self.view_is) c.requires.time in
+    let answers : (made : Made) → begun st.setup c.args.t (whole st made) ≡ whole c.begin.new.self (with_sent (Some c.in-Some.x) made) =
+    λ made. c.begin.ensures.whole made ∙ ap (λ (r : Option Sending). whole c.begin.new.self (with_sent r made)) c.in-Some.is in
+    has_station c.args.t i w c.self.invariant due st c.begin.new.self
+    (read_there c.args.t w due i st shown c.index_mut-device.ensures.value) c.begin.ensures.node c.begin.ensures.time stands shown time c.in-Some.x answers
+
+pub invariant_of-self-2 : goal.invariant_of-self-2
+invariant_of-self-2 g c =
+    let w : FieldState = record {
+      medium = c.self.inside.medium;
+      devices = c.self.inside.devices.items;
+      air = c.self.inside.air;
+      deliveries = c.self.inside.deliveries.items;
+      drops = c.self.inside.drops.items;
+      sums = c.self.inside.sums.items;
+    } in
+    let due : List Due = g.Q.Orders.map c.args.orders.now in
+    let i = c.from.result in
+    let st = c.index_mut-device.result.now in
+    let shown : IsShown c.args.t w due i = subst (λ (k : ℕ). IsShown c.args.t w due k) (sym c.from.ensures)
+    (subst (λ (v : FieldState). IsShown c.args.t v due c.args.place) (sym c.self.view_is) c.requires.shown) in
+    let stands : at due i SendingStart ≡ Some c.args.t = ap (λ (k : ℕ). at due k SendingStart) c.from.ensures ∙ c.requires.stands in
+    let time : IsTime w.medium c.args.t = subst (λ (v : FieldState). IsTime v.medium c.args.t) (sym c.self.view_is) c.requires.time in
+    let answers : (made : Made) → begun st.setup c.args.t (whole st made) ≡ whole c.begin.new.self (with_sent (Some c.in-Some.x) made) =
+    λ made. c.begin.ensures.whole made ∙ ap (λ (r : Option Sending). whole c.begin.new.self (with_sent r made)) c.in-Some.is in
+    subst (λ (m : MediumState). IsField
+    (record {
+      medium = m;
+      devices = set w.devices i c.begin.new.self;
+      air = c.push.new.self;
+      deliveries = w.deliveries;
+      drops = w.drops;
+      sums = w.sums;
+    })) (sym c.start.ensures.state)
+    (begun_is_field c.args.t i w c.self.invariant due st c.begin.new.self
+    (read_there c.args.t w due i st shown c.index_mut-device.ensures.value) c.begin.ensures.node c.begin.ensures.time stands shown time c.in-Some.x
+    answers c.push.new.self)
+
+pub returns : goal.returns
+returns g c =
+    let w : FieldState = record {
+      medium = c.self.inside.medium;
+      devices = c.self.inside.devices.items;
+      air = c.self.inside.air;
+      deliveries = c.self.inside.deliveries.items;
+      drops = c.self.inside.drops.items;
+      sums = c.self.inside.sums.items;
+    } in
+    let due : List Due = g.Q.Orders.map c.args.orders.now in
+    let i = c.from.result in
+    let st = c.index_mut-device.result.now in
+    let shown : IsShown c.args.t w due i = subst (λ (k : ℕ). IsShown c.args.t w due k) (sym c.from.ensures)
+    (subst (λ (v : FieldState). IsShown c.args.t v due c.args.place) (sym c.self.view_is) c.requires.shown) in
+    let stands : at due i SendingStart ≡ Some c.args.t = ap (λ (k : ℕ). at due k SendingStart) c.from.ensures ∙ c.requires.stands in
+    let time : IsTime w.medium c.args.t = subst (λ (v : FieldState). IsTime v.medium c.args.t) (sym c.self.view_is) c.requires.time in
+    let answers : (made : Made) → begun st.setup c.args.t (whole st made) ≡ whole c.begin.new.self (with_sent (Some c.in-Some.x) made) =
+    λ made. c.begin.ensures.whole made ∙ ap (λ (r : Option Sending). whole c.begin.new.self (with_sent r made)) c.in-Some.is in
+    on_ok_weaker c.push.result (λ pushed.
+    as_given c.args.t i c.args.place w c.args.self.now due _ _ _ c.self.view_is c.from.ensures
+    (c.set.ensures ∙ ap (λ (q : List Due). changed q c.args.place SendingEnd (Some c.in-Some.x.end)) c.clear.ensures
+    ∙ ap (λ (k : ℕ). changed (changed due k SendingStart None) k SendingEnd (Some c.in-Some.x.end)) (sym c.from.ensures))
+    (has_begun c.args.t i w c.self.invariant due st c.begin.new.self
+    (read_there c.args.t w due i st shown c.index_mut-device.ensures.value) c.begin.ensures.node c.begin.ensures.time stands shown time c.in-Some.x answers
+    c.start.new.self c.start.ensures.state c.start.ensures.holds c.push.new.self pushed)) c.push.ensures.ok

@@ -1,0 +1,5 @@
+use Rattle.world_engine.proofs.CountedPlaces.{AreChargedUpto}
+use Rattle.world_engine.proofs.field.Field.charges.Given as goal
+
+abbrev pub invariant-loop-place : goal.invariant-loop-place
+invariant-loop-place l = AreChargedUpto l.self.sums l.scanned l.place l.charges.items

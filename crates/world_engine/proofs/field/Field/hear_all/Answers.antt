@@ -1,0 +1,60 @@
+use Rattle.std.proofs.Common.{[], sym, ◌∙◌, arith}
+use Rattle.world_engine.specs.Fields.{ids_of}
+use Rattle.world_engine.specs.FieldSteps.{readings_at}
+use Rattle.world_engine.proofs.HearersAtPlaces.{no_places}
+use Rattle.world_engine.proofs.HearersTold.{none_hear}
+use Rattle.world_engine.proofs.HearingLoop.{some_there, known_hearer, place_below, hearer_shown, heard_next, reads_there}
+use Rattle.world_engine.proofs.field.Field.hear_all.Goals as goal
+
+pub loop-i-init : goal.loop-i-init
+loop-i-init g c = (
+  [],
+  no_places (ids_of c.args.self.now),
+  none_hear (readings_at g.C.DriftClock.readings c.args.clocks.now) c.args.x.now.end c.args.x.now c.args.self.now
+      (g.Q.Orders.map c.args.orders.now) c.requires.time,
+)
+
+pub unwrap-node-requires : goal.unwrap-node-requires
+unwrap-node-requires g c =
+    let test = c.loop-i-test.true in some_there c.args.hearers.now c.loop-i.i c.at.result c.at.ensures
+    (omega (arith, test, c.from-i-end.ensures, c.count.ensures.value))
+
+pub place_of-place-requires : goal.place_of-place-requires
+place_of-place-requires g c =
+    known_hearer (readings_at g.C.DriftClock.readings c.args.clocks.now) c.args.x.now c.args.hearers.now c.loop-i.i c.unwrap-node.result
+    (sym c.at.ensures ∙ c.unwrap-node.ensures) c.args.self.now c.loop-i.self
+    (g.Q.Orders.map c.args.orders.now) (g.Q.Orders.map c.loop-i.orders) c.loop-i.invariant c.requires.nodes
+
+pub offset_bounds-clocks-from : goal.offset_bounds-clocks-from
+offset_bounds-clocks-from g c =
+    let below = place_below (readings_at g.C.DriftClock.readings c.args.clocks.now) c.args.x.now c.args.hearers.now c.loop-i.i c.unwrap-node.result
+    (sym c.at.ensures ∙ c.unwrap-node.ensures) c.args.self.now c.loop-i.self
+    (g.Q.Orders.map c.args.orders.now) (g.Q.Orders.map c.loop-i.orders) c.loop-i.invariant c.place_of-place.result c.place_of-place.ensures in
+    omega (arith, below, c.from.ensures, c.requires.clocks)
+
+pub bounds-clocks-from : goal.bounds-clocks-from
+bounds-clocks-from g c =
+    let below = place_below (readings_at g.C.DriftClock.readings c.args.clocks.now) c.args.x.now c.args.hearers.now c.loop-i.i c.unwrap-node.result
+    (sym c.at.ensures ∙ c.unwrap-node.ensures) c.args.self.now c.loop-i.self
+    (g.Q.Orders.map c.args.orders.now) (g.Q.Orders.map c.loop-i.orders) c.loop-i.invariant c.place_of-place.result c.place_of-place.ensures in
+    omega (arith, below, c.from.ensures, c.requires.clocks)
+
+pub hear-requires-clause-shown : goal.hear-requires-clause-shown
+hear-requires-clause-shown g c =
+    hearer_shown (readings_at g.C.DriftClock.readings c.args.clocks.now) c.args.x.now c.args.hearers.now c.loop-i.i c.unwrap-node.result
+    (sym c.at.ensures ∙ c.unwrap-node.ensures) c.args.self.now c.loop-i.self
+    (g.Q.Orders.map c.args.orders.now) (g.Q.Orders.map c.loop-i.orders) c.loop-i.invariant c.place_of-place.result c.place_of-place.ensures c.requires.shown
+
+pub loop-i-preserved : goal.loop-i-preserved
+loop-i-preserved g c =
+    let below = place_below (readings_at g.C.DriftClock.readings c.args.clocks.now) c.args.x.now c.args.hearers.now c.loop-i.i c.unwrap-node.result
+    (sym c.at.ensures ∙ c.unwrap-node.ensures) c.args.self.now c.loop-i.self
+    (g.Q.Orders.map c.args.orders.now) (g.Q.Orders.map c.loop-i.orders) c.loop-i.invariant c.place_of-place.result c.place_of-place.ensures in
+    let reads = reads_there g.C.DriftClock.readings c.args.clocks.now c.from.result c.place_of-place.result c.index-clocks-from.result c.from.ensures
+    (omega (arith, below, c.from.ensures, c.requires.clocks)) c.index-clocks-from.is in
+    heard_next (readings_at g.C.DriftClock.readings c.args.clocks.now) c.args.x.now c.args.hearers.now c.loop-i.i c.unwrap-node.result
+    (sym c.at.ensures ∙ c.unwrap-node.ensures) c.args.self.now c.loop-i.self
+    (g.Q.Orders.map c.args.orders.now)
+    (g.Q.Orders.map c.loop-i.orders) c.loop-i.invariant c.place_of-place.result c.place_of-place.ensures c.requires.ascending
+    (g.C.DriftClock.readings c.index-clocks-from.result) reads
+    c.hear.new.self (g.Q.Orders.map c.hear.new.orders) c.in_ok-hear.ensures

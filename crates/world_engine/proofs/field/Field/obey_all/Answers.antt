@@ -1,0 +1,58 @@
+use Rattle.std.proofs.Common.{◌≡◌, ℕ, List, Some, drop, sym, ◌∙◌, ap, subst, arith}
+use Rattle.std.specs.Prelude.{option_map}
+use Rattle.std.specs.List.{slice_get}
+use Rattle.std.proofs.lemmas.Option.{slice_get_within}
+use Rattle.lwb_base.specs.declared.order.Order.{Order}
+use Rattle.world_engine.specs.EventOrders.{order_of}
+use Rattle.world_engine.proofs.ObeyedInTurn.{AreObeyed, shown_still, none_obeyed, next_is_timely, one_more_obeyed, all_obeyed, first_left, next_left}
+use Rattle.world_engine.proofs.field.Field.obey_all.Goals as goal
+
+pub loop-order-init : goal.loop-order-init
+loop-order-init g c = record {
+  obeyed = none_obeyed (g.C.DriftClock.readings c.args.clock.now) c.args.t c.args.place c.args.radio.now.given c.args.self.now
+      (g.Q.Orders.map c.args.orders.now) c.requires.time c.requires.timely;
+  few = omega arith;
+}
+
+pub obey-requires-clause-shown : goal.obey-requires-clause-shown
+obey-requires-clause-shown g c = shown_still _ _ _ _ _ _ _ c.loop-order.invariant.obeyed.acts c.requires.shown
+
+pub obey-requires-clause-time : goal.obey-requires-clause-time
+obey-requires-clause-time g c = c.loop-order.invariant.obeyed.acts.air.time
+
+pub obey-requires-clause-timely : goal.obey-requires-clause-timely
+obey-requires-clause-timely g c =
+    let given = c.args.radio.now.given in
+    let is : slice_get given c.loop-order.told ≡ Some (order_of c.in-Some.order) = sym c.at.ensures.order ∙ ap (option_map order_of) c.in-Some.is in
+    next_is_timely (g.C.DriftClock.readings c.args.clock.now) c.args.t c.args.place given (drop c.loop-order.told given) (order_of c.in-Some.order)
+    (first_left given c.loop-order.told ∙ is) c.loop-order.invariant.obeyed.timely
+
+pub loop-order-smaller : goal.loop-order-smaller
+loop-order-smaller g c =
+    let given = c.args.radio.now.given in
+    let is : slice_get given c.loop-order.told ≡ Some (order_of c.in-Some.order) = sym c.at.ensures.order ∙ ap (option_map order_of) c.in-Some.is in
+    let within = slice_get_within given c.loop-order.told (order_of c.in-Some.order) is in
+    omega (arith, within, c.at.ensures.few)
+
+pub loop-order-preserved : goal.loop-order-preserved
+loop-order-preserved g c =
+    let given = c.args.radio.now.given in
+    let told : ℕ = c.loop-order.told in
+    let is : slice_get given told ≡ Some (order_of c.in-Some.order) = sym c.at.ensures.order ∙ ap (option_map order_of) c.in-Some.is in
+    let within = slice_get_within given told (order_of c.in-Some.order) is in
+    record {
+      obeyed = subst (λ (l : List Order). AreObeyed (g.C.DriftClock.readings c.args.clock.now) c.args.t c.args.place given l c.args.self.now
+          (g.Q.Orders.map c.args.orders.now) c.obey.new.self (g.Q.Orders.map c.obey.new.orders)) (next_left given told)
+          (one_more_obeyed (g.C.DriftClock.readings c.args.clock.now) c.args.t c.args.place given (drop told given)
+          (order_of c.in-Some.order) c.args.self.now c.loop-order.self c.obey.new.self
+          (g.Q.Orders.map c.args.orders.now) (g.Q.Orders.map c.loop-order.orders) (g.Q.Orders.map c.obey.new.orders)
+          (first_left given told ∙ is) c.loop-order.invariant.obeyed c.in_ok-obey.ensures);
+      few = omega (arith, within, c.at.ensures.few);
+    }
+
+pub returns : goal.returns
+returns g c =
+    let given = c.args.radio.now.given in
+    all_obeyed (g.C.DriftClock.readings c.args.clock.now) c.args.t c.args.place given (drop c.loop-order.told given) c.args.self.now c.loop-order.self
+    (g.Q.Orders.map c.args.orders.now) (g.Q.Orders.map c.loop-order.orders)
+    (first_left given c.loop-order.told ∙ sym c.at.ensures.order ∙ ap (option_map order_of) c.in_default.is) c.loop-order.invariant.obeyed

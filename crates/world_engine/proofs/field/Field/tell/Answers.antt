@@ -1,0 +1,127 @@
+use Rattle.std.proofs.Common.{◌≡◌, ◌++◌, set, None, fold, sym, ◌∙◌, ap, subst}
+use Rattle.std.specs.Prelude.{option_copied}
+use Rattle.std.proofs.lemmas.Result.{on_ok_weaker}
+use Rattle.lwb_base.specs.Orders.{Told}
+use Rattle.radio_model.specs.Stations.{IsTime}
+use Rattle.node_core.specs.Rows.{orders_by}
+use Rattle.air_log.specs.Devices.{obeyed}
+use Rattle.air_log.specs.DeviceStates.{DeviceState, whole, row_of, made_by}
+use Rattle.world_engine.specs.Fields.{FieldState, IsShown}
+use Rattle.world_engine.proofs.ActsInTurn.{acts_seen}
+use Rattle.world_engine.proofs.ObeyedInTurn.{shown_still}
+use Rattle.world_engine.proofs.StepsInCode.{field_as_was}
+use Rattle.world_engine.proofs.Reactions.{field_summed, reacted, moves, keeps_setup, noted_is, noted_others, noted_own, moves_acts, event_acts}
+use Rattle.world_engine.proofs.field.Field.tell.Goals as goal
+
+pub invariant_of-self : goal.invariant_of-self
+invariant_of-self g c =
+    let t = c.args.t in
+    let p = c.args.place in
+    let orders = g.Q.Orders.map c.args.orders.now in
+    let old : FieldState = record {
+      medium = c.self.inside.medium;
+      devices = c.self.inside.devices.items;
+      air = c.self.inside.air;
+      deliveries = c.self.inside.deliveries.items;
+      drops = c.self.inside.drops.items;
+      sums = c.self.inside.sums.items;
+    } in
+    let shown : IsShown t old orders p = subst (λ (w : FieldState). IsShown t w orders p) (sym c.self.view_is) c.requires.shown in
+    let state = c.index_mut-device.result.now in
+    let row = row_of (g.C.DriftClock.readings c.args.clock.now) t c.args.event.now state in
+    let setup = ap (λ (d : DeviceState). d.setup) c.delivered-delivery.ensures.once ∙ ap (λ (d : DeviceState). d.setup) c.react.ensures.after
+    ∙ keeps_setup state row in
+    field_summed _ (set old.sums c.from-2.result c.note.new.self)
+    (field_as_was t p old orders shown c.from.result c.from.ensures state c.index_mut-device.ensures.value c.self.invariant
+    c.delivered-delivery.new.self setup c.self.inside.air c.self.inside.deliveries.items)
+
+pub obey_all-requires-clause-shown : goal.obey_all-requires-clause-shown
+obey_all-requires-clause-shown g c =
+    let t = c.args.t in
+    let p = c.args.place in
+    let clock = g.C.DriftClock.readings c.args.clock.now in
+    let orders = g.Q.Orders.map c.args.orders.now in
+    let old : FieldState = record {
+      medium = c.self.inside.medium;
+      devices = c.self.inside.devices.items;
+      air = c.self.inside.air;
+      deliveries = c.self.inside.deliveries.items;
+      drops = c.self.inside.drops.items;
+      sums = c.self.inside.sums.items;
+    } in
+    let shown : IsShown t old orders p = subst (λ (w : FieldState). IsShown t w orders p) (sym c.self.view_is) c.requires.shown in
+    let time : IsTime old.medium t = subst (λ (w : FieldState). IsTime w.medium t) (sym c.self.view_is) c.requires.time in
+    let state = c.index_mut-device.result.now in
+    let row = row_of clock t c.args.event.now state in
+    let ended = c.requires.sent.0 in
+    let is_sent = c.requires.sent.1 in
+    let is_after : c.delivered-delivery.new.self ≡ reacted state row = c.delivered-delivery.ensures.once
+    ∙ ap (λ (d : DeviceState). record d { delivery = None }) c.react.ensures.after in
+    let sum = c.index_mut-windows.result.now in
+    let sums = set old.sums c.from-2.result c.note.new.self in
+    let goes =
+    noted_is t p old orders shown c.from.result c.from.ensures state c.index_mut-device.ensures.value clock c.args.event.now ended c.react.new.self
+    c.is_in_window-before.result c.is_in_window-after.result c.is_alarm-by_alarm.result (option_copied c.args.sent) sum c.note.new.self
+    c.react.ensures.after c.is_in_window-before.ensures c.is_in_window-after.ensures c.is_alarm-by_alarm.ensures is_sent c.note.ensures.after in
+    let others =
+    noted_others t p old orders shown c.from.result c.from.ensures state c.index_mut-device.ensures.value clock c.args.event.now ended
+    c.from-2.result c.from-2.ensures sum c.note.new.self c.index_mut-windows.ensures.value goes c.note.ensures.small in
+    let own =
+    noted_own t p old orders shown c.from.result c.from.ensures state c.index_mut-device.ensures.value clock c.args.event.now ended c.from-2.result
+    c.from-2.ensures sum c.note.new.self c.index_mut-windows.ensures.value goes c.note.ensures.small in
+    let acts =
+    moves_acts t p old orders shown c.from.result c.from.ensures state c.index_mut-device.ensures.value clock c.args.event.now c.self.invariant time ended
+    c.delivered-delivery.new.self c.delivered-delivery.result c.log_delivery.new.self is_after
+    (c.delivered-delivery.ensures.delivery ∙ ap (λ (d : DeviceState). d.delivery) c.react.ensures.after) sums others own c.in_ok-log_delivery.ensures in
+    shown_still t p (moves t c.args.event.now ended state row) old c.log_delivery.new.self orders orders acts shown
+
+pub obey_all-requires-clause-time : goal.obey_all-requires-clause-time
+obey_all-requires-clause-time g c = subst (λ (w : FieldState). IsTime w.medium c.args.t) (sym c.in_ok-log_delivery.ensures)
+    (subst (λ (w : FieldState). IsTime w.medium c.args.t) (sym c.self.view_is) c.requires.time)
+
+pub returns : goal.returns
+returns g c = λ ended is_sent.
+    let t = c.args.t in
+    let p = c.args.place in
+    let clock = g.C.DriftClock.readings c.args.clock.now in
+    let orders = g.Q.Orders.map c.args.orders.now in
+    let old : FieldState = record {
+      medium = c.self.inside.medium;
+      devices = c.self.inside.devices.items;
+      air = c.self.inside.air;
+      deliveries = c.self.inside.deliveries.items;
+      drops = c.self.inside.drops.items;
+      sums = c.self.inside.sums.items;
+    } in
+    let shown : IsShown t old orders p = subst (λ (w : FieldState). IsShown t w orders p) (sym c.self.view_is) c.requires.shown in
+    let time : IsTime old.medium t = subst (λ (w : FieldState). IsTime w.medium t) (sym c.self.view_is) c.requires.time in
+    let state = c.index_mut-device.result.now in
+    let row = row_of clock t c.args.event.now state in
+    let is_after : c.delivered-delivery.new.self ≡ reacted state row = c.delivered-delivery.ensures.once
+    ∙ ap (λ (d : DeviceState). record d { delivery = None }) c.react.ensures.after in
+    let sum = c.index_mut-windows.result.now in
+    let sums = set old.sums c.from-2.result c.note.new.self in
+    let goes =
+    noted_is t p old orders shown c.from.result c.from.ensures state c.index_mut-device.ensures.value clock c.args.event.now ended c.react.new.self
+    c.is_in_window-before.result c.is_in_window-after.result c.is_alarm-by_alarm.result (option_copied c.args.sent) sum c.note.new.self
+    c.react.ensures.after c.is_in_window-before.ensures c.is_in_window-after.ensures c.is_alarm-by_alarm.ensures is_sent c.note.ensures.after in
+    let others =
+    noted_others t p old orders shown c.from.result c.from.ensures state c.index_mut-device.ensures.value clock c.args.event.now ended
+    c.from-2.result c.from-2.ensures sum c.note.new.self c.index_mut-windows.ensures.value goes c.note.ensures.small in
+    let own =
+    noted_own t p old orders shown c.from.result c.from.ensures state c.index_mut-device.ensures.value clock c.args.event.now ended c.from-2.result
+    c.from-2.ensures sum c.note.new.self c.index_mut-windows.ensures.value goes c.note.ensures.small in
+    let acts =
+    moves_acts t p old orders shown c.from.result c.from.ensures state c.index_mut-device.ensures.value clock c.args.event.now c.self.invariant time ended
+    c.delivered-delivery.new.self c.delivered-delivery.result c.log_delivery.new.self is_after
+    (c.delivered-delivery.ensures.delivery ∙ ap (λ (d : DeviceState). d.delivery) c.react.ensures.after) sums others own c.in_ok-log_delivery.ensures in
+    let ordered : c.react.new.radio.given ≡ orders_by row = c.react.ensures.orders.given ∙ ap (λ (r : Told). r.given ++ orders_by row) c.new-radio.ensures in
+    on_ok_weaker c.obey_all.result
+    (λ all. acts_seen c.self.view_is (
+    event_acts t p old orders shown c.from.result c.from.ensures state c.index_mut-device.ensures.value clock c.args.event.now ended
+    c.react.new.radio.given c.log_delivery.new.self c.obey_all.new.self (g.Q.Orders.map c.obey_all.new.orders) ordered
+    (λ made. c.react.ensures.whole made ended
+    ∙ ap (λ (d : DeviceState). fold (obeyed clock state.setup.id t) (whole d (made_by t c.args.event.now ended state.power row made))
+    (orders_by row)) c.react.ensures.after)
+    acts all))
+    c.obey_all.ensures

@@ -1,0 +1,11 @@
+pub mod Fields
+pub mod FieldSteps
+pub mod FieldHearings
+pub mod Moments
+pub mod Running
+pub mod Runs
+pub mod Counting
+pub mod Worlds
+pub mod WorldShapes
+pub mod Frames
+pub mod EventOrders

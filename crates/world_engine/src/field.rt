@@ -1,0 +1,254 @@
+//! The devices of a run on the air that they share: what is told to one of them, and what it orders.
+
+ghost use Rattle.std.specs.Prelude.{◌≡◌, ◌≤◌, ◌<◌, ◌^◌, ℕ, List, [], ◌++◌, true, false, Option, Some, None};
+ghost use Rattle.std.specs.Prelude.{OnOk, IfOk, length, option_to_list, All, fold, option_copied};
+ghost use Rattle.event_calendar.specs.Orders.{at};
+ghost use Rattle.event_calendar.specs.declared.class.Class.TheVariants.{SendingEnd as EndOf, Alarm as AlarmOf, SendingStart as StartOf};
+ghost use Rattle.bus_rules.specs.Cores.{Setup};
+ghost use Rattle.radio_model.specs.Stations.{IsTime};
+ghost use Rattle.radio_model.specs.declared.sending.Sending.{Sending as SendingOf};
+ghost use Rattle.air_log.specs.AlarmRuns.{IsAlarmRun};
+ghost use Rattle.air_log.specs.Devices.{Device as DeviceOf, obeyed, event as event_at};
+ghost use Rattle.air_log.specs.Trails.{is_due, alarmed, begun as begun_at, starting};
+ghost use Rattle.air_log.specs.DeviceStates.{IsTimely};
+ghost use Rattle.air_log.specs.WindowLogs.{is_alarm};
+ghost use Rattle.air_log.specs.WindowSums.{sent_with};
+ghost use Rattle.world_engine.specs.EventOrders.{order_of};
+ghost use Rattle.world_engine.specs.Fields.{Shows, IsShown, entries_of};
+ghost use Rattle.world_engine.specs.FieldSteps.{Acts, IsFirst, IsClosed};
+
+use crate::event_radio::{EventRadio, OrderRef};
+use air_log::{Air, Device, Entry, SentEntry, TunedEntry, WindowSum};
+use bus_rules::{Delivery, DropLine};
+use event_calendar::{Class, Orders};
+use lwb_base::{Event, Memory, NodeId, Packet};
+use radio_model::Medium;
+use scenario_text::Scenario;
+use std::alloc::Global;
+use std::marker::Model;
+use tick_clock::DriftClock;
+
+// The medium, the devices by ascending ids, what is in the lists so far, in the order in which it was made, and what the
+// windows of each device count.
+#[derive(Drop)]
+pub(crate) struct Field {
+    pub(crate) medium: Medium,
+    pub(crate) devices: Vec<Device>,
+    pub(crate) air: Air,
+    pub(crate) deliveries: Vec<Delivery>,
+    pub(crate) drops: Vec<DropLine>,
+    pub(crate) sums: Vec<WindowSum>,
+}
+
+impl Model for Field {
+    ghost use Rattle.world_engine.specs.Fields.{FieldState, IsField};
+
+    ghost Value = { FieldState };
+
+    ghost view = { λ w. record {
+      medium = w.medium;
+      devices = w.devices.items;
+      air = w.air;
+      deliveries = w.deliveries.items;
+      drops = w.drops.items;
+      sums = w.sums.items;
+    } };
+
+    ghost invariant = { λ w. IsField
+        (record { medium = w.medium; devices = w.devices.items; air = w.air; deliveries = w.deliveries.items; drops = w.drops.items; sums = w.sums.items }) };
+}
+
+impl Field {
+    // The device at the place is told of an event at tick t, and what it orders is done. A Sent comes with the packet of the
+    // sending that ended.
+    pub(crate) fn tell<C: DriftClock, Q: Orders>(
+        &mut self,
+        orders: &mut Q,
+        clock: &C,
+        place: u8,
+        t: u64,
+        event: &Event,
+        sent: Option<&Packet>,
+    ) -> Result<(), Memory>
+        requires sent { (ended : Option SendingOf) × (option_copied sent ≡ sent_with event.now ended) }
+        requires shown { IsShown t self.old (Q.map orders.old) place }
+        requires time { IsTime self.old.medium t }
+        requires early { t ≤ 2 ^ 45 }
+        ensures { (ended : Option SendingOf) → option_copied sent.entry ≡ sent_with event.now ended
+            → OnOk result
+            (Acts t place (λ s d. event_at (C.readings clock.now) s t event.now ended d) [] [] self.old (Q.map orders.old) self.new (Q.map orders.new)) }
+    {
+        let by_alarm = is_alarm(event);
+        let mut radio = EventRadio::new();
+        let device = &mut self.devices[usize::from(place)];
+        let before = device.is_in_window();
+        device.react(clock, t, event, &mut radio);
+        let after = device.is_in_window();
+        let delivery = device.delivered();
+        let windows = &mut self.sums[usize::from(place)];
+        windows.note(before, after, by_alarm, sent);
+        self.log_delivery(delivery)?;
+        self.obey_all(orders, clock, place, t, &radio)
+    }
+
+    // The orders that the device at the place gave to its radio, at tick t.
+    fn obey_all<C: DriftClock, Q: Orders>(
+        &mut self,
+        orders: &mut Q,
+        clock: &C,
+        place: u8,
+        t: u64,
+        radio: &EventRadio,
+    ) -> Result<(), Memory>
+        requires shown { IsShown t self.old (Q.map orders.old) place }
+        requires time { IsTime self.old.medium t }
+        requires timely { All IsTimely radio.now.given }
+        ensures { OnOk result (Acts t place (λ s d. fold (obeyed (C.readings clock.now) s.id t) d radio.now.given) [] [] self.old (Q.map orders.old) self.new
+            (Q.map orders.new)) }
+    {
+        let mut told = 0;
+        while let Some(order) = radio.at(told) {
+            self.obey(orders, clock, place, t, order)?;
+            told += 1;
+        }
+        Ok(())
+    }
+
+    // An order of the device at the place, at tick t.
+    pub(crate) fn obey<C: DriftClock, Q: Orders>(
+        &mut self,
+        orders: &mut Q,
+        clock: &C,
+        place: u8,
+        t: u64,
+        order: OrderRef<'_>,
+    ) -> Result<(), Memory>
+        requires shown { IsShown t self.old (Q.map orders.old) place }
+        requires time { IsTime self.old.medium t }
+        requires timely { IsTimely (order_of order) }
+        ensures { OnOk result (Acts t place (λ s d. obeyed (C.readings clock.now) s.id t d (order_of order.entry)) [] [] self.old (Q.map orders.old) self.new
+            (Q.map orders.new)) }
+    {
+        let device = &mut self.devices[usize::from(place)];
+        let node = device.node();
+        match order {
+            OrderRef::Listen(rank) => {
+                let closed = device.listen(rank, t);
+                self.medium.tune(node, Some(rank), t);
+                self.log_tuning(closed)
+            }
+            OrderRef::Off => {
+                let closed = device.silence(t);
+                self.medium.tune(node, None, t);
+                self.log_tuning(closed)
+            }
+            OrderRef::SendAt(local, packet) => {
+                let tick = device.order_sending(clock, t, local, packet);
+                orders.set(place, Class::SendingStart, tick);
+                Ok(())
+            }
+            OrderRef::Alarm(local) => {
+                let tick = device.set_alarm(clock, t, local);
+                orders.set(place, Class::Alarm, tick);
+                Ok(())
+            }
+        }
+    }
+
+    // The alarms of the device at the place that are due at tick t, one after another.
+    pub(crate) fn alarm<C: DriftClock, Q: Orders>(
+        &mut self,
+        orders: &mut Q,
+        clock: &C,
+        place: u8,
+        t: u64,
+    ) -> Result<(), Memory>
+        requires shown { IsShown t self.old (Q.map orders.old) place }
+        requires time { IsTime self.old.medium t }
+        requires early { t ≤ 2 ^ 45 }
+        requires ends { (s : Setup) (d : DeviceOf) → Shows s t self.old (Q.map orders.old) place d
+            → IsAlarmRun (C.readings clock.now) s t d (alarmed (C.readings clock.now) s t d) }
+        ensures { OnOk result (Acts t place (λ s d. alarmed (C.readings clock.now) s t d) [] [] self.old (Q.map orders.old) self.new (Q.map orders.new)) }
+    {
+        // There are fewer of them than this.
+        for _ in 0..u64::MAX {
+            if !self.take_alarm(orders, place, t) {
+                return Ok(());
+            }
+            self.tell(orders, clock, place, t, &Event::Alarm, None)?;
+        }
+        unreachable!()
+    }
+
+    // The ordered sending of the device at the place, which stands at tick t, starts if it can.
+    pub(crate) fn begin<Q: Orders>(
+        &mut self,
+        orders: &mut Q,
+        place: u8,
+        t: u64,
+    ) -> Result<(), Memory>
+        requires shown { IsShown t self.old (Q.map orders.old) place }
+        requires time { IsTime self.old.medium t }
+        requires early { t ≤ 2 ^ 45 }
+        requires stands { at (Q.map orders.old) place StartOf ≡ Some t }
+        ensures { OnOk result ((begun : List SendingOf) × Acts t place (λ s d. begun_at s t d) begun [] self.old (Q.map orders.old) self.new (Q.map orders.new)
+            × ((s : Setup) (d : DeviceOf) → Shows s t self.old (Q.map orders.old) place d → begun ≡ starting s t d)) }
+    {
+        orders.clear(place, Class::SendingStart);
+        let device = &mut self.devices[usize::from(place)];
+        let Some(x) = device.begin(t) else {
+            return Ok(());
+        };
+        orders.set(place, Class::SendingEnd, x.end);
+        self.medium.start(x.node, t, &x.packet);
+        self.air.push(Entry::Sent(SentEntry {
+            rank: x.rank,
+            node: x.node,
+            start: x.start,
+            end: x.end,
+            packet: x.packet,
+        }))
+    }
+
+    // Whether the alarm of the device at the place is due at tick t; it is not set any more then.
+    fn take_alarm<Q: Orders>(&mut self, orders: &mut Q, place: u8, t: u64) -> bool
+        requires shown { IsShown t self.old (Q.map orders.old) place }
+        requires time { IsTime self.old.medium t }
+        ensures due { (s : Setup) (d : DeviceOf) → Shows s t self.old (Q.map orders.old) place d → result ≡ is_due t d.alarm }
+        ensures taken { result ≡ true → Acts t place (λ s d. record d { alarm = None }) [] [] self.old (Q.map orders.old) self.new (Q.map orders.new) }
+        ensures stays { result ≡ false → (self.new ≡ self.old) × (Q.map orders.new ≡ Q.map orders.old) }
+    {
+        let device = &mut self.devices[usize::from(place)];
+        let due = device.take_alarm(t);
+        if due {
+            orders.clear(place, Class::Alarm);
+        }
+        due
+    }
+
+    // A delivery, if there is one.
+    fn log_delivery(&mut self, delivery: Option<Delivery>) -> Result<(), Memory>
+        ensures { OnOk result (self.new ≡ record self.old { deliveries = self.old.deliveries ++ option_to_list delivery }) }
+    {
+        if let Some(delivery) = delivery {
+            self.deliveries.push(delivery)?;
+        }
+        Ok(())
+    }
+
+    // A tuning that has ended, if there is one.
+    pub(crate) fn log_tuning(&mut self, closed: Option<TunedEntry>) -> Result<(), Memory>
+        ensures { OnOk result (self.new ≡ record self.old { air = self.old.air ++ entries_of closed }) }
+    {
+        match closed {
+            Some(entry) => self.air.push(Entry::Tuned(entry)),
+            None => Ok(()),
+        }
+    }
+}
+
+fn is_alarm(event: &Event) -> bool
+    ensures { result ≡ is_alarm event.now }
+{
+    matches!(event, Event::Alarm)
+}

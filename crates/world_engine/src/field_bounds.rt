@@ -1,0 +1,134 @@
+//! A field at the beginning and at the end of a run.
+
+ghost use Rattle.std.specs.Prelude.{◌≡◌, ◌≤◌, ◌<◌, ◌^◌, ℕ, List, [], OnOk, IfOk, length, map, replicate, slice_get, Some, Contains};
+ghost use Rattle.world_engine.specs.Fields.{IsShown, ids_of};
+ghost use Rattle.world_engine.specs.FieldSteps.{IsFirst, IsClosed, GoesSilent, first_device, node_id, nothing_counted};
+ghost use Rattle.event_calendar.specs.Orders.{Due as DueOf};
+ghost use Rattle.air_log.specs.LogText.{in_order};
+ghost use Rattle.air_log.specs.Deliveries.{comes_before};
+
+use crate::deliveries::sort_deliveries;
+use crate::field::Field;
+use air_log::{Air, Device, WindowSum};
+use bus_rules::Delivery;
+use lwb_base::{Memory, NodeId};
+use radio_model::Medium;
+use scenario_text::{NodeLine, Scenario};
+use std::alloc::Global;
+use std::mem;
+
+impl Field {
+    // All nodes are off, and nothing has happened.
+    pub(crate) fn new(alloc: Global, s: &Scenario) -> Result<Field, Memory>
+        ensures { IfOk result (λ w. IsFirst s.now w) }
+    {
+        let profile = s.profile();
+        let nodes = node_ids(alloc, s.nodes())?;
+        let medium = Medium::new(alloc, &profile, nodes.as_slice())?;
+        Ok(Field {
+            medium,
+            devices: devices(alloc, s)?,
+            air: Air::new(alloc),
+            deliveries: Vec::new(alloc),
+            drops: Vec::new(alloc),
+            sums: sums(alloc, s)?,
+        })
+    }
+
+    // At the end of the run, tick t, all tunings end.
+    pub(crate) fn close(&mut self, t: u64) -> Result<(), Memory>
+        ensures { (due : List DueOf) → ((q : ℕ) → q < length self.old.devices → IsShown t self.old due q) → OnOk result (IsClosed t self.old due self.new) }
+    {
+        for place in 0..self.devices.as_slice().len() {
+            self.close_one(place, t)?;
+        }
+        Ok(())
+    }
+
+    // The tuning of the device at the place ends, and all its tunings are in the log.
+    fn close_one(&mut self, place: usize, t: u64) -> Result<(), Memory>
+        requires { place < length self.old.devices }
+        ensures { OnOk result (GoesSilent t place self.old self.new) }
+    {
+        let device = &mut self.devices[place];
+        let before = device.silence(t);
+        let last = device.hand_out();
+        self.log_tuning(before)?;
+        self.log_tuning(last)
+    }
+
+    // The deliveries, in the order in which a report has them. None stay in the field.
+    pub(crate) fn take_deliveries(&mut self, alloc: Global) -> Result<Vec<Delivery>, Memory>
+        ensures taken { IfOk result (λ v. v.items ≡ in_order comes_before self.old.deliveries) }
+        ensures rest { self.new ≡ record self.old { deliveries = [] } }
+    {
+        let mut deliveries = mem::replace(&mut self.deliveries, Vec::new(alloc));
+        sort_deliveries(&mut deliveries)?;
+        Ok(deliveries)
+    }
+
+    pub(crate) fn into_air(self) -> Air
+        ensures { result ≡ self.air }
+    {
+        self.air
+    }
+
+    // How many places there are.
+    pub(crate) fn places(&self) -> u8
+        ensures value { result ≡ length self.now.devices }
+        ensures range { (1 ≤ result) × (result ≤ 64) }
+    {
+        self.devices.as_slice().len() as u8
+    }
+
+    // The place of a node, counted from 0.
+    pub(crate) fn place_of(&self, node: NodeId) -> u8
+        requires { Contains (ids_of self.now) node }
+        ensures { slice_get (ids_of self.now) result ≡ Some node }
+    {
+        // Mostly the ids count from 1, and this is the place.
+        let first = usize::from(node.number()) - 1;
+        if first < self.devices.as_slice().len() && self.devices[first].node() == node {
+            return first as u8;
+        }
+        for (place, device) in self.devices.iter().enumerate() {
+            if device.node() == node {
+                return place as u8;
+            }
+        }
+        unreachable!()
+    }
+}
+
+fn node_ids(alloc: Global, lines: &[NodeLine]) -> Result<Vec<NodeId>, Memory>
+    ensures { IfOk result (λ v. v.items ≡ map node_id lines.now) }
+{
+    let mut nodes = Vec::new(alloc);
+    for line in lines {
+        nodes.push(line.node)?;
+    }
+    Ok(nodes)
+}
+
+fn devices(alloc: Global, s: &Scenario) -> Result<Vec<Device>, Memory>
+    ensures { IfOk result (λ v. v.items ≡ map (first_device s.now) s.now.nodes) }
+{
+    let profile = s.profile();
+    let mut devices = Vec::new(alloc);
+    for line in s.nodes() {
+        let device = Device::new(alloc, &profile, line.node, s.hosts(), s.sends())?;
+        devices.push(device)?;
+    }
+    Ok(devices)
+}
+
+fn sums(alloc: Global, s: &Scenario) -> Result<Vec<WindowSum>, Memory>
+    ensures { IfOk result (λ v. v.items ≡ replicate (length s.now.nodes) (nothing_counted s.now)) }
+{
+    let profile = s.profile();
+    let mut sums = Vec::new(alloc);
+    for _ in 0..s.nodes().len() {
+        sums.push(WindowSum::new(&profile, s.sends()))?;
+    }
+    Ok(sums)
+}

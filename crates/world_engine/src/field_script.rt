@@ -1,0 +1,122 @@
+//! What script lines do in a run.
+
+ghost use Rattle.std.specs.Prelude.{◌≡◌, ◌≤◌, ◌<◌, ◌^◌, ℕ, List, [], OnOk, length, slice_get, Some};
+ghost use Rattle.event_calendar.specs.Orders.{Due as DueOf};
+ghost use Rattle.bus_rules.specs.Cores.{Setup};
+ghost use Rattle.scenario_text.specs.ScenarioFacts.{IsAct};
+ghost use Rattle.scenario_text.specs.declared.script.Act.TheVariants.{On as OnOf, Off as OffOf, Put as PutOf};
+ghost use Rattle.radio_model.specs.Stations.{IsTime};
+ghost use Rattle.air_log.specs.Devices.{Device as DeviceOf};
+ghost use Rattle.air_log.specs.ScriptedDevices.{after_act};
+ghost use Rattle.air_log.specs.DeviceStates.{DeviceState as DeviceStateOf, CanBoot};
+ghost use Rattle.world_engine.specs.Fields.{Shows, IsShown};
+ghost use Rattle.world_engine.specs.FieldSteps.{Acts, IsTold};
+
+use crate::field::Field;
+use bus_rules::DropLine;
+use event_calendar::{Class, Orders};
+use lwb_base::{Event, Memory, Payload};
+use scenario_text::{Act, ScriptLine};
+use tick_clock::DriftClock;
+
+impl Field {
+    // A line of the script is told to the device at the place, at tick t.
+    pub(crate) fn act<C: DriftClock, Q: Orders>(
+        &mut self,
+        orders: &mut Q,
+        clock: &C,
+        place: u8,
+        t: u64,
+        line: &ScriptLine,
+    ) -> Result<(), Memory>
+        requires shown { IsShown t self.old (Q.map orders.old) place }
+        requires time { IsTime self.old.medium t }
+        requires early { t ≤ 2 ^ 45 }
+        requires node { (s : Setup) (d : DeviceOf) → Shows s t self.old (Q.map orders.old) place d → line.now.node ≡ s.id }
+        requires range { (s : Setup) (d : DeviceOf) → Shows s t self.old (Q.map orders.old) place d → IsAct s.profile line.now.act }
+        requires boots { (s : Setup) (d : DeviceOf) → Shows s t self.old (Q.map orders.old) place d → line.now.act ≡ OnOf → CanBoot d.power }
+        ensures { OnOk result (IsTold (C.readings clock.now) line.now t place line.now.act self.old (Q.map orders.old) self.new (Q.map orders.new)) }
+    {
+        match &line.act {
+            Act::On => self.switch_on(orders, clock, place, t),
+            Act::Off => self.switch_off(orders, place, t),
+            Act::Declare(stream, interval) => {
+                self.devices[usize::from(place)].declare(*stream, *interval);
+                Ok(())
+            }
+            Act::Leave(stream) => {
+                self.devices[usize::from(place)].leave(*stream);
+                Ok(())
+            }
+            Act::Put(stream, payload) => self.put(place, line, *stream, payload),
+        }
+    }
+
+    // Power comes on at the device at the place, at tick t.
+    fn switch_on<C: DriftClock, Q: Orders>(
+        &mut self,
+        orders: &mut Q,
+        clock: &C,
+        place: u8,
+        t: u64,
+    ) -> Result<(), Memory>
+        requires shown { IsShown t self.old (Q.map orders.old) place }
+        requires time { IsTime self.old.medium t }
+        requires early { t ≤ 2 ^ 45 }
+        requires boots { (s : Setup) (d : DeviceOf) → Shows s t self.old (Q.map orders.old) place d → CanBoot d.power }
+        ensures { (frame : ℕ) → OnOk result
+            (Acts t place (λ s d. after_act (C.readings clock.now) s t frame d OnOf d.power) [] [] self.old (Q.map orders.old) self.new (Q.map orders.new)) }
+    {
+        if self.devices[usize::from(place)].switch_on() {
+            self.tell(orders, clock, place, t, &Event::Boot, None)?;
+        }
+        Ok(())
+    }
+
+    // Power goes off.
+    fn switch_off<Q: Orders>(&mut self, orders: &mut Q, place: u8, t: u64) -> Result<(), Memory>
+        requires shown { IsShown t self.old (Q.map orders.old) place }
+        requires time { IsTime self.old.medium t }
+        ensures { (clock : ℕ → ℕ) (frame : ℕ)
+            → OnOk result (Acts t place (λ s d. after_act clock s t frame d OffOf d.power) [] [] self.old (Q.map orders.old) self.new (Q.map orders.new)) }
+    {
+        let device = &mut self.devices[usize::from(place)];
+        if !device.is_on() {
+            return Ok(());
+        }
+        let node = device.node();
+        let closed = device.switch_off(t);
+        self.medium.tune(node, None, t);
+        orders.clear(place, Class::Alarm);
+        orders.clear(place, Class::SendingStart);
+        self.log_tuning(closed)
+    }
+
+    // A packet is put to a stream of the device at the place, or dropped.
+    fn put(
+        &mut self,
+        place: u8,
+        line: &ScriptLine,
+        stream: u8,
+        payload: &Payload,
+    ) -> Result<(), Memory>
+        requires within { place < length self.old.devices }
+        requires stream { stream ≤ 3 }
+        requires payload { (d : DeviceStateOf) → slice_get self.old.devices place ≡ Some d → length payload.now ≤ d.setup.profile.payload_max }
+        ensures { (clock : ℕ → ℕ) (t : ℕ) (due : List DueOf) → IsTime self.old.medium t → IsShown t self.old due place
+            → ((s : Setup) (d : DeviceOf) → Shows s t self.old due place d → line.now.node ≡ s.id)
+            → OnOk result (IsTold clock line.now t place (PutOf stream payload.now) self.old due self.new due) }
+    {
+        let device = &mut self.devices[usize::from(place)];
+        if !device.put(stream, payload) {
+            return Ok(());
+        }
+        let drop = DropLine {
+            frame: line.frame,
+            node: line.node,
+            stream,
+        };
+        self.drops.push(drop)?;
+        Ok(())
+    }
+}

@@ -1,0 +1,227 @@
+//! The frames of a run, one after another.
+
+ghost use Rattle.std.specs.Prelude.{◌≡◌, ◌<◌, ◌≤◌, ◌+◌, ℕ, List, [], ◌∷◌, ◌++◌, Some, IfOk, OnOk, length};
+ghost use Rattle.event_calendar.specs.Orders.{IsNext};
+ghost use Rattle.event_calendar.specs.declared.class.Class.TheVariants.{SendingEnd as EndOf, Alarm as AlarmOf, SendingStart as StartOf};
+ghost use Rattle.scenario_text.specs.ScenarioFacts.{IsSoundScenario};
+ghost use Rattle.scenario_text.specs.declared.script.ScriptLine.{ScriptLine as LineOf};
+ghost use Rattle.air_log.specs.Trails.{run_end, frame_start};
+ghost use Rattle.air_log.specs.ClockLists.{clocks_by};
+ghost use Rattle.world_engine.specs.Counting.{TrailsStay, all_scans_before};
+ghost use Rattle.world_engine.specs.Moments.{Before, InLines, At};
+ghost use Rattle.world_engine.specs.Running.{IsRunning};
+ghost use Rattle.world_engine.specs.Frames.{told_before, IsCut, IsNextLine, IsPast};
+
+use crate::field::Field;
+use crate::field_counts::none_scanned;
+use event_calendar::{Class, Orders};
+use lwb_base::Memory;
+use scenario_text::{Scenario, ScriptLine};
+use std::alloc::Global;
+use tick_clock::DriftClock;
+
+impl Field {
+    // All frames. What is told and what is due in a frame is done before the next one begins. It gives back in how many of
+    // them each device scans, by its place.
+    pub(crate) fn frames<C: DriftClock, Q: Orders>(
+        &mut self,
+        alloc: Global,
+        orders: &mut Q,
+        s: &Scenario,
+        clocks: &[C],
+    ) -> Result<Vec<u32>, Memory>
+        requires sound { IsSoundScenario s.now }
+        requires clocks { length clocks.now ≡ length s.now.nodes }
+        requires running { IsRunning s.now (clocks_by C.readings s.now.nodes clocks.now) [] 0 Before self.old (Q.map orders.old) }
+        ensures running { OnOk result
+            (IsRunning s.now (clocks_by C.readings s.now.nodes clocks.now) s.now.script (run_end s.now) Before self.new (Q.map orders.new)) }
+        ensures scanned { IfOk result (λ v. v.items ≡ all_scans_before s.now (clocks_by C.readings s.now.nodes clocks.now) self.new.air s.now.frames) }
+    {
+        let mut scanned = none_scanned(alloc, s.nodes().len())?;
+        let mut told = 0;
+        for frame in 0..s.frames() {
+            told = self.lines(orders, s, clocks, frame, told)?;
+            self.count_scanners(&mut scanned);
+            self.events(orders, s, clocks, frame)?;
+        }
+        Ok(scanned)
+    }
+
+    // The script lines of a frame, of which this is the first. It gives back the first of a later frame.
+    fn lines<C: DriftClock, Q: Orders>(
+        &mut self,
+        orders: &mut Q,
+        s: &Scenario,
+        clocks: &[C],
+        frame: u32,
+        first: usize,
+    ) -> Result<usize, Memory>
+        requires sound { IsSoundScenario s.now }
+        requires clocks { length clocks.now ≡ length s.now.nodes }
+        requires frame { frame < s.now.frames }
+        requires first { IsCut s.now first frame }
+        requires running { IsRunning s.now (clocks_by C.readings s.now.nodes clocks.now) (told_before s.now frame) (frame_start s.now frame) Before self.old
+            (Q.map orders.old) }
+        ensures next { IfOk result (λ told. IsCut s.now told (frame + 1)) }
+        ensures told { OnOk result (IsRunning s.now (clocks_by C.readings s.now.nodes clocks.now) (told_before s.now (frame + 1)) (frame_start s.now frame)
+            (InLines (told_before s.now (frame + 1))) self.new (Q.map orders.new)) }
+        ensures running { OnOk result (IsRunning s.now (clocks_by C.readings s.now.nodes clocks.now) (told_before s.now (frame + 1)) (frame_start s.now frame)
+            (At EndOf) self.new (Q.map orders.new)) }
+        ensures stay { OnOk result (TrailsStay s.now (clocks_by C.readings s.now.nodes clocks.now) (frame_start s.now frame) self.old.air self.new.air) }
+    {
+        let t = u64::from(frame) * s.profile().frame();
+        let mut told = first;
+        while let Some(line) = s.script().get(told) {
+            if line.frame != frame {
+                return Ok(told);
+            }
+            self.line(orders, s, clocks, t, line)?;
+            told += 1;
+        }
+        Ok(told)
+    }
+
+    // The next line of the script is told at tick t.
+    fn line<C: DriftClock, Q: Orders>(
+        &mut self,
+        orders: &mut Q,
+        s: &Scenario,
+        clocks: &[C],
+        t: u64,
+        line: &ScriptLine,
+    ) -> Result<(), Memory>
+        requires sound { IsSoundScenario s.now }
+        requires clocks { length clocks.now ≡ length s.now.nodes }
+        requires next { (told : List LineOf) × IsNextLine s.now t told line.now
+            × IsRunning s.now (clocks_by C.readings s.now.nodes clocks.now) told t (InLines told) self.old (Q.map orders.old) }
+        ensures { (told : List LineOf) → IsNextLine s.now t told line.now
+            → IsRunning s.now (clocks_by C.readings s.now.nodes clocks.now) told t (InLines told) self.old (Q.map orders.old)
+            → OnOk result (IsRunning s.now (clocks_by C.readings s.now.nodes clocks.now) (told ++ line.now ∷ []) t (InLines (told ++ line.now ∷ [])) self.new
+            (Q.map orders.new) × TrailsStay s.now (clocks_by C.readings s.now.nodes clocks.now) t self.old.air self.new.air) }
+    {
+        let place = self.place_of(line.node);
+        self.act(orders, &clocks[usize::from(place)], place, t, line)?;
+        Ok(())
+    }
+
+    // All that is due in a frame, by tick, class and place.
+    fn events<C: DriftClock, Q: Orders>(
+        &mut self,
+        orders: &mut Q,
+        s: &Scenario,
+        clocks: &[C],
+        frame: u32,
+    ) -> Result<(), Memory>
+        requires sound { IsSoundScenario s.now }
+        requires clocks { length clocks.now ≡ length s.now.nodes }
+        requires frame { frame < s.now.frames }
+        requires running { IsRunning s.now (clocks_by C.readings s.now.nodes clocks.now) (told_before s.now (frame + 1)) (frame_start s.now frame)
+            (At EndOf) self.old (Q.map orders.old) }
+        ensures { OnOk result (IsRunning s.now (clocks_by C.readings s.now.nodes clocks.now) (told_before s.now (frame + 1))
+            (frame_start s.now (frame + 1)) Before self.new (Q.map orders.new)
+            × TrailsStay s.now (clocks_by C.readings s.now.nodes clocks.now) (frame_start s.now frame) self.old.air self.new.air) }
+    {
+        let until = (u64::from(frame) + 1) * s.profile().frame();
+        while let Some((t, class, place)) = orders.next() {
+            if t >= until {
+                return Ok(());
+            }
+            self.event(orders, s, clocks, t, class, place)?;
+        }
+        Ok(())
+    }
+
+    // What is due next: at tick t, of this class, at this place.
+    fn event<C: DriftClock, Q: Orders>(
+        &mut self,
+        orders: &mut Q,
+        s: &Scenario,
+        clocks: &[C],
+        t: u64,
+        class: Class,
+        place: u8,
+    ) -> Result<(), Memory>
+        requires sound { IsSoundScenario s.now }
+        requires clocks { length clocks.now ≡ length s.now.nodes }
+        requires within { t < run_end s.now }
+        requires next { IsNext (Q.map orders.old) (Some (t, class, place)) }
+        requires running { (told : List LineOf) × IsRunning s.now (clocks_by C.readings s.now.nodes clocks.now) told t (At class) self.old (Q.map orders.old) }
+        ensures { (told : List LineOf) → IsRunning s.now (clocks_by C.readings s.now.nodes clocks.now) told t (At class) self.old (Q.map orders.old)
+            → OnOk result (IsRunning s.now (clocks_by C.readings s.now.nodes clocks.now) told t (At class) self.new (Q.map orders.new)
+            × IsPast t class place (Q.map orders.new) × TrailsStay s.now (clocks_by C.readings s.now.nodes clocks.now) t self.old.air self.new.air) }
+    {
+        match class {
+            Class::SendingEnd => self.end_due(orders, s, clocks, t, place),
+            Class::Alarm => self.alarm_due(orders, s, clocks, t, place),
+            Class::SendingStart => self.start_due(orders, s, clocks, t, place),
+        }
+    }
+
+    // The sending of the device at the place ends at tick t.
+    fn end_due<C: DriftClock, Q: Orders>(
+        &mut self,
+        orders: &mut Q,
+        s: &Scenario,
+        clocks: &[C],
+        t: u64,
+        place: u8,
+    ) -> Result<(), Memory>
+        requires sound { IsSoundScenario s.now }
+        requires clocks { length clocks.now ≡ length s.now.nodes }
+        requires within { t < run_end s.now }
+        requires next { IsNext (Q.map orders.old) (Some (t, EndOf, place)) }
+        requires running { (told : List LineOf) × IsRunning s.now (clocks_by C.readings s.now.nodes clocks.now) told t (At EndOf) self.old (Q.map orders.old) }
+        ensures { (told : List LineOf) → IsRunning s.now (clocks_by C.readings s.now.nodes clocks.now) told t (At EndOf) self.old (Q.map orders.old)
+            → OnOk result (IsRunning s.now (clocks_by C.readings s.now.nodes clocks.now) told t (At EndOf) self.new (Q.map orders.new)
+            × IsPast t EndOf place (Q.map orders.new) × TrailsStay s.now (clocks_by C.readings s.now.nodes clocks.now) t self.old.air self.new.air) }
+    {
+        self.end(orders, s.trace(), clocks, place, t)?;
+        Ok(())
+    }
+
+    // The alarm of the device at the place is due at tick t.
+    fn alarm_due<C: DriftClock, Q: Orders>(
+        &mut self,
+        orders: &mut Q,
+        s: &Scenario,
+        clocks: &[C],
+        t: u64,
+        place: u8,
+    ) -> Result<(), Memory>
+        requires sound { IsSoundScenario s.now }
+        requires clocks { length clocks.now ≡ length s.now.nodes }
+        requires within { t < run_end s.now }
+        requires next { IsNext (Q.map orders.old) (Some (t, AlarmOf, place)) }
+        requires running { (told : List LineOf)
+            × IsRunning s.now (clocks_by C.readings s.now.nodes clocks.now) told t (At AlarmOf) self.old (Q.map orders.old) }
+        ensures { (told : List LineOf) → IsRunning s.now (clocks_by C.readings s.now.nodes clocks.now) told t (At AlarmOf) self.old (Q.map orders.old)
+            → OnOk result (IsRunning s.now (clocks_by C.readings s.now.nodes clocks.now) told t (At AlarmOf) self.new (Q.map orders.new)
+            × IsPast t AlarmOf place (Q.map orders.new) × TrailsStay s.now (clocks_by C.readings s.now.nodes clocks.now) t self.old.air self.new.air) }
+    {
+        self.alarm(orders, &clocks[usize::from(place)], place, t)?;
+        Ok(())
+    }
+
+    // What the device at the place is to send starts at tick t.
+    fn start_due<C: DriftClock, Q: Orders>(
+        &mut self,
+        orders: &mut Q,
+        s: &Scenario,
+        clocks: &[C],
+        t: u64,
+        place: u8,
+    ) -> Result<(), Memory>
+        requires sound { IsSoundScenario s.now }
+        requires clocks { length clocks.now ≡ length s.now.nodes }
+        requires within { t < run_end s.now }
+        requires next { IsNext (Q.map orders.old) (Some (t, StartOf, place)) }
+        requires running { (told : List LineOf)
+            × IsRunning s.now (clocks_by C.readings s.now.nodes clocks.now) told t (At StartOf) self.old (Q.map orders.old) }
+        ensures { (told : List LineOf) → IsRunning s.now (clocks_by C.readings s.now.nodes clocks.now) told t (At StartOf) self.old (Q.map orders.old)
+            → OnOk result (IsRunning s.now (clocks_by C.readings s.now.nodes clocks.now) told t (At StartOf) self.new (Q.map orders.new)
+            × IsPast t StartOf place (Q.map orders.new) × TrailsStay s.now (clocks_by C.readings s.now.nodes clocks.now) t self.old.air self.new.air) }
+    {
+        self.begin(orders, place, t)?;
+        Ok(())
+    }
+}

@@ -1,0 +1,15 @@
+//! What runs a scenario: its nodes over one radio medium in true time, each with a clock of its own. It promises a lawful log, and
+//! what its nodes delivered, lost and became; what follows from a lawful log is said above.
+#![tactic(auto)]
+
+mod deliveries;
+mod engine;
+mod event_radio;
+mod field;
+mod field_bounds;
+mod field_counts;
+mod field_ends;
+mod field_script;
+mod frames;
+
+pub use engine::Engine;
