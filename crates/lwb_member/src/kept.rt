@@ -1,9 +1,9 @@
 ghost use Rattle.lwb_base.specs.Messages.{code_of};
 
-use code_order::Coded;
 use lwb_base::NodeId;
 use schedule_codec::Ack;
 use std::marker::Model;
+use stream_table::code_order::Coded;
 
 // A request that a host keeps until it plans, or what stands in a place for one that is not used.
 #[derive(Clone, Copy)]

@@ -24,7 +24,7 @@ use lwb_base::{NodeId, Owner, Packet};
 use lwb_packets::Request;
 use schedule_codec::{Ack, Acks, Schedule, write};
 use stream_source::Streams;
-use stream_table::{Answer, Table};
+use stream_table::{Answer, Table, code_order};
 
 // The requests that were kept are put to the table, in their order. What is acknowledged of them.
 pub(crate) fn answer_kept(table: &mut Table, kept: &[Kept], frame: u32) -> Acks

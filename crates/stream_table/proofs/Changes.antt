@@ -7,7 +7,7 @@ use Rattle.std.proofs.lemmas.Bool.{ne_eqb, lt-ltb, le-ltb, ltb-true, ltb-false}
 use Rattle.std.proofs.lemmas.List.{length-map}
 use Rattle.std.proofs.lemmas.Option.{get_or_from_slice_get}
 use Rattle.bus_rules.specs.Tables.{Entry, code_in, has_code, AreEntries, entry_of, without, seen, missed}
-use Rattle.code_order.specs.Order.{IsAt, IsGap}
+use Rattle.stream_table.specs.CodeOrder.{IsAt, IsGap}
 use Rattle.stream_table.specs.Entries.{granted_once, misses_last}
 use Rattle.stream_table.proofs.Order.{Keeps, Sifts, ascends_map, ascends_filter_map, ascends_filter}
 use Rattle.stream_table.proofs.Edits.{map_none, map_at, sift_none, sift_set, sift_remove, without_none, without_at}

@@ -1,7 +1,7 @@
 -- The entries of a table as a list in the order of its codes.
 use Rattle.std.proofs.Common.{◌≡◌, ◌∙◌, ℕ, ◌≤◌, List, [], ◌∷◌, Bool, true, false, not, ◌&&◌, ◌||◌, ◌==◌, nat_lt}
 use Rattle.std.proofs.Common.{if◌then◌else◌, is_some, is_none, length, Option, Some, None, refl, ap}
-use Rattle.code_order.specs.Order as order
+use Rattle.stream_table.specs.CodeOrder as order
 use Rattle.bus_rules.specs.Tables.{Entry, Above, Ascends, AreEntries, code_in, entry_of, with_entry}
 use Rattle.stream_table.specs.Entries.{is_full_for}
 

@@ -1,4 +1,5 @@
 -- kept for the crates above
+pub mod CodeOrder
 pub mod Order
 -- for this crate alone
 pub mod InOrder

@@ -4,8 +4,8 @@ use Rattle.std.proofs.Common.{filter, filter_map, Option, Some, None, refl, sym,
 use Rattle.std.specs.List.{slice_get, cons_option}
 use Rattle.std.specs.Option.{IfSome}
 use Rattle.std.proofs.lemmas.Bool.{ne_eqb, eqb-false}
-use Rattle.code_order.specs.Order.{placed}
-use Rattle.code_order.proofs.Order.{item_at, ascends_placed}
+use Rattle.stream_table.specs.CodeOrder.{placed}
+use Rattle.stream_table.proofs.CodeOrder.{item_at, ascends_placed}
 use Rattle.bus_rules.specs.Tables.{Entry, Above, Ascends, code_in, entry_of, with_entry}
 use Rattle.stream_table.proofs.InOrder.{in_order, out_order, placed_is}
 

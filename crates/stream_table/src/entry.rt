@@ -3,8 +3,8 @@ ghost use Rattle.bus_rules.specs.Tables.{seen, missed, code_in, interval_in};
 ghost use Rattle.bus_rules.specs.Granting.{owed_to};
 ghost use Rattle.stream_table.specs.Entries.{granted_once};
 
+use crate::code_order::Coded;
 use bus_rules::owed;
-use code_order::Coded;
 use lwb_base::{NodeId, Owner};
 use std::marker::Model;
 

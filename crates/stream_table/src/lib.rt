@@ -1,6 +1,8 @@
 //! The table of a host: which streams it accepted, what is owed to them, and how often they went unheard.
+//! And short lists in the order of their items' codes, as this table is one.
 #![tactic(auto)]
 
+pub mod code_order;
 mod entry;
 mod places;
 mod table;

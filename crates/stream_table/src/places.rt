@@ -1,11 +1,11 @@
 ghost use Rattle.std.specs.Prelude.{◌≡◌, ◌-◌, ◌<◌, ◌^◌, IfOk, IfErr, IfSome, length, is_some, if◌then◌else◌, map, filter_map, slice_set};
-ghost use Rattle.code_order.specs.Order.{IsAt, IsGap, put_answer};
+ghost use Rattle.stream_table.specs.CodeOrder.{IsAt, IsGap, put_answer};
 ghost use Rattle.bus_rules.specs.Tables.{AreEntries, Ascends, code_in, entry_of, with_entry, without, seen, missed};
 ghost use Rattle.stream_table.specs.Entries.{granted_once, misses_last, is_full_for};
 
+use crate::code_order::{self, Placement};
 use crate::entry::Entry;
 use arrayvec::ArrayVec;
-use code_order::Placement;
 
 // The place of the entry with this code, or the place at which it would stand.
 #[tactic(auto, using(crate::proofs::InOrder::in_order))]

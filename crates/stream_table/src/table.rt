@@ -6,10 +6,10 @@ ghost use Rattle.bus_rules.specs.Granting.{owed_to, total};
 ghost use Rattle.stream_table.specs.Requests.{ask_of, answer_to};
 ghost use Rattle.stream_table.specs.Entries.{grant_owner, owed_by};
 
+use crate::code_order::Placement;
 use crate::entry::Entry;
 use crate::places;
 use arrayvec::ArrayVec;
-use code_order::Placement;
 use lwb_base::Owner;
 use lwb_packets::Request;
 use std::marker::Model;

@@ -1,6 +1,6 @@
 use Rattle.std.proofs.Common.{◌≡◌, ◌∙◌, List, get_or, ap, subst}
 use Rattle.bus_rules.specs.Tables.{Entry, code_in}
-use Rattle.code_order.specs.Order.{IsAt, IsGap}
+use Rattle.stream_table.specs.CodeOrder.{IsAt, IsGap}
 use Rattle.stream_table.proofs.Changes.{granted_is, granted_kept, granted_none, granted_less}
 use Rattle.stream_table.proofs.places.grant.Goals as goal
 

@@ -1,6 +1,6 @@
 use Rattle.std.proofs.Common.{List, subst}
 use Rattle.bus_rules.specs.Tables.{Entry, code_in}
-use Rattle.code_order.specs.Order.{IsAt, IsGap}
+use Rattle.stream_table.specs.CodeOrder.{IsAt, IsGap}
 use Rattle.stream_table.proofs.Changes.{removed_is, removed_kept, removed_none, is_there}
 use Rattle.stream_table.proofs.places.remove.Goals as goal
 

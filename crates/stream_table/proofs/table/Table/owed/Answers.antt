@@ -2,7 +2,7 @@ use Rattle.std.proofs.Common.{◌≡◌, ◌∙◌, ℕ, List, get_or, ap, subst
 use Rattle.std.specs.Option.{option_map_or}
 use Rattle.bus_rules.specs.Tables.{Entry, code_in, Table, entry_of}
 use Rattle.bus_rules.specs.Granting.{owed_to}
-use Rattle.code_order.specs.Order.{IsAt}
+use Rattle.stream_table.specs.CodeOrder.{IsAt}
 use Rattle.stream_table.proofs.Changes.{value_at}
 use Rattle.stream_table.proofs.table.Table.owed.Goals as goal
 

@@ -1,7 +1,7 @@
 use Rattle.std.proofs.Common.{◌≡◌, ℕ, ◌+◌, ◌-◌, ◌/◌, ◌<◌, length, get_or, arith, ap}
 use Rattle.std.proofs.lemmas.List.{get_or_read}
-use Rattle.code_order.proofs.Order.{ascends_far, below_is}
-use Rattle.code_order.proofs.list.place_of.Goals as goal
+use Rattle.stream_table.proofs.CodeOrder.{ascends_far, below_is}
+use Rattle.stream_table.proofs.code_order.place_of.Goals as goal
 
 pub loop-low-preserved-then-code : goal.loop-low-preserved-then-code
 loop-low-preserved-then-code g c =

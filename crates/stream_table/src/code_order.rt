@@ -1,6 +1,8 @@
+//! Short lists in the ascending order of their items' codes.
+
 ghost use Rattle.std.specs.Prelude.{◌≡◌, ℕ, ◌≤◌, ◌<◌, IfOk, IfErr, length, if◌then◌else◌, slice_set};
 ghost use Rattle.std.specs.List.{prefix_len};
-ghost use Rattle.code_order.specs.Order.{Ascends, IsAt, IsGap, is_below, placed, finds_room, put_answer};
+ghost use Rattle.stream_table.specs.CodeOrder.{Ascends, IsAt, IsGap, is_below, placed, finds_room, put_answer};
 
 use arrayvec::ArrayVec;
 

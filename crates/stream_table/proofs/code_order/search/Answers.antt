@@ -1,7 +1,7 @@
 use Rattle.std.proofs.Common.{◌∙◌, sym, arith}
-use Rattle.code_order.proofs.Order.{found_there, none_of_below, other_there, none_there}
-use Rattle.code_order.proofs.list.search.Goals as goal
-use Rattle.code_order.proofs.list.search.Goals.{else-place-list-via-then-place-list+else-code, else-place-list-via-else-place-list}
+use Rattle.stream_table.proofs.CodeOrder.{found_there, none_of_below, other_there, none_there}
+use Rattle.stream_table.proofs.code_order.search.Goals as goal
+use Rattle.stream_table.proofs.code_order.search.Goals.{else-place-list-via-then-place-list+else-code, else-place-list-via-else-place-list}
 
 pub returns-then-code-clause-found : goal.returns-then-code-clause-found
 returns-then-code-clause-found g c =

@@ -1,7 +1,7 @@
 use Rattle.std.proofs.Common.{◌∙◌, ◌<◌, length, sym, arith}
 use Rattle.std.proofs.lemmas.Bool.{eqb-false}
-use Rattle.code_order.proofs.Order.{replaced, replaced_ascends, added, added_ascends}
-use Rattle.code_order.proofs.list.put.Goals as goal
+use Rattle.stream_table.proofs.CodeOrder.{replaced, replaced_ascends, added, added_ascends}
+use Rattle.stream_table.proofs.code_order.put.Goals as goal
 
 pub returns-in-Ok-clause-after : goal.returns-in-Ok-clause-after
 returns-in-Ok-clause-after g c =

@@ -2,8 +2,8 @@
 use Rattle.std.specs.Prelude.{◌≡◌, ℕ, ◌<◌, ◌≤◌, List, [], ◌∷◌, Bool, ◌==◌, ◌||◌, nat_lt, if◌then◌else◌, is_some, Some, None, length, find, slice_get, ⊤}
 use Rattle.std.specs.declared.option.Option.{Option}
 use Rattle.std.specs.List.{prefix_len}
-use Rattle.code_order.specs.declared.list.Placement.{Placement}
-use Rattle.code_order.specs.declared.list.Placement.TheVariants.{Added, Replaced, Full}
+use Rattle.stream_table.specs.declared.code_order.Placement.{Placement}
+use Rattle.stream_table.specs.declared.code_order.Placement.TheVariants.{Added, Replaced, Full}
 
 -- each code is above this one
 abbrev pub Above : {A : Type 0} → (A → ℕ) → ℕ → List A → Type 0

@@ -1,5 +1,5 @@
 use Rattle.std.proofs.Common.{ℕ, ◌-◌, ◌<◌, ◌≤◌, length, get_or}
-use Rattle.code_order.proofs.list.place_of.Given as goal
+use Rattle.stream_table.proofs.code_order.place_of.Given as goal
 
 abbrev pub invariant-loop-low : goal.invariant-loop-low
 invariant-loop-low g l = record {

@@ -5,7 +5,7 @@ use Rattle.std.specs.List.{slice_get, prefix_len, insert}
 use Rattle.std.proofs.lemmas.Bool.{ne_eqb, lt-ltb, le-ltb, ltb-true, ltb-false, eqb-true, eqb-false}
 use Rattle.std.proofs.lemmas.Option.{slice_get_read, slice_get_past}
 use Rattle.std.proofs.lemmas.List.Sums.{prefix_len_is}
-use Rattle.code_order.specs.Order.{Above, Ascends, placed, item_of, is_below, IsAt, IsGap, finds_room}
+use Rattle.stream_table.specs.CodeOrder.{Above, Ascends, placed, item_of, is_below, IsAt, IsGap, finds_room}
 
 module _ {A : Type 0} (code : A → ℕ) where
   pub above_more : (c d : ℕ) (xs : List A) → c ≤ d → Above code d xs → Above code c xs
