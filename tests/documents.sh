@@ -6,7 +6,7 @@
 # - a block `text NAME`, NAME having a dot, is put into the file NAME for the commands below it.
 # - a block `sh` is not run, since it asks for a network, another machine or much time; only its grammar is tried.
 # Each page has a folder of its own, with the program as ./foldcairn and with examples, tools and bench beside it. Where
-# python3 is there, the pictures are drawn and the public calls are listed once more, and compared too; and the words of the
+# python3 is there, the pictures are drawn, the crates and the public calls listed once more, and compared too; and the words of the
 # pages are counted.
 # Usage: tests/documents.sh PROGRAM [PAGE ..]. The last line is 'N passed, M failed', and the status is 0 where M is 0.
 set -u
@@ -175,6 +175,18 @@ pictures() {
     done
 }
 
+# The list of crates is to be what crates.txt and the sources have.
+listed() {
+    if ! command -v python3 > "$folder/written"; then
+        return
+    fi
+    if python3 "$top/tools/crates.py" | cmp -s - "$top/docs/internals/ARCHITECTURE.md"; then
+        counts_pass
+    else
+        counts_failure "docs/internals/ARCHITECTURE.md is not what tools/crates.py writes"
+    fi
+}
+
 # The list of public calls is to be what the sources have, and no call may leave its answers or its changes unsaid.
 calls() {
     if ! command -v python3 > "$folder/written"; then
@@ -226,6 +238,7 @@ cd "$top" || exit 1
 if [ $# -eq 0 ]; then
     set -- README.md docs/*.md docs/internals/*.md
     pictures
+    listed
     calls
     words
 fi

@@ -3,8 +3,8 @@
 
 Usage: tools/pictures.py PROGRAM [FOLDER]. PROGRAM is the built program, FOLDER is docs/pictures if none is given. Most
 pictures show a run of an example, or of a text in docs/TUTORIAL.md or docs/SCENARIO.md: the program's `log` says what was
-sent and heard, and when each radio was on. The picture of the guard time is drawn from the numbers of the profiles, those
-of the states and of the crates from lists. Only Python's standard library is used.
+sent and heard, and when each radio was on. The picture of the guard time is drawn from the numbers of the profiles, that
+of the states from a list, and that of the crates from crates.txt. Only Python's standard library is used.
 """
 
 import math
@@ -12,6 +12,9 @@ import pathlib
 import re
 import subprocess
 import sys
+
+sys.dont_write_bytecode = True
+import crates
 
 TOP = pathlib.Path(__file__).resolve().parent.parent
 MILLISECOND = 64_000
@@ -487,70 +490,21 @@ def guard_picture():
     return picture.written(y + 10)
 
 
-# The crates by what flows from one to the next: columns from left to right, each with its crates from top to bottom.
-RUNNING = [
-    ["text_readers", "scenario_text", "scenario_maker", "deadline_plan"],
-    ["lwb_world", "lwb_flood", "bus_frames"],
-    ["node_core", "radio_model", "event_calendar", "scenario_clocks", "plain_bus"],
-    ["lwb_member", "round_runner", "glossy_relay", "time_reference"],
-    ["stream_source", "host_failover", "host_scheduler", "stream_table", "schedule_codec", "lwb_packets"],
-    ["bus_rules", "code_order", "link_trace", "text_writers", "tick_clock", "lwb_base"],
-]
-REPORTING = ["air_log", "energy_account", "replay_tool", "foldcairn"]
-PROVING = [
-    ["air_log", "lwb_flood", "bus_model"],
-    ["air_safety", "bus_alignment"],
-    ["air_invariant"],
-    ["safe_air"],
-    ["air_bus"],
-    ["frame_courses", "window_charges", "slot_floods"],
-    ["bus_induction"],
-    ["slot_runs"],
-    ["bus_costs"],
-    ["lawful_bus"],
-]
-
-
 def crates_picture():
-    """What flows through the crates while a command runs, and the order of the proof that a run is the bus."""
-    title = "The crates: what a command goes through, and the way to the proof that a run is the bus"
+    """The crates by families, as crates.txt has them."""
+    title = "The crates by families: each family uses those above it alone"
     picture = Picture(title)
     picture.text(24, 24, title)
-    step, down, tall = 122, 34, 24
-
-    def column(crates, x, y, kind, wide=step - 14):
-        for index, crate in enumerate(crates):
-            row = y + down * index
-            picture.box(kind, x, row, wide, tall)
-            picture.text(x + wide / 2, row + 16, crate, "small", "middle")
-
-    def arrow(x, y, x2):
-        picture.line("box", x, y, x2, y)
-        picture.line("box", x2 - 5, y - 4, x2, y)
-        picture.line("box", x2 - 5, y + 4, x2, y)
-
-    picture.text(24, 58, "A text is read, becomes a scenario, and is run; what runs is made of what stands to the right of it:", "small")
-    for index, crates in enumerate(RUNNING):
-        x = 24 + step * index
-        column(crates, x, 72, "box")
-        if index:
-            arrow(x - 14, 84, x - 2)
-    y = 72 + down * 6 + 22
-    picture.text(24, y, "What ran is logged, counted and written:", "small")
-    for index, crate in enumerate(REPORTING):
-        x = 24 + step * index
-        column([crate], x, y + 14, "box")
-        if index:
-            arrow(x - 14, y + 26, x - 2)
-    y += 82
-    picture.text(24, y, "What is known of a run, from its log to the bus; each column stands on those to its left:", "small")
-    narrow = 97
-    for index, crates in enumerate(PROVING):
-        x = 24 + narrow * index
-        column(crates, x, y + 14, "slot", narrow - 8)
-        if index:
-            arrow(x - 8, y + 26, x)
-    return picture.written(int(y + 14 + down * 3 + 6))
+    across, step, down, tall = 8, 122, 32, 24
+    y = 58
+    for name, what, found in crates.families():
+        picture.text(24, y, f"{name}: {what}", "small")
+        for place, crate in enumerate(crates.in_order(found)):
+            x, row = 24 + step * (place % across), y + 10 + down * (place // across)
+            picture.box("slot" if name == "law" else "box", x, row, step - 10, tall)
+            picture.text(x + (step - 10) / 2, row + 16, crate, "small", "middle")
+        y += 10 + down * -(-len(found) // across) + 22
+    return picture.written(y - 12)
 
 
 def example(name):
