@@ -189,7 +189,8 @@ def slot_picture(run, frame, slot, length, title):
     picture.text(LEFT, 22, title)
     y = radio_rows(picture, run, begin, end, 40, True)
     time_axis(picture, begin, end, y + 2, 1, MILLISECOND, "ms", lambda tick: str((tick - begin) // MILLISECOND))
-    picture.key(y + 44, STATES)
+    received = any(begin <= start < end for node in run.nodes for _, start, _, _ in run.heard[node])
+    picture.key(y + 44, [state for state in STATES if received or state[0] != "hearing"])
     return picture.written(y + 60)
 
 
