@@ -1,4 +1,5 @@
 -- for this crate alone
+mod LosslessSlots
 mod SoleVoices
 mod KeptInRounds
 mod HostsOfRanks
@@ -9,6 +10,8 @@ mod ContentionSlots
 mod KeptNone
 mod KeptByHosts
 mod LoneRequests
+mod GrantedSlots
+mod FirstRounds
 mod SaidByParts
 mod DeliveredData
 mod TiedNodes
@@ -16,4 +19,5 @@ mod Collisions
 mod WorkedReach
 mod WorkedSchedules
 mod WorkedRequests
+mod WorkedGrants
 mod WorkedContenders

@@ -38,7 +38,7 @@ pub record Tracked (c : Core) (a : Ask) (x : State) : Type 0 where
   pub others : NoneOf (code_of a) later
   pub table : core.table ≡ c.table
 
-same_core : (c d : Core) (x : State) → x ≡ StateOn c → x ≡ StateOn d → c ≡ d
+pub same_core : (c d : Core) (x : State) → x ≡ StateOn c → x ≡ StateOn d → c ≡ d
 same_core c d x first second = let is : StateOn c ≡ StateOn d = sym first ∙ second in cc
 
 same_some : (m n : ℕ) → Some m ≡ Some n → m ≡ n
@@ -81,7 +81,7 @@ module _ (s : ScenarioParts) (scenario : IsSoundScenario s) (rank f : ℕ) (p : 
   kept_now : Tracked c a (at (suc j) host)
   kept_now = (let d = kept_here in record { core = d.0; on = d.1; later = []; kept = d.2; others = tt; table = d.3 })
 
-  asked : (d : Core) × (at j u ≡ StateOn d) × IsRequest u (j - length p.owners) d a
+  pub asked : (d : Core) × (at j u ≡ StateOn d) × IsRequest u (j - length p.owners) d a
   asked =
       let said = said_message s rank f (part_of p j) u (at j u) (RequestOf a) reaches.request.says in
       let message = ap (λ (q : Part). (opened (setup_in s u) f q said.0).message) (sym (contention_at p j late early)) ∙ said.3 in
@@ -173,12 +173,14 @@ module _ (s : ScenarioParts) (scenario : IsSoundScenario s) (rank f : ℕ) (p : 
             had t.others has_room;
       }
 
-  acknowledges : is_full a (answered f c.kept c.table).table ≡ false → Acknowledges s rank f p host a
-  acknowledges free =
+  pub at_closing : Tracked c a (at (last_slot p) host)
+  at_closing =
       let n : ℕ = last_slot p - suc j in
       let ends : j + suc n ≡ last_slot p = (let soon = early in omega (arith, soon)) in
-      planned (leads s rank f p host reaches.hosted (last_slot p) (omega arith))
-      (subst (λ (i : ℕ). Tracked c a (at i host)) ends (track n (omega (arith, ends)))) free
+      subst (λ (i : ℕ). Tracked c a (at i host)) ends (track n (omega (arith, ends)))
+
+  acknowledges : is_full a (answered f c.kept c.table).table ≡ false → Acknowledges s rank f p host a
+  acknowledges free = planned (leads s rank f p host reaches.hosted (last_slot p) (omega arith)) at_closing free
 
 pub kept : LoneRequestsAreKept
 kept s accepted rank f p host j u a c reaches =
