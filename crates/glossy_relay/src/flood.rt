@@ -120,6 +120,7 @@ impl Flood {
 
     /// `Ignore` comes exactly where the packet does not fit; `Relay`, with the counter plus 1, where it fits and its
     /// counter is below 11; `Keep` where it fits and its counter is 11.
+    #[inline(always)]
     pub fn heard(&mut self, p: &Packet) -> Reply
         ensures reply { result ≡ reply_to self.old p.now }
         ensures state { self.new ≡ after_heard self.old p.now }

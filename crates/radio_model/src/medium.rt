@@ -88,6 +88,7 @@ impl Medium {
     }
 
     /// The node is tuned to that channel from t on, or to nothing.
+    #[inline(always)]
     pub fn tune(&mut self, node: NodeId, rank: Option<Rank>, t: u64)
         requires node { Contains (nodes_of self.old) node }
         requires time { IsTime self.old t }
@@ -102,6 +103,7 @@ impl Medium {
 
     /// The node begins to send at t, for the packet's airtime. False comes exactly where it is not tuned or already
     /// sends, and then nothing changes but the time.
+    #[inline(always)]
     pub fn start(&mut self, node: NodeId, t: u64, packet: &Packet) -> bool
         requires node { Contains (nodes_of self.old) node }
         requires time { IsTime self.old t }

@@ -54,6 +54,14 @@ impl Place {
         }
     }
 
+    // No order is kept here. A packet that no order names may stay, since to blank it takes long.
+    #[inline]
+    fn clear(&mut self)
+        ensures { self.new ≡ None }
+    {
+        self.kept = None;
+    }
+
     #[inline]
     fn order(&self) -> Option<OrderRef<'_>>
         ensures { option_map order_of result ≡ self.now }
@@ -124,6 +132,17 @@ impl EventRadio {
             fourth: Place::empty(),
             count: 0,
         }
+    }
+
+    // It keeps no orders any more.
+    pub(crate) fn clear(&mut self)
+        ensures { self.new ≡ no_orders }
+    {
+        self.first.clear();
+        self.second.clear();
+        self.third.clear();
+        self.fourth.clear();
+        self.count = 0;
     }
 
     // The order at that place, counted from 0. None comes exactly where it keeps no more than so many.

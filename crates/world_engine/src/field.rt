@@ -60,7 +60,7 @@ impl Model for Field {
 
 impl Field {
     // The device at the place is told of an event at tick t, and what it orders is done. A Sent comes with the packet of the
-    // sending that ended.
+    // sending that ended. What the radio kept before goes: it is handed down for its room alone, which takes long to make.
     pub(crate) fn tell<C: DriftClock, Q: Orders>(
         &mut self,
         orders: &mut Q,
@@ -69,6 +69,7 @@ impl Field {
         t: u64,
         event: &Event,
         sent: Option<&Packet>,
+        radio: &mut EventRadio,
     ) -> Result<(), Memory>
         requires sent { (ended : Option SendingOf) × (option_copied sent ≡ sent_with event.now ended) }
         requires shown { IsShown t self.old (Q.map orders.old) place }
@@ -79,16 +80,16 @@ impl Field {
             (Acts t place (λ s d. event_at (C.readings clock.now) s t event.now ended d) [] [] self.old (Q.map orders.old) self.new (Q.map orders.new)) }
     {
         let by_alarm = is_alarm(event);
-        let mut radio = EventRadio::new();
+        radio.clear();
         let device = &mut self.devices[usize::from(place)];
         let before = device.is_in_window();
-        device.react(clock, t, event, &mut radio);
+        device.react(clock, t, event, radio);
         let after = device.is_in_window();
         let delivery = device.delivered();
         let windows = &mut self.sums[usize::from(place)];
         windows.note(before, after, by_alarm, sent);
         self.log_delivery(delivery)?;
-        self.obey_all(orders, clock, place, t, &radio)
+        self.obey_all(orders, clock, place, t, radio)
     }
 
     // The orders that the device at the place gave to its radio, at tick t.
@@ -162,6 +163,7 @@ impl Field {
         clock: &C,
         place: u8,
         t: u64,
+        radio: &mut EventRadio,
     ) -> Result<(), Memory>
         requires shown { IsShown t self.old (Q.map orders.old) place }
         requires time { IsTime self.old.medium t }
@@ -175,7 +177,7 @@ impl Field {
             if !self.take_alarm(orders, place, t) {
                 return Ok(());
             }
-            self.tell(orders, clock, place, t, &Event::Alarm, None)?;
+            self.tell(orders, clock, place, t, &Event::Alarm, None, radio)?;
         }
         unreachable!()
     }

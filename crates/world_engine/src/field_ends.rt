@@ -12,6 +12,7 @@ ghost use Rattle.world_engine.specs.Fields.{Shows, IsShown, ids_of};
 ghost use Rattle.world_engine.specs.FieldHearings.{ArePlaces, AllHear};
 ghost use Rattle.world_engine.specs.FieldSteps.{EndsSending, Sends, readings_at};
 
+use crate::event_radio::EventRadio;
 use crate::field::Field;
 use air_log::{Entry, HeardEntry};
 use event_calendar::{Class, Orders};
@@ -30,6 +31,7 @@ impl Field {
         clocks: &[C],
         place: u8,
         t: u64,
+        radio: &mut EventRadio,
     ) -> Result<(), Memory>
         requires within { place < length self.old.devices }
         requires shown { (q : ℕ) → q < length self.old.devices → IsShown t self.old (Q.map orders.old) q }
@@ -49,7 +51,7 @@ impl Field {
         let Some(x) = self.devices[usize::from(place)].end_sending(t) else {
             return Ok(());
         };
-        self.hear_all(orders, clocks, &hearers, &x)?;
+        self.hear_all(orders, clocks, &hearers, &x, radio)?;
         self.tell(
             orders,
             &clocks[usize::from(place)],
@@ -57,6 +59,7 @@ impl Field {
             t,
             &Event::Sent,
             Some(&x.packet),
+            radio,
         )
     }
 
@@ -67,6 +70,7 @@ impl Field {
         clocks: &[C],
         hearers: &Hearers,
         x: &Sending,
+        radio: &mut EventRadio,
     ) -> Result<(), Memory>
         requires nodes { All (λ p. Contains (ids_of self.old) p.0) hearers.now }
         requires ascending { AllPairs (λ p q. p.0 < q.0) hearers.now }
@@ -81,7 +85,7 @@ impl Field {
         for i in 0..usize::from(hearers.count()) {
             let (node, _) = hearers.at(i).unwrap();
             let place = self.place_of(node);
-            self.hear(orders, &clocks[usize::from(place)], place, x, &heard)?;
+            self.hear(orders, &clocks[usize::from(place)], place, x, &heard, radio)?;
         }
         Ok(())
     }
@@ -94,6 +98,7 @@ impl Field {
         place: u8,
         x: &Sending,
         heard: &Event,
+        radio: &mut EventRadio,
     ) -> Result<(), Memory>
         requires shown { IsShown x.now.end self.old (Q.map orders.old) place }
         requires time { IsTime self.old.medium x.now.end }
@@ -110,6 +115,6 @@ impl Field {
             end: x.end,
             packet: x.packet.copy(),
         }))?;
-        self.tell(orders, clock, place, x.end, heard, None)
+        self.tell(orders, clock, place, x.end, heard, None, radio)
     }
 }

@@ -12,6 +12,7 @@ ghost use Rattle.air_log.specs.DeviceStates.{DeviceState as DeviceStateOf, CanBo
 ghost use Rattle.world_engine.specs.Fields.{Shows, IsShown};
 ghost use Rattle.world_engine.specs.FieldSteps.{Acts, IsTold};
 
+use crate::event_radio::EventRadio;
 use crate::field::Field;
 use bus_rules::DropLine;
 use event_calendar::{Class, Orders};
@@ -28,6 +29,7 @@ impl Field {
         place: u8,
         t: u64,
         line: &ScriptLine,
+        radio: &mut EventRadio,
     ) -> Result<(), Memory>
         requires shown { IsShown t self.old (Q.map orders.old) place }
         requires time { IsTime self.old.medium t }
@@ -38,7 +40,7 @@ impl Field {
         ensures { OnOk result (IsTold (C.readings clock.now) line.now t place line.now.act self.old (Q.map orders.old) self.new (Q.map orders.new)) }
     {
         match &line.act {
-            Act::On => self.switch_on(orders, clock, place, t),
+            Act::On => self.switch_on(orders, clock, place, t, radio),
             Act::Off => self.switch_off(orders, place, t),
             Act::Declare(stream, interval) => {
                 self.devices[usize::from(place)].declare(*stream, *interval);
@@ -59,6 +61,7 @@ impl Field {
         clock: &C,
         place: u8,
         t: u64,
+        radio: &mut EventRadio,
     ) -> Result<(), Memory>
         requires shown { IsShown t self.old (Q.map orders.old) place }
         requires time { IsTime self.old.medium t }
@@ -68,7 +71,7 @@ impl Field {
             (Acts t place (λ s d. after_act (C.readings clock.now) s t frame d OnOf d.power) [] [] self.old (Q.map orders.old) self.new (Q.map orders.new)) }
     {
         if self.devices[usize::from(place)].switch_on() {
-            self.tell(orders, clock, place, t, &Event::Boot, None)?;
+            self.tell(orders, clock, place, t, &Event::Boot, None, radio)?;
         }
         Ok(())
     }

@@ -12,6 +12,7 @@ ghost use Rattle.world_engine.specs.Moments.{Before, InLines, At};
 ghost use Rattle.world_engine.specs.Running.{IsRunning};
 ghost use Rattle.world_engine.specs.Frames.{told_before, IsCut, IsNextLine, IsPast};
 
+use crate::event_radio::EventRadio;
 use crate::field::Field;
 use crate::field_counts::none_scanned;
 use event_calendar::{Class, Orders};
@@ -38,11 +39,12 @@ impl Field {
         ensures scanned { IfOk result (λ v. v.items ≡ all_scans_before s.now (clocks_by C.readings s.now.nodes clocks.now) self.new.air s.now.frames) }
     {
         let mut scanned = none_scanned(alloc, s.nodes().len())?;
+        let mut radio = EventRadio::new();
         let mut told = 0;
         for frame in 0..s.frames() {
-            told = self.lines(orders, s, clocks, frame, told)?;
+            told = self.lines(orders, s, clocks, frame, told, &mut radio)?;
             self.count_scanners(&mut scanned);
-            self.events(orders, s, clocks, frame)?;
+            self.events(orders, s, clocks, frame, &mut radio)?;
         }
         Ok(scanned)
     }
@@ -55,6 +57,7 @@ impl Field {
         clocks: &[C],
         frame: u32,
         first: usize,
+        radio: &mut EventRadio,
     ) -> Result<usize, Memory>
         requires sound { IsSoundScenario s.now }
         requires clocks { length clocks.now ≡ length s.now.nodes }
@@ -75,7 +78,7 @@ impl Field {
             if line.frame != frame {
                 return Ok(told);
             }
-            self.line(orders, s, clocks, t, line)?;
+            self.line(orders, s, clocks, t, line, radio)?;
             told += 1;
         }
         Ok(told)
@@ -89,6 +92,7 @@ impl Field {
         clocks: &[C],
         t: u64,
         line: &ScriptLine,
+        radio: &mut EventRadio,
     ) -> Result<(), Memory>
         requires sound { IsSoundScenario s.now }
         requires clocks { length clocks.now ≡ length s.now.nodes }
@@ -100,7 +104,7 @@ impl Field {
             (Q.map orders.new) × TrailsStay s.now (clocks_by C.readings s.now.nodes clocks.now) t self.old.air self.new.air) }
     {
         let place = self.place_of(line.node);
-        self.act(orders, &clocks[usize::from(place)], place, t, line)?;
+        self.act(orders, &clocks[usize::from(place)], place, t, line, radio)?;
         Ok(())
     }
 
@@ -111,6 +115,7 @@ impl Field {
         s: &Scenario,
         clocks: &[C],
         frame: u32,
+        radio: &mut EventRadio,
     ) -> Result<(), Memory>
         requires sound { IsSoundScenario s.now }
         requires clocks { length clocks.now ≡ length s.now.nodes }
@@ -126,7 +131,7 @@ impl Field {
             if t >= until {
                 return Ok(());
             }
-            self.event(orders, s, clocks, t, class, place)?;
+            self.event(orders, s, clocks, t, class, place, radio)?;
         }
         Ok(())
     }
@@ -140,6 +145,7 @@ impl Field {
         t: u64,
         class: Class,
         place: u8,
+        radio: &mut EventRadio,
     ) -> Result<(), Memory>
         requires sound { IsSoundScenario s.now }
         requires clocks { length clocks.now ≡ length s.now.nodes }
@@ -151,8 +157,8 @@ impl Field {
             × IsPast t class place (Q.map orders.new) × TrailsStay s.now (clocks_by C.readings s.now.nodes clocks.now) t self.old.air self.new.air) }
     {
         match class {
-            Class::SendingEnd => self.end_due(orders, s, clocks, t, place),
-            Class::Alarm => self.alarm_due(orders, s, clocks, t, place),
+            Class::SendingEnd => self.end_due(orders, s, clocks, t, place, radio),
+            Class::Alarm => self.alarm_due(orders, s, clocks, t, place, radio),
             Class::SendingStart => self.start_due(orders, s, clocks, t, place),
         }
     }
@@ -165,6 +171,7 @@ impl Field {
         clocks: &[C],
         t: u64,
         place: u8,
+        radio: &mut EventRadio,
     ) -> Result<(), Memory>
         requires sound { IsSoundScenario s.now }
         requires clocks { length clocks.now ≡ length s.now.nodes }
@@ -175,7 +182,7 @@ impl Field {
             → OnOk result (IsRunning s.now (clocks_by C.readings s.now.nodes clocks.now) told t (At EndOf) self.new (Q.map orders.new)
             × IsPast t EndOf place (Q.map orders.new) × TrailsStay s.now (clocks_by C.readings s.now.nodes clocks.now) t self.old.air self.new.air) }
     {
-        self.end(orders, s.trace(), clocks, place, t)?;
+        self.end(orders, s.trace(), clocks, place, t, radio)?;
         Ok(())
     }
 
@@ -187,6 +194,7 @@ impl Field {
         clocks: &[C],
         t: u64,
         place: u8,
+        radio: &mut EventRadio,
     ) -> Result<(), Memory>
         requires sound { IsSoundScenario s.now }
         requires clocks { length clocks.now ≡ length s.now.nodes }
@@ -198,7 +206,7 @@ impl Field {
             → OnOk result (IsRunning s.now (clocks_by C.readings s.now.nodes clocks.now) told t (At AlarmOf) self.new (Q.map orders.new)
             × IsPast t AlarmOf place (Q.map orders.new) × TrailsStay s.now (clocks_by C.readings s.now.nodes clocks.now) t self.old.air self.new.air) }
     {
-        self.alarm(orders, &clocks[usize::from(place)], place, t)?;
+        self.alarm(orders, &clocks[usize::from(place)], place, t, radio)?;
         Ok(())
     }
 

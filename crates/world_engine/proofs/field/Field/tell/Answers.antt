@@ -115,7 +115,7 @@ returns g c = λ ended is_sent.
     moves_acts t p old orders shown c.from.result c.from.ensures state c.index_mut-device.ensures.value clock c.args.event.now c.self.invariant time ended
     c.delivered-delivery.new.self c.delivered-delivery.result c.log_delivery.new.self is_after
     (c.delivered-delivery.ensures.delivery ∙ ap (λ (d : DeviceState). d.delivery) c.react.ensures.after) sums others own c.in_ok-log_delivery.ensures in
-    let ordered : c.react.new.radio.given ≡ orders_by row = c.react.ensures.orders.given ∙ ap (λ (r : Told). r.given ++ orders_by row) c.new-radio.ensures in
+    let ordered : c.react.new.radio.given ≡ orders_by row = c.react.ensures.orders.given ∙ ap (λ (r : Told). r.given ++ orders_by row) c.clear.ensures in
     on_ok_weaker c.obey_all.result
     (λ all. acts_seen c.self.view_is (
     event_acts t p old orders shown c.from.result c.from.ensures state c.index_mut-device.ensures.value clock c.args.event.now ended
