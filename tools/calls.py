@@ -83,6 +83,8 @@ def calls(path, names, modules):
                 continue
             if owner[3] and owner[3].split("<")[0].split("::")[-1] in ("Model", "Drop"):
                 continue
+            if owner[3] not in names and ("trait", owner[3]) in [(block[4], block[2]) for block in blocks]:
+                continue
             if owner[4] == "impl" and not owner[3] and not found.group(1):
                 continue
         elif not found.group(1) or (found.group(2) not in names and not public_module):

@@ -6,9 +6,10 @@ use Rattle.link_trace.specs.declared.lines.CutLine.{CutLine}
 use Rattle.link_trace.specs.Masks.{IsMask}
 use Rattle.link_trace.specs.Passes.{cuts_by}
 
--- what was read at a place that a conversion gave
-pub read_at : (xs : List ℕ) (i at x : ℕ) → at < length xs → i ≡ at → x ≡ get_or xs i x → x ≡ get_or xs at 0
-read_at xs i at x inside same read = read ∙ ap (λ (n : ℕ). get_or xs n x) same ∙ get_or_default xs at x 0 inside
+-- what was read of a slice at a place that a conversion gave
+pub read_at : (xs passed : List ℕ) (i at x : ℕ) → at < length xs → passed ≡ xs → i ≡ at → x ≡ get_or passed i x → x ≡ get_or xs at 0
+read_at xs passed i at x inside slice same read =
+    read ∙ ap (λ (ys : List ℕ). get_or ys i x) slice ∙ ap (λ (n : ℕ). get_or xs n x) same ∙ get_or_default xs at x 0 inside
 
 -- whether a line of such a slice names the node
 pub named : (cuts found : List CutLine) (f j k to v : ℕ) → found ≡ filter (cuts_by f j k) cuts → to ≡ v

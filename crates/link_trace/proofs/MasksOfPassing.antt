@@ -22,6 +22,18 @@ each_passes t f j k from to no_losses no_cuts =
     whole true = refl
     whole false = refl
 
+-- where no line cuts a node off, each link passes that is not lost
+pub each_uncut : (t : Lines) (f j k from to : ℕ) → t.cuts ≡ []
+    → (list_any (is_link from to) t.links && not (list_any (is_loss f j k from to) t.losses)) ≡ passes t f j k from to
+each_uncut t f j k from to no_cuts =
+    let left = list_any (is_link from to) t.links && not (list_any (is_loss f j k from to) t.losses) in
+    whole left
+    ∙ ap (λ (cs : List CutLine). left && not (cut_off cs f j k from) && not (cut_off cs f j k to)) (sym no_cuts)
+  where
+    whole : (x : Bool) → x ≡ (x && not false && not false)
+    whole true = refl
+    whole false = refl
+
 module _ (t : Lines) (f j k to : ℕ) where
   abbrev linked : ℕ → Bool
   linked from = list_any (is_link from to) t.links
@@ -77,3 +89,10 @@ module _ (t : Lines) (f j k to : ℕ) where
   pub all_passing : (nodes : List ℕ) (a : ℕ) → t.losses ≡ [] → t.cuts ≡ [] → IsMask linked nodes a → IsMask (λ from. passes t f j k from to) nodes a
   all_passing nodes a no_losses no_cuts a_is =
       same_tests nodes linked (λ from. passes t f j k from to) a (λ from. each_passes t f j k from to no_losses no_cuts) a_is
+
+  -- where no node is cut off
+  pub uncut_passing : (nodes : List ℕ) → length nodes ≤ 64 → (a b : ℕ) → b < 2 ^ 64 → t.cuts ≡ [] → IsMask linked nodes a → IsMask lost nodes b
+      → IsMask (λ from. passes t f j k from to) nodes (bit_and a (bit_not w64 b))
+  uncut_passing nodes few a b b_small no_cuts a_is b_is =
+      same_tests nodes (λ from. linked from && not (lost from)) (λ from. passes t f j k from to) (bit_and a (bit_not w64 b))
+      (λ from. each_uncut t f j k from to no_cuts) (removed nodes few linked lost a b b_small a_is b_is)

@@ -6,7 +6,7 @@ use Rattle.link_trace.specs.declared.lines.CutLine.{CutLine}
 use Rattle.link_trace.specs.Masks.{IsMask}
 use Rattle.link_trace.specs.Passes.{Lines, is_link, is_loss, cuts_by, cut_off, passes}
 use Rattle.link_trace.proofs.MaskBits.{empty_mask, same_tests, removed}
-use Rattle.link_trace.proofs.MasksOfPassing.{each_passes}
+use Rattle.link_trace.proofs.MasksOfPassing.{each_passes, each_uncut}
 use Rattle.link_trace.proofs.Together.{one_of_these}
 
 module _ (t : Lines) (f j k from : ℕ) where
@@ -64,3 +64,10 @@ module _ (t : Lines) (f j k from : ℕ) where
   pub all_reaching : (nodes : List ℕ) (a : ℕ) → t.losses ≡ [] → t.cuts ≡ [] → IsMask linked nodes a → IsMask (λ to. passes t f j k from to) nodes a
   all_reaching nodes a no_losses no_cuts a_is =
       same_tests nodes linked (λ to. passes t f j k from to) a (λ to. each_passes t f j k from to no_losses no_cuts) a_is
+
+  -- where no node is cut off
+  pub uncut_reaching : (nodes : List ℕ) → length nodes ≤ 64 → (a b : ℕ) → b < 2 ^ 64 → t.cuts ≡ [] → IsMask linked nodes a → IsMask lost nodes b
+      → IsMask (λ to. passes t f j k from to) nodes (bit_and a (bit_not w64 b))
+  uncut_reaching nodes few a b b_small no_cuts a_is b_is =
+      same_tests nodes (λ to. linked to && not (lost to)) (λ to. passes t f j k from to) (bit_and a (bit_not w64 b))
+      (λ to. each_uncut t f j k from to no_cuts) (removed nodes few linked lost a b b_small a_is b_is)

@@ -51,20 +51,20 @@ pub fn link_masks(
 /// Those of the nodes whose link to `to` a line loses in that frame, slot and step.
 pub fn lost_mask(
     losses: &[LoseLine],
-    starts: &[usize],
+    starts: &Starts,
     frame: u32,
     slot: u8,
     step: u8,
     nodes: &[NodeId],
     to: NodeId,
 ) -> u64
-    requires starts { AreStarts of_loss losses.now starts.now }
+    requires starts { AreStarts of_loss losses.now starts.now.losses.items }
     requires few { length nodes.now ≤ 64 }
     requires ascending { AllPairs (λ a b. a < b) nodes.now }
     ensures { IsMask (λ from. list_any (is_loss frame slot step from to) losses.now) nodes.now result }
 {
     let number = slot_number(frame, slot);
-    let of_slot = of_slots(losses, starts, number, number);
+    let of_slot = of_slots(losses, &starts.losses, number, number);
     let mut mask = 0;
     for line in of_slot {
         mask |= lost_by(line, frame, slot, step, nodes, to);
@@ -75,20 +75,20 @@ pub fn lost_mask(
 /// Those of the nodes to which a line loses the link from `from` in that frame, slot and step.
 pub fn lost_from_mask(
     losses: &[LoseLine],
-    starts: &[usize],
+    starts: &Starts,
     frame: u32,
     slot: u8,
     step: u8,
     nodes: &[NodeId],
     from: NodeId,
 ) -> u64
-    requires starts { AreStarts of_loss losses.now starts.now }
+    requires starts { AreStarts of_loss losses.now starts.now.losses.items }
     requires few { length nodes.now ≤ 64 }
     requires ascending { AllPairs (λ a b. a < b) nodes.now }
     ensures { IsMask (λ to. list_any (is_loss frame slot step from to) losses.now) nodes.now result }
 {
     let number = slot_number(frame, slot);
-    let of_slot = of_slots(losses, starts, number, number);
+    let of_slot = of_slots(losses, &starts.losses, number, number);
     let mut mask = 0;
     for line in of_slot {
         mask |= lost_from(line, frame, slot, step, nodes, from);

@@ -20,9 +20,6 @@ pub fn cuts_so_far<'a>(
     requires starts { AreStarts of_cut cuts.now starts.now }
     ensures { result.now ≡ filter (cuts_by frame slot step) cuts.now }
 {
-    if cuts.is_empty() {
-        return cuts;
-    }
     let first = slot_number(frame, 0);
     let last = slot_number(frame, slot);
     find_cuts(of_slots(cuts, starts, first, last), frame, slot, step)
@@ -39,6 +36,13 @@ fn find_cuts(cuts: &[CutLine], frame: u32, slot: u8, step: u8) -> &[CutLine]
         l.frame == frame && (l.slot < slot || l.slot == slot && l.step <= step)
     });
     &rest[..count]
+}
+
+/// Whether there is no cut line.
+pub fn has_no_cuts(cuts: &[CutLine]) -> bool
+    ensures { result ≡ true → cuts.now ≡ [] }
+{
+    cuts.is_empty()
 }
 
 /// Whether there is neither a lose line nor a cut line, so that each link passes.

@@ -8,7 +8,7 @@ ghost use Rattle.link_trace.specs.Masks.{AreNodes, IsMask};
 use crate::captures::{add_capture, captured_sender};
 use crate::in_order::{add_in_order, has_link, has_loss};
 use crate::masks::{LinkMasks, cut_mask, link_masks, lost_from_mask, lost_mask, unseal};
-use crate::ranges::{are_none, cuts_so_far, is_cut_off, names};
+use crate::ranges::{are_none, cuts_so_far, has_no_cuts, is_cut_off, names};
 use crate::starts::{Starts, starts_of};
 use crate::{CaptureLine, CutLine, LinkLine, LoseLine};
 use lwb_base::{Memory, NodeId};
@@ -219,21 +219,17 @@ impl Trace {
         if are_none(&self.losses, &self.cuts) {
             return links.to_it;
         }
-        let to = self.nodes[usize::from(at)];
+        let nodes = self.nodes.as_slice();
+        let to = nodes[usize::from(at)];
+        let lost = lost_mask(&self.losses, &self.starts, frame, slot, step, nodes, to);
+        if has_no_cuts(&self.cuts) {
+            return links.to_it & !lost;
+        }
         let cuts = cuts_so_far(&self.cuts, &self.starts.cuts, frame, slot, step);
         if names(cuts, to) {
             return 0;
         }
-        let lost = lost_mask(
-            &self.losses,
-            &self.starts.losses,
-            frame,
-            slot,
-            step,
-            &self.nodes,
-            to,
-        );
-        let cut = cut_mask(cuts, &self.nodes);
+        let cut = cut_mask(cuts, nodes);
         links.to_it & !lost & !cut
     }
 
@@ -248,21 +244,17 @@ impl Trace {
         if are_none(&self.losses, &self.cuts) {
             return links.from_it;
         }
-        let node = self.nodes[usize::from(from)];
+        let nodes = self.nodes.as_slice();
+        let node = nodes[usize::from(from)];
+        let lost = lost_from_mask(&self.losses, &self.starts, frame, slot, step, nodes, node);
+        if has_no_cuts(&self.cuts) {
+            return links.from_it & !lost;
+        }
         let cuts = cuts_so_far(&self.cuts, &self.starts.cuts, frame, slot, step);
         if names(cuts, node) {
             return 0;
         }
-        let lost = lost_from_mask(
-            &self.losses,
-            &self.starts.losses,
-            frame,
-            slot,
-            step,
-            &self.nodes,
-            node,
-        );
-        let cut = cut_mask(cuts, &self.nodes);
+        let cut = cut_mask(cuts, nodes);
         links.from_it & !lost & !cut
     }
 
