@@ -172,12 +172,13 @@ impl Field {
             → IsAlarmRun (C.readings clock.now) s t d (alarmed (C.readings clock.now) s t d) }
         ensures { OnOk result (Acts t place (λ s d. alarmed (C.readings clock.now) s t d) [] [] self.old (Q.map orders.old) self.new (Q.map orders.new)) }
     {
+        let event = Event::Alarm;
         // There are fewer of them than this.
         for _ in 0..u64::MAX {
             if !self.take_alarm(orders, place, t) {
                 return Ok(());
             }
-            self.tell(orders, clock, place, t, &Event::Alarm, None, radio)?;
+            self.tell(orders, clock, place, t, &event, None, radio)?;
         }
         unreachable!()
     }
