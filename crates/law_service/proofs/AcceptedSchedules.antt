@@ -1,7 +1,7 @@
 -- In a slot of schedules without losses who listens within reach of the host accepts, and goes by what it accepted.
-use Rattle.std.proofs.Common.{◌≡◌, ◌<◌, ◌+◌, ◌==◌, ℕ, suc, List, Bool, true, false, Option, Some, None, if◌then◌else◌, nat_le, ◌||◌, ◌&&◌}
-use Rattle.std.proofs.Common.{is_some, refl, sym, ◌∙◌, ap, subst, arith, sum_by, AllPairs, add-one}
-use Rattle.std.proofs.lemmas.Bool.{false≢true, and_parts, cond_both, cond-false, ne_eqb}
+use Rattle.std.proofs.Common.{◌≡◌, ◌<◌, ◌+◌, ◌==◌, ℕ, suc, List, Bool, true, false, Option, Some, None, if◌then◌else◌, ◌||◌, ◌&&◌}
+use Rattle.std.proofs.Common.{is_some, refl, sym, ◌∙◌, ap, arith, AllPairs, add-one}
+use Rattle.std.proofs.lemmas.Bool.{false≢true, and_parts, cond-false, ne_eqb}
 use Rattle.lwb_base.specs.Profile.{Numbers}
 use Rattle.lwb_base.specs.Messages.{Ask, Plan, Schedule}
 use Rattle.scenario_text.specs.ScenarioParts.{ScenarioParts}
@@ -12,13 +12,12 @@ use Rattle.bus_rules.specs.declared.part.Part.TheVariants.{Opening, Closing}
 use Rattle.bus_rules.specs.declared.tune.Tune.{Tune}
 use Rattle.bus_rules.specs.declared.tune.Tune.TheVariants.{Scan, Hold, Host}
 use Rattle.bus_rules.specs.Cores.{Core, is_member, is_fresh, schedule_accepted, opening_accepted, closing_accepted}
-use Rattle.bus_rules.specs.Granting.{Grants, grants_for, gap_of, owed_to, total, plan_round}
 use Rattle.bus_rules.specs.HostPlans.{host_plan, HostPlan}
 use Rattle.bus_rules.specs.Plans.{last_slot, opening}
 use Rattle.bus_rules.specs.Slots.{Message, ScheduleOf, Opened, opened, part_of, hosts_now, host_closes, silent, is_schedule_part}
 use Rattle.bus_rules.specs.States.{State, StateOff, StateOn}
 use Rattle.bus_rules.specs.Streams.{Streams}
-use Rattle.bus_rules.specs.Tables.{Table, Entry}
+use Rattle.bus_rules.specs.Tables.{Table}
 use Rattle.bus_rules.specs.Tuning.{hosts_in, holds_in, scans, rank_of}
 use Rattle.bus_model.specs.Bus.{state_at}
 use Rattle.bus_model.specs.FloodOfText.{ids}
@@ -33,6 +32,7 @@ use Rattle.law_service.proofs.HostsOfRanks.{due_rank}
 use Rattle.law_service.proofs.HostedRounds.{Hosting, has_planned, closing_opens, opening_said, leads, sole_host, said_message, host_member, closing_last}
 use Rattle.law_service.proofs.SaidByParts.{windowed}
 use Rattle.law_service.proofs.SoleVoices.{accepts, accepts_said}
+use Rattle.law_service.proofs.GrantedSlots.{some_gap}
 
 -- the state of a node that takes part and accepts a schedule
 heard_schedule : (s : ScenarioParts) (rank f : ℕ) (part : Part) (v : ℕ) (x : State) (y : Schedule) → is_schedule_part part ≡ true
@@ -48,24 +48,9 @@ heard_schedule s rank f part v (StateOn c) y schedule takes = by_member (is_memb
     by_member false = (c, refl)
 
 -- the next round comes later
-gap_from : (seconds f : ℕ) (es : List Entry) → 0 < gap_of seconds f es
-gap_from seconds f es =
-    cond_both (nat_le (total seconds (f + 4) es) 40) 4 _ (λ (g : ℕ). 0 < g) (λ _. omega arith)
-    (λ _. cond_both (nat_le (total seconds (f + 3) es) 40) 3 _ (λ (g : ℕ). 0 < g) (λ _. omega arith)
-    (λ _. cond_both (nat_le (total seconds (f + 2) es) 40) 2 1 (λ (g : ℕ). 0 < g) (λ _. omega arith) (λ _. omega arith)))
-
-grants_gap : (owes : Entry → ℕ) (gap : ℕ) (t : Table) → (grants_for owes gap t).gap ≡ gap
-grants_gap owes gap t = cond_both (nat_le (sum_by owes t.entries) 40) _ _ (λ (g : Grants). g.gap ≡ gap) (λ _. refl) (λ _. refl)
-
-round_gap : (seconds f : ℕ) (t : Table) → 0 < (plan_round seconds f t).gap
-unfolding plan_round
-round_gap seconds f t =
-    let gap = gap_of seconds f t.entries in
-    subst (λ (g : ℕ). 0 < g) (sym (grants_gap (owed_to seconds (f + gap)) gap t)) (gap_from seconds f t.entries)
-
 plan_gap : (n : Numbers) (node boot rank f : ℕ) (kept : List Ask) (t : Table) (x : Streams) → 0 < (host_plan n node boot rank f kept t x).gap
 unfolding host_plan
-plan_gap n node boot rank f kept t x = round_gap n.seconds f _
+plan_gap n node boot rank f kept t x = some_gap n.seconds f _
 
 plan_rank : (n : Numbers) (node boot rank f : ℕ) (kept : List Ask) (t : Table) (x : Streams) → (host_plan n node boot rank f kept t x).plan.rank ≡ rank
 unfolding host_plan

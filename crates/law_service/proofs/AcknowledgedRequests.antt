@@ -1,29 +1,14 @@
 -- A request that the table takes is acknowledged, whatever requests of other streams come after it.
-use Rattle.std.proofs.Common.{◌≡◌, ◌≢◌, ◌==◌, ℕ, List, [], ◌∷◌, ◌++◌, false, inl, inr, nat_lt, fold, sym, ◌∙◌, ap, subst, arith}
-use Rattle.std.specs.Prelude.{Contains, ◌⊎◌}
+use Rattle.std.proofs.Common.{◌≡◌, ◌≢◌, ◌==◌, ℕ, List, [], ◌∷◌, ◌++◌, false, inl, inr, nat_lt, fold, sym, ◌∙◌, ap, subst}
+use Rattle.std.specs.Prelude.{Contains}
 use Rattle.std.proofs.lemmas.Bool.{cond_both, cond-false, eqb-true}
 use Rattle.std.proofs.lemmas.Grind.{fold-append}
-use Rattle.std.proofs.lemmas.List.Elements.{Contains-append_cases, Contains-append_left, Contains-append_right, Contains-push, Contains-push_cases}
 use Rattle.lwb_base.specs.Profile.{Numbers}
 use Rattle.lwb_base.specs.Messages.{Ask, code_of}
 use Rattle.bus_rules.specs.HostPlans.{Answered, answer, answered, with_ack, host_plan}
 use Rattle.bus_rules.specs.Streams.{Streams}
 use Rattle.bus_rules.specs.Tables.{Table, is_full}
-
-not_in_none : (x : Ask) → Contains [] x → ⊥
-not_in_none x (k, less, is) = omega arith
-
-contains_head : (x : Ask) (xs : List Ask) → Contains (x ∷ xs) x
-contains_head x xs = Contains-append_left (x ∷ []) xs x (Contains-push [] x)
-
-contains_tail : (x : Ask) (xs : List Ask) (y : Ask) → Contains xs y → Contains (x ∷ xs) y
-contains_tail x xs y there = Contains-append_right (x ∷ []) xs y there
-
-contains_cases : (x : Ask) (xs : List Ask) (y : Ask) → Contains (x ∷ xs) y → (x ≡ y) ⊎ Contains xs y
-contains_cases x xs y there = elim (Contains-append_cases (x ∷ []) xs y there) [
-  | inl at ↦ elim (Contains-push_cases [] x y at) [ inl none ↦ absurd (not_in_none y none) | inr is ↦ inl is ]
-  | inr later ↦ inr later
-]
+use Rattle.law_service.proofs.ListElements.{not_in_none, contains_head, contains_tail, contains_cases}
 
 -- none of the requests is of this stream
 abbrev pub NoneOf : ℕ → List Ask → Type 0

@@ -1,10 +1,9 @@
 -- What a host grants for its next round, and the streams that a table keeps while others are put to it.
 use Rattle.std.proofs.Common.{◌≡◌, ◌≢◌, ◌<◌, ◌≤◌, ◌+◌, ◌==◌, ℕ, zero, suc, List, [], ◌∷◌, ◌++◌, Bool, true, false, not, inl, inr, Option, Some, None}
 use Rattle.std.proofs.Common.{cond, nat_lt, nat_le, fold, replicate, sum_by, refl, sym, ◌∙◌, ap, subst, arith}
-use Rattle.std.specs.Prelude.{Contains, ◌⊎◌}
+use Rattle.std.specs.Prelude.{Contains}
 use Rattle.std.proofs.lemmas.Bool.{cond_both, cond-true, cond-false, eqb-true, eq-eqb, ne_eqb, le-leb, false≢true}
 use Rattle.std.proofs.lemmas.Grind.{fold-append}
-use Rattle.std.proofs.lemmas.List.Elements.{Contains-append_cases, Contains-append_left, Contains-append_right, Contains-push, Contains-push_cases}
 use Rattle.std.proofs.lemmas.List.Sums.{sum_by-cons}
 use Rattle.lwb_base.specs.Messages.{Ask, code_of, code}
 use Rattle.bus_rules.specs.Granting.{Grants, count_of, owners_by, granted_by, given, share_in, last_code, grants_for, gap_of, owed_to, total, plan_round}
@@ -12,21 +11,7 @@ use Rattle.bus_rules.specs.HostPlans.{Answered, answer, answered, Served, serve,
 use Rattle.bus_rules.specs.Streams.{Streams, due_of, with_agreed}
 use Rattle.bus_rules.specs.Tables.{Entry, Table, has_code, is_full, new_entry, without, with_entry, after_request, interval_of}
 use Rattle.law_service.proofs.AcknowledgedRequests.{NoneOf}
-
-not_in_none : (x : Entry) → Contains [] x → ⊥
-not_in_none x (k, less, is) = omega arith
-
-contains_head : (x : Entry) (xs : List Entry) → Contains (x ∷ xs) x
-contains_head x xs = Contains-append_left (x ∷ []) xs x (Contains-push [] x)
-
-contains_tail : (x : Entry) (xs : List Entry) (y : Entry) → Contains xs y → Contains (x ∷ xs) y
-contains_tail x xs y there = Contains-append_right (x ∷ []) xs y there
-
-contains_cases : (x : Entry) (xs : List Entry) (y : Entry) → Contains (x ∷ xs) y → (x ≡ y) ⊎ Contains xs y
-contains_cases x xs y there = elim (Contains-append_cases (x ∷ []) xs y there) [
-  | inl at ↦ elim (Contains-push_cases [] x y at) [ inl none ↦ absurd (not_in_none y none) | inr is ↦ inl is ]
-  | inr later ↦ inr later
-]
+use Rattle.law_service.proofs.ListElements.{not_in_none, contains_head, contains_tail, contains_cases}
 
 -- how often a code is among owners
 count_cons : (c x : ℕ) (xs : List ℕ) → count_of c (x ∷ xs) ≡ cond (x == c) 1 0 + count_of c xs
@@ -84,6 +69,9 @@ grants_gap owes gap t = cond_both (nat_le (sum_by owes t.entries) 40) _ _ (λ (g
 pub round_gap : (seconds f : ℕ) (t : Table) → (plan_round seconds f t).gap ≡ gap_of seconds f t.entries
 unfolding plan_round
 round_gap seconds f t = grants_gap (owed_to seconds (f + gap_of seconds f t.entries)) (gap_of seconds f t.entries) t
+
+pub some_gap : (seconds f : ℕ) (t : Table) → 0 < (plan_round seconds f t).gap
+some_gap seconds f t = (let is = round_gap seconds f t in let range = gap_range seconds f t.entries in omega (arith, is, range))
 
 -- where all fits, each stream has its own
 pub fitting_grants : (seconds f due : ℕ) (t : Table) → due ≡ f + (plan_round seconds f t).gap → total seconds due t.entries ≤ 40

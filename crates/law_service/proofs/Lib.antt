@@ -5,6 +5,7 @@ mod KeptInRounds
 mod HostsOfRanks
 mod HostedRounds
 mod AcceptedSchedules
+mod ListElements
 mod AcknowledgedRequests
 mod ContentionSlots
 mod KeptNone
