@@ -1,8 +1,3 @@
--- kept for the crates above
-pub mod OneLog
-pub mod OneText
-pub mod SameCosts
--- for this crate alone
 mod EntriesApart
 mod FloodFacts
 mod HeardApart
@@ -10,6 +5,9 @@ mod InTurn
 mod KeptApart
 mod OfTrails
 mod OneFloodLog
+mod OneLog
+mod OneText
 mod SameBefore
+mod SameCosts
 mod SameElements
 mod TunedBack

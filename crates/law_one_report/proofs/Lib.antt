@@ -1,0 +1,3 @@
+mod FloodTexts
+mod SameDecisions
+mod SameReports

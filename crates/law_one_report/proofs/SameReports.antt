@@ -1,0 +1,120 @@
+-- Two reports of one command and one input are the same.
+use Rattle.std.proofs.Common.{◌≡◌, ℕ, ◌≤◌, List, [], ◌++◌, true, Ok, Result, codes, flat_map, sum_by, length, sym, ◌∙◌, ap, subst}
+use Rattle.std.specs.Prelude.{IsPermutation}
+use Rattle.std.proofs.Math.Path.{fun_ext}
+use Rattle.std.proofs.lemmas.List.Sorted.{IsPermutation-refl, sum_by-IsPermutation}
+use Rattle.scenario_text.specs.FloodParts.{FloodParts, IsSound, knows}
+use Rattle.scenario_text.specs.ScenarioFacts.{IsSoundScenario}
+use Rattle.scenario_text.specs.ScenarioGrammar.{IsScenario}
+use Rattle.scenario_text.specs.ScenarioParts.{ScenarioParts}
+use Rattle.scenario_text.specs.declared.lines.NodeLine.{NodeLine}
+use Rattle.scenario_text.specs.Canonical.{canonical, IsSaid}
+use Rattle.scenario_clocks.specs.StatedClocks.{scenario_clock, stated_clock}
+use Rattle.tick_clock.specs.Clocks.{IsClock}
+use Rattle.scenario_maker.specs.Made.{made, IsSize}
+use Rattle.deadline_plan.specs.Admission.{Plan}
+use Rattle.bus_model.specs.Bus.{bus_deliveries, bus_drops}
+use Rattle.lwb_flood.specs.FloodLog.{HasClocks}
+use Rattle.law_terms.specs.LawfulRuns.{IsLawfulRun}
+use Rattle.air_log.specs.declared.entry.Entry.{Entry}
+use Rattle.air_log.specs.Lawful.{Lawful}
+use Rattle.air_log.specs.LogText.{log_text}
+use Rattle.replay_tool.specs.Reports.{IsOfRun, IsFloodReport, Telling, OfScenario, log_report}
+use Rattle.replay_tool.specs.RunReport.{report_lines, run_report, node_energy, energy_line}
+use Rattle.replay_tool.specs.Summary.{summary, number_line, sent_ticks, on_ticks}
+use Rattle.replay_tool.specs.BusReport.{bus_report}
+use Rattle.replay_tool.specs.DeadlineReport.{IsDeadlineReport}
+use Rattle.replay_tool.specs.declared.command.Command.TheVariants.{Flood, Run, Log, Bus, Demo, Deadlines}
+use Rattle.law_one_log.specs.OneLog.{OneCostLaw, OneFloodLogLaw, OneLogLaw, OneTextLaw}
+use Rattle.law_one_report.specs.OneReport.{OneReportLaw}
+use Rattle.law_one_report.proofs.FloodTexts.{flood_is_whole}
+use Rattle.law_one_report.proofs.SameDecisions.{one_plan_report}
+
+-- the laws that this stands on
+pub record Laws : Type 0 where
+  pub log : OneLogLaw
+  pub text : OneTextLaw
+  pub cost : OneCostLaw
+  pub flood : OneFloodLogLaw
+  pub clocks : (f : FloodParts) → IsSound f → (1 ≤ f.start) × (f.start ≤ 200) → HasClocks f (stated_clock f)
+  pub drift : (s : ScenarioParts) → IsScenario s → (v : ℕ) → knows s.nodes v ≡ true → IsClock (scenario_clock s v)
+  pub said : (seed n frames : ℕ) → IsSize n frames → IsSaid (made seed n frames)
+  pub sound : (s : ScenarioParts) → IsScenario s → IsSoundScenario s
+
+-- what a text says, it says alone
+one_said : {X E : Type 0} (r : Result X E) (x y : X) → r ≡ Ok x → r ≡ Ok y → x ≡ y
+one_said r x y is also = cc
+
+-- a scenario that some text says, of which a telling tells the same by any two lawful logs
+module _ (laws : Laws) (s : ScenarioParts) (said : IsScenario s) where
+  lawful_run : (air : List Entry) → Lawful s (scenario_clock s) air → IsLawfulRun s (scenario_clock s) air
+  lawful_run air lawful = record { sound = laws.sound s said; drift = laws.drift s said; lawful = lawful }
+
+  abbrev ToldAlike : Telling → Type 0
+  ToldAlike told =
+      (a b : List Entry) → IsLawfulRun s (scenario_clock s) a → IsLawfulRun s (scenario_clock s) b
+      → told (bus_deliveries s) (bus_drops s) s (scenario_clock s) a ≡ told (bus_deliveries s) (bus_drops s) s (scenario_clock s) b
+
+  energies : (a b : List Entry) → IsLawfulRun s (scenario_clock s) a → IsLawfulRun s (scenario_clock s) b
+      → node_energy s (scenario_clock s) a ≡ node_energy s (scenario_clock s) b
+  energies a b of_a of_b = fun_ext (λ n. ap (energy_line n.node) (laws.cost s (scenario_clock s) a b of_a of_b n.node))
+
+  run_alike : ToldAlike run_report
+  run_alike a b of_a of_b =
+      ap (λ (line : NodeLine → List ℕ). report_lines (bus_deliveries s) (bus_drops s) ++ flat_map line s.nodes) (energies a b of_a of_b)
+
+  log_alike : ToldAlike log_report
+  log_alike a b of_a of_b =
+      ap (λ (l : List ℕ). l ++ log_text a) (run_alike a b of_a of_b)
+      ∙ ap (λ (l : List ℕ). run_report (bus_deliveries s) (bus_drops s) s (scenario_clock s) b ++ l) (laws.text s (scenario_clock s) a b of_a of_b)
+
+  -- the summary of these ticks of sending and listening
+  abbrev sums : ℕ → ℕ → List ℕ
+  sums sent on =
+      number_line (codes "deliveries") (length (bus_deliveries s)) ++ number_line (codes "drops") (length (bus_drops s))
+      ++ number_line (codes "sent") sent ++ number_line (codes "on") on
+
+  sums_alike : ToldAlike summary
+  sums_alike a b of_a of_b =
+      let moved = laws.log s (scenario_clock s) a b of_a of_b in
+      ap (λ (n : ℕ). sums n (sum_by on_ticks a)) (sym (sum_by-IsPermutation sent_ticks a b moved))
+      ∙ ap (sums (sum_by sent_ticks b)) (sym (sum_by-IsPermutation on_ticks a b moved))
+
+  one_run : (told : Telling) → ToldAlike told → (a b : List Entry) (text other : List ℕ) → IsOfRun told s a text → IsOfRun told s b other
+      → (text ≡ other) × IsPermutation a b
+  one_run told alike a b text other is also =
+      let of_a = lawful_run a is.law in
+      let of_b = lawful_run b also.law in
+      (is.is ∙ alike a b of_a of_b ∙ sym also.is, laws.log s (scenario_clock s) a b of_a of_b)
+
+-- of the scenario that the bytes say
+module _ (laws : Laws) (bytes : List ℕ) (a b : List Entry) (text other : List ℕ) where
+  of_scenario : (told : Telling) → ((s : ScenarioParts) (said : IsScenario s) → ToldAlike laws s said told)
+      → OfScenario bytes (λ s. IsOfRun told s a text) → OfScenario bytes (λ s. IsOfRun told s b other) → (text ≡ other) × IsPermutation a b
+  of_scenario told alike is also =
+      let here : IsOfRun told is.0 b other = subst (λ (s : ScenarioParts). IsOfRun told s b other) (one_said _ also.0 is.0 also.1 is.1) also.2 in
+      one_run laws is.0 (bytes, is.1) told (alike is.0 (bytes, is.1)) a b text other is.2 here
+
+  -- no log comes with it
+  no_logs : a ≡ [] → b ≡ [] → IsPermutation a b
+  no_logs none none_too = subst (IsPermutation a) (none ∙ sym none_too) (IsPermutation-refl a)
+
+pub one_report : Laws → OneReportLaw
+one_report laws Flood asked bytes a b text other is also =
+    let f = is.0 in
+    let whole = flood_is_whole bytes f is.1 in
+    let here : IsFloodReport f b other = subst (λ (g : FloodParts). IsFloodReport g b other) (one_said _ also.0 f also.1 is.1) also.2 in
+    (is.2.is ∙ sym here.is, laws.flood f (stated_clock f) a b (laws.clocks f whole.0 (whole.1, whole.2)) is.2.law here.law)
+one_report laws Run asked bytes a b text other is also =
+    of_scenario laws bytes a b text other run_report (λ s said. run_alike laws s said) is also
+one_report laws Log asked bytes a b text other is also =
+    of_scenario laws bytes a b text other log_report (λ s said. log_alike laws s said) is also
+one_report laws Bus asked bytes a b text other is also =
+    (is.2.1 ∙ ap bus_report (one_said _ is.0 also.0 is.1 also.1) ∙ sym also.2.1, no_logs laws bytes a b text other is.2.0 also.2.0)
+one_report laws (Demo seed nodes frames) asked bytes a b text other is also =
+    let s = made seed nodes frames in
+    let said : IsScenario s = (canonical s, laws.said seed nodes frames asked.1.2) in
+    one_run laws s said summary (sums_alike laws s said) a b text other is also
+one_report laws Deadlines asked bytes a b text other is also =
+    let here = subst (λ (p : Plan). IsDeadlineReport p other) (one_said _ also.0 is.0 also.1 is.1) also.2.1 in
+    (one_plan_report is.0 text other is.2.1 here, no_logs laws bytes a b text other is.2.0 also.2.0)
