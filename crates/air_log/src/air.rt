@@ -22,7 +22,7 @@ impl Model for Air {
 }
 
 impl Air {
-    /// An air with no entry. It keeps the allocator and takes no memory.
+    /// A radio log with no entry. It keeps the allocator and takes no memory.
     pub fn new(alloc: Global) -> Air
         ensures { result ≡ [] }
     {
@@ -31,7 +31,7 @@ impl Air {
         }
     }
 
-    /// Adds an entry behind those that are there. After `Memory` the air is as it was.
+    /// Adds an entry after those that are there. After `Memory` the log is as it was.
     pub fn push(&mut self, e: Entry) -> Result<(), Memory>
         ensures ok { OnOk result (self.new ≡ self.old ++ e ∷ []) }
         ensures err { OnErr result (self.new ≡ self.old) }
@@ -48,7 +48,7 @@ impl Air {
         self.entries.len()
     }
 
-    /// The entry at this place, counted from 0; None exactly where there are no more than `i` entries.
+    /// The entry at this place, counted from 0; returns `None` if and only if there are at most `i` entries.
     pub fn at(&self, i: usize) -> Option<&Entry>
         ensures { option_copied result ≡ slice_get self.now i }
     {

@@ -1,4 +1,4 @@
-//! A trail as code goes through it: what a device is told, and what it makes of it.
+//! The trace of one node as code walks it: which events a device receives, and how it responds.
 
 ghost use Rattle.std.specs.Prelude.{◌≡◌, ◌≤◌, ◌<◌, ◌^◌, ℕ, List, [], ◌∷◌, ◌++◌, Some, None, Option, OnOk, IfOk, length, option_to_list, All, fold};
 ghost use Rattle.lwb_base.specs.declared.event.Event.TheVariants.{Heard as HeardOf};

@@ -1,4 +1,4 @@
-//! The node of a trail: a node core with its radio and its alarm.
+//! The node of a trace: a node core with its radio and its alarm.
 
 ghost use Rattle.std.specs.Prelude.{◌≡◌, ◌<◌, ◌≤◌, ◌^◌, ℕ, IfOk, IfSome, Some, None, length, max};
 ghost use Rattle.tick_clock.specs.Clocks.{due};
@@ -56,12 +56,12 @@ impl Model for Ordered {
     ghost inverse = { λ o. record { tick = o.tick; packet = o.packet } };
 }
 
-/// The node of a trail, for what runs nodes in true time: a node core with its power, its radio, its one alarm, its one
-/// ordered sending and its sending that runs. All times are true ticks of 1/64 µs, and those of orders are by the node's
-/// clock. A tuning that ended is kept back as long as it may go on, and handed out after that.
+/// The node of a trace (`Trail`), for what runs nodes in true time: a node core with its power, its radio, its one alarm, its
+/// one ordered transmission and its running transmission. All times are true ticks of 1/64 µs, and those of orders are by the
+/// node's clock. A tuning that ended is kept back as long as it may go on, and handed out after that.
 ///
-/// Contracts see its state, and say what each call does to it by the trail: `whole` is the device of the trail, where what
-/// it has made so far is in the log.
+/// Contracts see its state, and say what each call does to it by the trace: `whole` is the device of the trace, where what it
+/// has made so far is in the log.
 #[derive(Drop)]
 pub struct Device {
     pub(crate) node: NodeId,
@@ -143,7 +143,7 @@ impl Device {
         self.on
     }
 
-    /// What it scans, holds or hosts. None exactly where its power is off.
+    /// What it scans, holds or hosts. Returns `None` if and only if its power is off.
     pub fn current_tune(&self) -> Option<Tune>
         ensures { result ≡ tune_of self.now.power }
     {
@@ -175,7 +175,7 @@ impl Device {
         &self.core
     }
 
-    /// The tuning that was kept back, once. None comes exactly where none was.
+    /// The tuning that was kept back, once. Returns `None` if and only if none was.
     pub fn hand_out(&mut self) -> Option<TunedEntry>
         ensures whole { (made : Made) → whole self.old made ≡ whole self.new (with_tuned result made) }
         ensures own { IfSome result (λ e. e.node ≡ self.old.setup.id) }

@@ -13,7 +13,7 @@ use lwb_base::Payload;
 use stream_source::Put;
 
 impl Device {
-    /// Power comes on. True exactly where it was off; then the node is to be told of its boot.
+    /// Power comes on. Returns `true` if and only if it was off; then the node has to be notified of its boot.
     pub fn switch_on(&mut self) -> bool
         requires { CanBoot self.old.power }
         ensures whole { (clock : ℕ → ℕ) (t frame : ℕ) (made : Made)
@@ -31,7 +31,7 @@ impl Device {
         true
     }
 
-    /// Power goes off at tick t, and with it the radio, the alarm and what is ordered; a sending that runs goes on. A tuning
+    /// Power goes off at tick t, and with it the radio, the alarm and what is ordered; a running transmission goes on. A tuning
     /// that does not go on any more is handed out.
     pub fn switch_off(&mut self, t: u64) -> Option<TunedEntry>
         ensures whole { (clock : ℕ → ℕ) (frame : ℕ) (made : Made)
@@ -50,7 +50,7 @@ impl Device {
         self.silence(t)
     }
 
-    /// A stream, 0 to 3, wishes this interval, 1 to 120.
+    /// A stream, 0 to 3, requests this interval, 1 to 120.
     pub fn declare(&mut self, stream: u8, interval: u8)
         requires stream { stream ≤ 3 }
         requires interval { (1 ≤ interval) × (interval ≤ 120) }
@@ -64,7 +64,7 @@ impl Device {
         }
     }
 
-    /// A stream, 0 to 3, wishes nothing more.
+    /// A stream, 0 to 3, requests nothing more.
     pub fn leave(&mut self, stream: u8)
         requires { stream ≤ 3 }
         ensures whole { (clock : ℕ → ℕ) (t frame : ℕ) (made : Made)
@@ -77,7 +77,7 @@ impl Device {
         }
     }
 
-    /// A packet is put to a stream, 0 to 3. True exactly where it is lost: the node is off, or the stream refuses it.
+    /// A packet is put to a stream, 0 to 3. Returns `true` if and only if it is lost: the node is off, or the stream drops it.
     pub fn put(&mut self, stream: u8, payload: &Payload) -> bool
         requires stream { stream ≤ 3 }
         requires payload { length payload.now ≤ self.old.setup.profile.payload_max }

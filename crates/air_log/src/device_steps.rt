@@ -40,7 +40,7 @@ impl Device {
         }
     }
 
-    /// The delivery of the last event that had an effect, once. None comes exactly where it delivered nothing.
+    /// The delivery of the last event that had an effect, once. Returns `None` if and only if it delivered nothing.
     pub fn delivered(&mut self) -> Option<Delivery>
         ensures delivery { result ≡ self.old.delivery }
         ensures once { self.new ≡ record self.old { delivery = None } }
@@ -63,8 +63,8 @@ impl Device {
         due
     }
 
-    /// The sending that starts at tick t. None comes exactly where none does: nothing is ordered for this tick, the radio is
-    /// off, or the node still sends.
+    /// The transmission that starts at tick t. Returns `None` if and only if none does: nothing is ordered for this tick, the
+    /// radio is off, or the node still sends.
     pub fn begin(&mut self, t: u64) -> Option<Sending>
         requires early { t ≤ 2 ^ 45 }
         ensures whole { (made : Made) → begun self.old.setup t (whole self.old made) ≡ whole self.new (with_sent result made) }
@@ -101,7 +101,7 @@ impl Device {
         }
     }
 
-    /// The own sending that ends at tick t, of which the node is to be told. None comes exactly where none does.
+    /// The own transmission that ends at tick t, of which the node has to be notified. Returns `None` if and only if none does.
     pub fn end_sending(&mut self, t: u64) -> Option<Sending>
         ensures ended { result ≡ ending_at t self.old.sending }
         ensures after { self.new ≡ record self.old { sending = if is_some result then None else self.old.sending } }

@@ -18,7 +18,7 @@ pub struct SentEntry {
     pub packet: Packet,
 }
 
-/// A node heard the packet that `from` sent, from its start to its end.
+/// A node received the packet that `from` sent, from its start to its end.
 #[derive(Drop)]
 pub struct HeardEntry {
     pub rank: Rank,
@@ -29,7 +29,7 @@ pub struct HeardEntry {
     pub packet: Packet,
 }
 
-/// A longest time in which a node's radio is on at the channel of a rank, its own sendings included.
+/// A longest time in which a node's radio is on at the channel of a rank, its own transmissions included.
 #[derive(Clone, Copy, Debug, PartialEq, Eq)]
 pub struct TunedEntry {
     pub rank: Rank,

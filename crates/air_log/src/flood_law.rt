@@ -3,7 +3,7 @@
 ghost use Rattle.air_log.specs.FloodLaw.{FloodLaw};
 ghost use Rattle.air_log.specs.TwoNodeLog.{two_nodes, true_time, two_node_log};
 
-/// The log of a flood over two nodes, worked by hand, keeps the law.
+/// Worked example: the log of a flood over two nodes keeps the law.
 pub fn two_nodes_keep_the_flood_law()
     ensures { FloodLaw two_nodes true_time two_node_log }
 {}

@@ -1,4 +1,4 @@
-//! What a node heard, picked out of the entries of a log.
+//! What a node received, picked out of the entries of a log.
 
 ghost use Rattle.std.specs.Prelude.{◌≡◌, OnOk, IfOk, map, ◌++◌, option_to_list};
 ghost use Rattle.std.specs.Option.{option_map};

@@ -1,4 +1,4 @@
-//! The log of a run: who sent, who heard, and who was tuned, and the laws that logs keep.
+//! The log of a run: who sent, who received, and who was tuned, and the laws that logs keep.
 #![tactic(auto)]
 
 mod air;

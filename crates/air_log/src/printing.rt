@@ -8,8 +8,8 @@ use lwb_base::Memory;
 use std::alloc::{AllocError, Global};
 use text_writers::write_lines;
 
-/// The log text: one line for each entry, by start, then kind in the order sent, heard, tuned, then node. Entries that
-/// this order leaves equal stay in the air's order.
+/// The log text: one line for each entry, by start, then kind in the order `sent`, `heard`, `tuned`, then node. Entries that
+/// this order leaves equal stay in the order in which they were added.
 pub fn text(alloc: Global, a: &Air) -> Result<String, Memory>
     ensures { IfOk result (λ text. string_bytes text ≡ log_text a.now) }
 {
@@ -18,7 +18,7 @@ pub fn text(alloc: Global, a: &Air) -> Result<String, Memory>
     Ok(text)
 }
 
-/// Writes the log text behind another text.
+/// Writes the log text after another text.
 pub fn write_text(alloc: Global, text: &mut String, a: &Air) -> Result<(), Memory>
     ensures { OnOk result (string_bytes text.new ≡ string_bytes text.old ++ log_text a.now) }
 {

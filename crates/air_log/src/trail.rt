@@ -1,4 +1,4 @@
-//! What a node does by its trail.
+//! What a node does by its trace (`Trail`).
 
 ghost use Rattle.std.specs.Prelude.{◌≡◌, map, reverse, slice_get};
 ghost use Rattle.std.specs.Option.{option_flatten};
@@ -9,8 +9,8 @@ use crate::{SentEntry, TunedEntry};
 use bus_rules::{Delivery, Tune};
 use std::marker::Model;
 
-/// What a node does by the script, its clock and what it heard, from the start of the run to its end. Contracts see what
-/// is told of the trail of the definitions.
+/// What a node does by the script, its clock and what it received, from the start of the run to its end. Contracts see what the
+/// trace (`Trail`) of the definitions says.
 #[derive(Drop)]
 pub struct Trail {
     pub(crate) sent: Vec<SentEntry>,
@@ -39,7 +39,7 @@ impl Model for Trail {
 }
 
 impl Trail {
-    /// The node's sendings, by start.
+    /// The node's transmissions, by start.
     pub fn sent(&self) -> &[SentEntry]
         ensures { map sending_of result.now ≡ self.now.sent }
     {
@@ -74,7 +74,8 @@ impl Trail {
         self.scanned
     }
 
-    /// The tune after the script lines of a frame. None exactly where the node is off then, or the run has no such frame.
+    /// The tune after the script lines of a frame. Returns `None` if and only if the node is off then, or the run has no such
+    /// frame.
     pub fn tune_at(&self, frame: u32) -> Option<Tune>
         ensures { result ≡ option_flatten (slice_get self.now.tunes frame) }
     {

@@ -1,4 +1,4 @@
-//! Laws of the trails of nodes, each a function that does nothing and has the law as its contract.
+//! Laws of the traces of nodes, each a function that does nothing and has the law as its contract.
 
 ghost use Rattle.std.specs.Prelude.{◌≡◌, ℕ, suc, ◌<◌, ◌≤◌, List, [], ◌∷◌, ◌++◌, filter, map, All, AllPairs};
 ghost use Rattle.scenario_text.specs.ScenarioParts.{ScenarioParts};
@@ -25,8 +25,8 @@ pub fn quiet_ticks_change_nothing()
         → before_tick s v clock hs b ≡ before_tick s v clock hs a }
 {}
 
-/// What a node does before a tick hangs on the hearings alone that ended before it, and what it does at a tick before a
-/// sending starts on those that ended by then. So no hearing counts that ends with the run or after it.
+/// What a node does before a tick depends only on the receptions that ended before it. What it does at a tick before a
+/// transmission starts depends only on those that ended by then. So no reception counts that ends with the run or after it.
 pub fn later_hearings_change_nothing_before()
     ensures before { (s : ScenarioParts) (v : ℕ) (clock : ℕ → ℕ) (gs hs : List Reception) (t : ℕ)
         → filter (ends_before t) gs ≡ filter (ends_before t) hs
@@ -39,13 +39,13 @@ pub fn later_hearings_change_nothing_before()
         → trail s v clock gs ≡ trail s v clock hs }
 {}
 
-/// Hearings that stand in the air by end and sender are taken by the trail of their node as they stand.
+/// Receptions that the log lists by end and sender are taken by the trace of their node in that order.
 pub fn hearings_in_turn_are_taken_as_they_stand()
     ensures { (air : List Entry) (v : ℕ) → AreInTurn (hearings_by air v)
         → heard_by air v ≡ map reception_of (hearings_by air v) }
 {}
 
-/// Alarms of a tick come to an end, whatever a node hears: they are due one after another, until none is. So whoever takes
+/// Alarms of a tick come to an end, whatever a node receives: they are due one after another, until none is. So whoever takes
 /// them one after another until none is due comes to the same.
 pub fn alarms_of_a_tick_end()
     ensures end { (s : ScenarioParts) (v : ℕ) (clock : ℕ → ℕ) (hs : List Reception) (t : ℕ)
@@ -56,7 +56,7 @@ pub fn alarms_of_a_tick_end()
         → IsAlarmRun clock s t d e → IsAlarmRun clock s t d f → e ≡ f }
 {}
 
-/// A hearing more, which stands behind the others, changes nothing before it ends, and at its end it is taken last.
+/// One more reception, which is after the others, changes nothing before it ends, and at its end it is taken last.
 pub fn hearings_come_one_by_one()
     ensures before { (s : ScenarioParts) (v : ℕ) (clock : ℕ → ℕ) (hs : List Reception) (h : Reception) (t : ℕ) → t ≤ h.end
         → before_tick s v clock (hs ++ h ∷ []) t ≡ before_tick s v clock hs t }
@@ -64,7 +64,7 @@ pub fn hearings_come_one_by_one()
         → heard clock s t (hs ++ h ∷ []) d ≡ hears clock s t (heard clock s t hs d) h }
 {}
 
-/// What is set at a node lies ahead, and until the next of it, the next end of a hearing and the next script line the node
+/// What is set at a node lies ahead, and until the next of it, the next end of a reception and the next script line the node
 /// stays as it is.
 pub fn nothing_happens_until_the_next_is_due()
     ensures ahead { (s : ScenarioParts) (v : ℕ) (clock : ℕ → ℕ) (hs : List Reception) → IsSoundScenario s → IsClock clock
@@ -74,9 +74,9 @@ pub fn nothing_happens_until_the_next_is_due()
         → before_tick s v clock hs b ≡ before_tick s v clock hs a }
 {}
 
-/// No entry of a trail stands twice. Each sending starts after the one before it, in the run, and lasts its airtime. No
-/// tuning is empty, and they stand with the last first: each begins when the one before it has ended, or later if both
-/// are of one rank.
+/// No entry of a trace appears twice. Each transmission starts after the one before it, in the run, and lasts its airtime. No
+/// tuning is empty, and they are listed with the last first: each begins when the one before it has ended, or later if both are
+/// of one rank.
 pub fn entries_of_a_trail_differ()
     ensures sent { (s : ScenarioParts) (v : ℕ) (clock : ℕ → ℕ) (hs : List Reception)
         → AllPairs StartsBefore (trail s v clock hs).made.sent }
@@ -88,13 +88,13 @@ pub fn entries_of_a_trail_differ()
         → All (IsTunedBy v (run_end s)) (trail s v clock hs).made.tuned }
 {}
 
-/// Worked by hand: the trails of a host and of another node through their first round.
+/// Worked example: the traces of a host and of another node through their first round.
 pub fn trails_of_a_first_round()
     ensures host { IsWorked first_round (trail first_round 1 (true_time 1) heard_by_host) sent_by_host tuned_by_host 2494336 (Host 0 9) }
     ensures other { IsWorked first_round (trail first_round 2 (true_time 2) heard_by_other) sent_by_other tuned_by_other 2344320 (Hold 0 9) }
 {}
 
-/// The log of these two trails, worked by hand, is lawful.
+/// Worked example: the log of these two traces is valid (`Lawful`).
 pub fn the_log_of_a_first_round_is_lawful()
     ensures { Lawful first_round true_time first_round_log }
 {}

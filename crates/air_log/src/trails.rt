@@ -1,4 +1,4 @@
-//! The trail of a node over the entries of a log.
+//! The trace of a node over the entries of a log.
 
 ghost use Rattle.std.specs.Prelude.{◌≡◌, ◌≤◌, ◌<◌, ◌+◌, ◌%◌, ◌^◌, ℕ, true, false, Some, None, OnOk, IfOk, List, map, take};
 ghost use Rattle.std.specs.Prelude.{fold, slice_get, min, ◌==◌, if◌then◌else◌, [], ◌∷◌, ◌++◌};
@@ -24,8 +24,8 @@ use scenario_text::{Scenario, ScriptLine};
 use std::alloc::Global;
 use tick_clock::DriftClock;
 
-/// The trail of a node over its Heard entries of any air, lawful or not, taken by end, then sender, then place in the air.
-/// One that ends where the node is off, or not before the end of the run, has no effect.
+/// The trace of a node over its `Heard` entries of any log, valid (`Lawful`) or not, taken by end, then sender, then place in
+/// the log. One that ends where the node is off, or not before the end of the run, has no effect.
 pub fn trail_of<C: DriftClock>(
     alloc: Global,
     s: &Scenario,

@@ -10,7 +10,7 @@ use lwb_base::{Packet, Profile};
 use std::marker::Model;
 
 /// What the windows of a node count so far, in ticks of 1/64 µs, for what runs nodes in true time. That the sum of all windows
-/// of a run is below 2^64 is a law of trails, so on the way it may wrap.
+/// of a run is below 2^64 is a law of traces, so on the way it may wrap.
 #[derive(Drop)]
 pub struct WindowSum {
     profile: Profile,
@@ -47,7 +47,7 @@ impl WindowSum {
         }
     }
 
-    /// After an event that found a window open or not, and left one open or not. With it the sending of this packet ended.
+    /// After an event that found a window open or not, and left one open or not. With it the transmission of this packet ended.
     pub fn note(&mut self, before: bool, after: bool, by_alarm: bool, sent: Option<&Packet>)
         ensures after { self.new ≡ noted before after by_alarm (option_copied sent.entry) self.old }
         ensures small { self.new.last ≤ 2 ^ 28 }

@@ -12,8 +12,8 @@ use scenario_text::Scenario;
 use std::alloc::Global;
 use std::marker::Model;
 
-/// A scenario's run on a single-hop bus, without clocks: what is delivered, what is lost before it is queued, and what it
-/// costs each node.
+/// A scenario's run on the ideal single-hop bus, without clocks: what is delivered, what is lost before it is queued, and what
+/// it costs each node.
 #[derive(Drop)]
 pub struct Bus {
     net: Network,
@@ -34,7 +34,7 @@ impl Model for Bus {
 }
 
 impl Bus {
-    /// The run of the scenario. Err is want of memory.
+    /// The run of the scenario. `Err` means out of memory.
     pub fn run(alloc: Global, s: &Scenario) -> Result<Bus, Memory>
         ensures { IfOk result (IsBusRun s.now) }
     {
@@ -47,7 +47,7 @@ impl Bus {
         Ok(Bus { net, drops })
     }
 
-    /// What a node costs; None exactly where it is not in the scenario.
+    /// What a node costs; returns `None` if and only if it is not in the scenario.
     pub fn cost(&self, node: NodeId) -> Option<Cost>
         ensures { (s : ScenarioParts) → IsBusRun s self.now → result ≡ (if knows s.nodes node then Some (bus_cost s node) else None) }
     {

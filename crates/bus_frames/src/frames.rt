@@ -18,8 +18,9 @@ use plain_bus::Network;
 use scenario_text::Scenario;
 use std::alloc::Global;
 
-/// This frame at all nodes, which is below the number of frames: the script from its line `told` on, the rounds, and the
-/// end. What is lost before it is queued comes to the end of `drops`. The first line of a later frame. Err is want of memory.
+/// This frame at all nodes, which is below the number of frames: the script from its line `told` on, the rounds, and the end.
+/// What is lost before it is queued is added at the end of `drops`. Returns the place of the first line of a later frame. `Err`
+/// means out of memory.
 pub fn run_frame(
     alloc: Global,
     net: &mut Network,

@@ -19,7 +19,7 @@ use plain_bus::{Network, parts_of_round};
 use scenario_text::Scenario;
 use std::alloc::Global;
 
-/// The rounds of all ranks in this frame, one after another. Err is want of memory.
+/// The rounds of all ranks in this frame, one after another. `Err` means out of memory.
 pub fn run_rounds(alloc: Global, net: &mut Network, s: &Scenario, frame: u32) -> Result<(), Memory>
     requires frame { frame ≤ 16777215 }
     requires ready { IsReady s.now frame 1000000 net.old }

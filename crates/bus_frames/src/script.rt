@@ -18,8 +18,8 @@ use lwb_base::Memory;
 use plain_bus::{Network, place_of};
 use scenario_text::{Act, Scenario, ScriptLine};
 
-/// The nodes are told what the script has for this frame, from its line `from` on. What is lost by that comes to the end of
-/// `drops`. The first line of a later frame. Err is want of memory.
+/// The nodes carry out the script lines of this frame, from its line `from` on. What is lost by that is added at the end of
+/// `drops`. Returns the place of the first line of a later frame. `Err` means out of memory.
 pub fn tell_lines(
     net: &mut Network,
     s: &Scenario,

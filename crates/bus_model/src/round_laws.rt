@@ -7,8 +7,8 @@ ghost use Rattle.bus_rules.specs.Slots.{part_of};
 ghost use Rattle.bus_rules.specs.States.{State};
 ghost use Rattle.bus_model.specs.Received.{IsReceived};
 
-/// In a data slot of a round each member but the owner's node delivers exactly where a relay path of the slot's flood
-/// leads to it from there, and nobody else delivers: for every scenario and whatever the states of its nodes.
+/// In a data slot of a round each member but the owner's node delivers if and only if a relay path of the slot's flood leads to
+/// it from there, and nobody else delivers: for every scenario and whatever the states of its nodes.
 pub fn data_is_received_by_relay_paths()
     ensures { (s : ScenarioParts) → IsScenario s → (rank f : ℕ) (p : Plan) (states : ℕ → State) (j owner : ℕ) → part_of p j ≡ Data owner
         → IsReceived s rank f p states j owner }

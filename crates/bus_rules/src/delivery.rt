@@ -19,7 +19,7 @@ pub struct Delivery {
     pub payload: Payload,
 }
 
-/// A packet that a script line put and that was lost before it was queued: the node was off, or its stream refused it.
+/// A packet that a script line put and that was lost before it was queued: the node was off, or its stream dropped it.
 #[derive(Clone, Copy, Debug, PartialEq, Eq)]
 pub struct DropLine {
     pub frame: u32,

@@ -19,7 +19,7 @@ impl Model for FloodResult {
 }
 
 impl FloodResult {
-    /// What these accept, each with a step, 0 to 11, and so many sendings in all.
+    /// A flood in which these nodes accept, each with a step, 0 to 11, and with this number of transmissions in all.
     pub fn new(accepts: Vec<(NodeId, u8)>, sent: u32) -> FloodResult
         ensures { result ≡ record { accepts = accepts.items; sent = sent } }
     {
@@ -33,7 +33,7 @@ impl FloodResult {
         &self.accepts
     }
 
-    /// The number of all sendings.
+    /// The number of all transmissions.
     pub fn sent(&self) -> u32
         ensures { result ≡ self.now.sent }
     {

@@ -1,7 +1,7 @@
 ghost use Rattle.std.specs.Prelude.{◌≡◌, ◌≤◌};
 ghost use Rattle.bus_rules.specs.Plans.{last_with, slots_named};
 
-/// The contention slots of a round, 1 to 4: as many as its schedule names, or one where it names none, which is 0.
+/// The contention slots of a round, 1 to 4: the number that its schedule names, or one where it names none, which is 0.
 pub fn contention_slots(contend: u8) -> u8
     requires { contend ≤ 4 }
     ensures value { result ≡ slots_named contend }

@@ -11,7 +11,7 @@ const SCANNED: u8 = 12;
 /// What a node listens to, or what it hosts.
 #[derive(Clone, Copy, Debug, PartialEq, Eq)]
 pub enum Tune {
-    /// It scans this rank, and has waited so many frames for it.
+    /// It scans this rank, and has waited this number of frames for it.
     Scan(Rank, u8),
     /// It holds a plan of this rank for the round of this frame.
     Hold(Rank, u32),
@@ -19,8 +19,8 @@ pub enum Tune {
     Host(Rank, u32),
 }
 
-/// The tune after the end of a frame. `joined` says that a scanner accepted the frame's opening, `own` is the rank that
-/// the node hosts, if it does, and `hosts` the number of ranks, 1 to 4. The frame is at most 16,777,215.
+/// The tune after the end of a frame. `joined` says that a scanning node accepted the frame's opening schedule, `own` is the
+/// rank that the node hosts, if it does, and `hosts` the number of ranks, 1 to 4. The frame is at most 16,777,215.
 pub fn next_tune(t: Tune, frame: u32, joined: bool, own: Option<Rank>, hosts: u8) -> Tune
     requires hosts { (1 ≤ hosts) × (hosts ≤ 4) }
     requires frame { frame ≤ 16777215 }

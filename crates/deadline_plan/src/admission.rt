@@ -28,8 +28,8 @@ pub enum Admit {
     Over { from: u32, until: u32, demand: u32 },
 }
 
-/// A plan of so many frames with so many slots each, and the streams that were admitted. Each job of these has a slot in
-/// time. Contracts see the numbers and the streams in the order of their admission.
+/// A plan of `frames` frames with `slots` slots each, and the streams that were admitted. Each job of these has a slot in time.
+/// Contracts see the numbers and the streams in the order of their admission.
 #[derive(Drop)]
 pub struct Deadlines {
     slots: u8,

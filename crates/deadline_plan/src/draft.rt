@@ -116,7 +116,7 @@ impl DeadlineDraft {
         Ok(())
     }
 
-    /// What the text says. None comes exactly where slots, frames or a stream is missing.
+    /// What the text says. Returns `None` if and only if slots, frames or a stream is missing.
     pub fn finish(self) -> Option<DeadlineText>
         ensures { result ≡ parts_of self.slots self.frames self.streams }
     {

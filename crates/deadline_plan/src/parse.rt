@@ -7,9 +7,9 @@ use crate::draft::DeadlineDraft;
 use std::alloc::Global;
 use text_readers::{FaultKind, ParseFault, read_lines};
 
-/// Reads the text of a plan. `Line` comes exactly where a line is refused, with the first of them and its kind: `NotUtf8`,
-/// `BadWord`, `BadNumber`, `Range`, `Twice`, where slots, frames or an owner are given again, `TooMany`, for the 33rd
-/// stream, and `Missing`, where slots, frames or a stream lack behind the last line.
+/// Reads the text of a plan. Returns `Line` if and only if a line is rejected, with the first of them and its kind: `NotUtf8`,
+/// `BadWord`, `BadNumber`, `Range`, `Twice`, where slots, frames or an owner are given again, `TooMany`, for the 33rd stream,
+/// and `Missing`, where slots, frames or a stream are missing after the last line.
 pub fn parse_deadlines(alloc: Global, bytes: &[u8]) -> Result<DeadlineText, ParseFault>
     requires { length bytes.now < 2 ^ 31 }
     ensures { Gives result (plan_of bytes.now) }

@@ -14,7 +14,7 @@ pub struct DeadlineStream {
     pub deadline: u8,
 }
 
-/// What stands in a place of a list that holds no stream yet.
+/// What a place of a list contains that holds no stream yet.
 impl Default for DeadlineStream {
     fn default() -> DeadlineStream {
         DeadlineStream {

@@ -40,7 +40,7 @@ impl Model for Account {
 }
 
 impl Account {
-    /// The account of a run of this scenario, by the log of the run. Err is want of memory.
+    /// The account of a run of this scenario, by the log of the run. `Err` means out of memory.
     pub fn of(alloc: Global, s: &Scenario, a: &Air) -> Result<Account, Memory>
         requires lawful { Lawful s.now (scenario_clock s.now) a.now }
         ensures { IfOk result (λ account. IsAccount s.now (scenario_clock s.now) a.now account) }
@@ -84,7 +84,7 @@ impl Account {
         Ok(Account { lines })
     }
 
-    /// The energy of a node; None exactly where it is not in the scenario.
+    /// The energy of a node; returns `None` if and only if it is not in the scenario.
     pub fn line(&self, node: NodeId) -> Option<Energy>
         ensures { result ≡ line_of self.now node }
     {

@@ -11,8 +11,8 @@ ghost use Rattle.energy_account.specs.Energies.{costs, energy_of};
 ghost use Rattle.energy_account.specs.ToldEnergies.{SendingsApart, TuningsApart};
 ghost use Rattle.energy_account.specs.WindowRows.{IsRowOf};
 
-/// Each sending of a node begins when the one before it has ended, and so does each of its tunings, whatever it hears and
-/// however its clock goes. So what they last together is over with the last of them.
+/// Each transmission of a node begins when the one before it has ended, and so does each of its tunings, whatever it receives
+/// and however its clock goes. So what they last together is over with the last of them.
 pub fn times_of_a_node_lie_apart()
     ensures sent { (s : ScenarioParts) (v : ℕ) (clock : ℕ → ℕ) (hs : List Reception)
         → SendingsApart (trail s v clock hs).made.sent }
@@ -20,13 +20,13 @@ pub fn times_of_a_node_lie_apart()
         → TuningsApart (reverse (trail s v clock hs).made.tuned) }
 {}
 
-/// Worked by hand: the energy of a host and of another node in their first round.
+/// Worked example: the energy of a host and of another node in their first round.
 pub fn energy_of_a_first_round()
     ensures host { energy_of first_round true_time first_round_log 1 ≡ costs 147456 2494336 5 1231294336 }
     ensures other { energy_of first_round true_time first_round_log 2 ≡ costs 147456 2344320 6 1346592640 }
 {}
 
-/// Worked by hand: what windows count with packets of 7, 9, 10 and 12 bytes, and any other window of either profile.
+/// Worked example: what windows count with packets of 7, 9, 10 and 12 bytes, and any other window of either profile.
 pub fn windows_count_by_their_last_sending()
     ensures seven { IsRowOf one 7 30720 43008 180736 223744 }
     ensures nine { IsRowOf one 9 34816 47104 193024 240128 }

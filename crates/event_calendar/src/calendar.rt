@@ -30,7 +30,7 @@ impl Model for Calendar {
 }
 
 impl Calendar {
-    /// A calendar of that many places, 1 to 64, in which nothing stands. No later call takes memory.
+    /// An empty calendar of that many places, 1 to 64. No later call takes memory.
     pub fn new(alloc: Global, places: u8) -> Result<Calendar, Memory>
         requires { (1 ≤ places) × (places ≤ 64) }
         ensures { IfOk result (λ c. c ≡ replicate places nothing_due) }
@@ -63,7 +63,7 @@ impl Calendar {
         }
     }
 
-    /// The least order by tick, then class, then place. None comes exactly where the map is empty.
+    /// The least order by tick, then class, then place. Returns `None` if and only if the map is empty.
     pub fn next(&self) -> Option<(u64, Class, u8)>
         ensures least { IsNext self.now result }
         ensures within { IfSome result (λ x. x.2 < length self.now) }

@@ -1,10 +1,10 @@
 /// What an order is for. Of orders for one tick, those of an earlier class come first.
 #[derive(Clone, Copy, Debug, PartialEq, Eq, PartialOrd, Ord)]
 pub enum Class {
-    /// A sending ends.
+    /// A transmission ends.
     SendingEnd,
     /// An alarm rings.
     Alarm,
-    /// A sending starts.
+    /// A transmission starts.
     SendingStart,
 }

@@ -2,7 +2,7 @@ ghost use Rattle.std.specs.Prelude.{◌≡◌, ◌≢◌, ◌<◌, ◌⊎◌, �
 ghost use Rattle.event_calendar.specs.declared.class.Class.{Class};
 ghost use Rattle.event_calendar.specs.Orders.{Due, Order, IsNext, at, changed, nothing_due};
 
-/// At first nothing stands in a map.
+/// At first a map is empty.
 pub fn nothing_stands_at_first()
     ensures { (places place : ℕ) (class : Class) → at (replicate places nothing_due) place class ≡ None }
 {}
@@ -22,7 +22,7 @@ pub fn one_order_is_next()
     ensures { (map : List Due) (x y : Option Order) → IsNext map x → IsNext map y → x ≡ y }
 {}
 
-/// A map has None as its next order exactly where it is empty: nothing stands at any place and class.
+/// A map has None as its next order if and only if it is empty: it has no order at any place and class.
 pub fn none_is_next_in_an_empty_map()
     ensures empty { (map : List Due) → IsNext map None → (place : ℕ) (class : Class) → at map place class ≡ None }
     ensures none { (map : List Due) (x : Option Order) → ((place : ℕ) (class : Class) → at map place class ≡ None)

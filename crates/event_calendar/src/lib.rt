@@ -1,4 +1,4 @@
-//! The orders that stand at up to 64 places, and the next of them: a sorted queue for each class.
+//! The orders of up to 64 places, and the next of them: a sorted queue for each class.
 #![tactic(auto)]
 
 mod calendar;

@@ -18,7 +18,7 @@ pub trait Orders {
         requires { place < length (map self.old) }
         ensures { map self.new ≡ changed (map self.old) place class None };
 
-    /// The least by tick, then class, then place. None comes exactly where the map is empty.
+    /// The least by tick, then class, then place. Returns `None` if and only if the map is empty.
     fn next(&self) -> Option<(u64, Class, u8)>
         ensures least { IsNext (map self.now) result }
         ensures within { IfSome result (λ x. x.2 < length (map self.now)) };

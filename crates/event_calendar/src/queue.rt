@@ -57,7 +57,7 @@ impl Queue {
         }
     }
 
-    /// Removes an order that stands in it.
+    /// Removes an order that is in it.
     #[inline(always)]
     pub fn remove(&mut self, entry: Entry)
         requires order { IsInOrder self.old.entries }

@@ -50,7 +50,7 @@ impl Queues {
         }
     }
 
-    /// Removes an order of that class that stands there.
+    /// Removes an order of that class that is there.
     #[inline(always)]
     pub fn remove(&mut self, class: Class, entry: Entry)
         requires order { IsInOrder (queue_of class self.old).entries }

@@ -11,8 +11,8 @@ const WANT_OF_MEMORY: u8 = 5;
 
 const NO_WORDS: u8 = 6;
 
-/// The words behind the program's name, from what the call for the process's words answered, or a status: 5 for want of
-/// memory, and 6 where that call answered anything else, as it does for a word that is no UTF-8.
+/// The words after the program's name, from what the call for the process's words answered, or a status: 5 for out of memory,
+/// and 6 where that call answered anything else, as it does for a word that is no UTF-8.
 pub fn words_of(alloc: Global, answer: io::Result<Args>) -> Result<Vec<String>, u8>
     ensures { IsWords answer result }
 {

@@ -12,7 +12,7 @@ use std::marker::Model;
 /// The greatest relay counter. A packet that comes with it is kept and not relayed.
 const LAST_COUNTER: u8 = 11;
 
-/// What is to be done with a packet that was heard.
+/// What is to be done with a received packet.
 #[derive(Drop)]
 pub enum Reply {
     /// It fits, and this packet is to be sent on.
@@ -23,17 +23,17 @@ pub enum Reply {
     Ignore,
 }
 
-/// What follows the end of a sending.
+/// What follows the end of a transmission.
 #[derive(Clone, Copy, Debug, PartialEq, Eq)]
 pub enum After {
     /// The radio listens again.
     More,
-    /// The radio goes off for the rest of the slot: this was the last sending.
+    /// The radio goes off for the rest of the slot: this was the last transmission.
     Off,
 }
 
-/// One flood at one node. A packet fits where the flood has sent fewer than n times, waits for no ordered sending,
-/// and the packet is a spelling of its kind in its slot and of the body that it carries, if it carries one.
+/// One flood at one node. A packet fits where the flood has sent fewer than n times, waits for no ordered transmission, and the
+/// packet is a spelling of its kind in its slot and of the body that it carries, if it carries one.
 #[derive(Drop)]
 pub struct Flood {
     kind: Kind,
@@ -70,7 +70,7 @@ impl Flood {
     ghost use Rattle.glossy_relay.specs.FloodState.{listening, initiating};
     ghost use Rattle.glossy_relay.specs.Relaying.{reply_to, after_heard, after_sent, after_ending, accepted_of};
 
-    /// A flood that begins here with this packet, whose sending is ordered. It sends at most n times.
+    /// A flood that begins here with this packet, whose transmission is ordered. It sends at most n times.
     pub fn initiate(packet: &Packet, n: u8) -> Flood
         requires spelled { is_packet packet.now ≡ true }
         requires counter { slice_index packet.now 2 ≡ 0 }
@@ -104,7 +104,7 @@ impl Flood {
         }
     }
 
-    /// Whether a sending is ordered that has not ended.
+    /// Whether a transmission is ordered that has not ended.
     pub fn waits(&self) -> bool
         ensures { result ≡ self.now.waiting }
     {
@@ -118,8 +118,8 @@ impl Flood {
         self.initiated
     }
 
-    /// `Ignore` comes exactly where the packet does not fit; `Relay`, with the counter plus 1, where it fits and its
-    /// counter is below 11; `Keep` where it fits and its counter is 11.
+    /// Returns `Ignore` if and only if the packet does not fit; `Relay`, with the counter plus 1, where it fits and its counter
+    /// is below 11; `Keep` where it fits and its counter is 11.
     #[inline(always)]
     pub fn heard(&mut self, p: &Packet) -> Reply
         ensures reply { result ≡ reply_to self.old p.now }
@@ -143,7 +143,7 @@ impl Flood {
         Reply::Relay(with_counter(p, counter + 1))
     }
 
-    /// The ordered sending ended. `Off` comes exactly at the n-th.
+    /// The ordered transmission ended. Returns `Off` at the n-th, and only then.
     pub fn sent(&mut self) -> After
         requires { self.old.waiting ≡ true }
         ensures state { self.new ≡ after_sent self.old }
@@ -158,14 +158,14 @@ impl Flood {
         }
     }
 
-    /// Whether a listener heard a packet that fitted. False where the flood began here.
+    /// Whether a listener received a packet that fitted. `false` where the flood began here.
     pub fn has_accepted(&self) -> bool
         ensures { result ≡ is_some (accepted_of self.now) }
     {
         !self.initiated && self.first.is_some()
     }
 
-    /// A listener's first packet that fitted. None exactly where none did or the flood began here.
+    /// A listener's first packet that fitted. Returns `None` if and only if none did or the flood began here.
     pub fn first_accepted(&self) -> Option<&Packet>
         ensures { option_copied result ≡ (if self.now.initiated then None else self.now.first) }
     {
@@ -176,7 +176,7 @@ impl Flood {
         }
     }
 
-    /// A listener's first packet that fitted, and its counter. None exactly where none did or the flood began here.
+    /// A listener's first packet that fitted, and its counter. Returns `None` if and only if none did or the flood began here.
     pub fn accepted(&self) -> Option<(Packet, u8)>
         ensures { result ≡ accepted_of self.now }
     {

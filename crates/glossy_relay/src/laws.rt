@@ -7,22 +7,22 @@ ghost use Rattle.glossy_relay.specs.FloodState.{FloodState, listening, initiatin
 ghost use Rattle.glossy_relay.specs.Relaying.{counter_of, reply_to, accepted_of, after_ending};
 ghost use Rattle.glossy_relay.specs.Runs.{Call, Heard, Sent, Occasion, IsAllowed, occasions, after_all, orders, endings, first_fitting};
 
-/// However a flood is called, each packet that it relays is one that it heard with a counter below 11, with the
-/// counter plus 1 and the same other bytes.
+/// However a flood is called, each packet that it relays is one that it received with a counter below 11, with the counter plus
+/// 1 and the same other bytes.
 pub fn relays_raise_the_counter()
     ensures { (s : FloodState) (calls : List Call) (before : FloodState) (p q : List ℕ)
         → Contains (occasions s calls) (record { before = before; call = Heard p }) → reply_to before p ≡ Relay q
         → (counter_of p < 11) × (q ≡ slice_set p 2 (counter_of p + 1)) }
 {}
 
-/// However it is called, a listening flood orders at most n sendings, and one that began here orders at most n with its
+/// However it is called, a listening flood orders at most n transmissions, and one that began here orders at most n with its
 /// first among them.
 pub fn orders_at_most_its_limit()
     ensures listening { (kind : Kind) (slot n : ℕ) (calls : List Call) → IsAllowed (listening kind slot n) calls → orders (listening kind slot n) calls ≤ n }
     ensures initiating { (p : List ℕ) (n : ℕ) (calls : List Call) → 1 ≤ n → IsAllowed (initiating p n) calls → 1 + orders (initiating p n) calls ≤ n }
 {}
 
-/// The end of a sending turns the radio off exactly where it is the n-th, however the flood is called.
+/// The end of a transmission turns the radio off if and only if it is the n-th, however the flood is called.
 pub fn turns_off_after_its_last_sending()
     ensures listening { (kind : Kind) (slot n : ℕ) (calls : List Call) → after_ending (after_all (listening kind slot n) calls) ≡ Off
         ↔ (endings calls + 1 ≡ n) }

@@ -50,7 +50,7 @@ impl Tuner {
         self.tune
     }
 
-    /// The node accepted the opening of this frame.
+    /// The node accepted the opening schedule of this frame.
     pub fn joined(&mut self)
         ensures { self.new ≡ record self.old { joined = true } }
     {

@@ -1,5 +1,5 @@
-//! What every lawful run has of the bus: of a sound scenario, over all clocks of the drift law. Each law is the contract of
-//! a function that does nothing.
+//! What every valid (`Lawful`) run of a sound scenario, over all clocks of the drift law, has in common with the bus. Each law
+//! is the contract of a function that does nothing.
 
 ghost use Rattle.law_terms.specs.SlotLaws.{CoresLaw, SlotLaw, WindowsLaw};
 ghost use Rattle.law_terms.specs.RunLaws.{AnyClocksLaw, DeliveriesLaw, DropsLaw, RunLaw};
@@ -19,9 +19,9 @@ pub fn frames_begin_as_on_the_bus()
     ensures { RunLaw }
 {}
 
-/// So it is before each slot of each round, and the flood of each slot gives in the air what it gives on the bus (`slots`).
-/// A node has the windows that open by an alarm which it has on the bus (`windows`), and the cores round each window are
-/// those of the bus before and after its slot (`cores`).
+/// So it is before each slot of each round, and the flood of each slot gives by radio what it gives on the bus (`slots`). A
+/// node has the windows that open by an alarm which it has on the bus (`windows`), and the cores round each window are those of
+/// the bus before and after its slot (`cores`).
 pub fn slots_go_as_on_the_bus()
     ensures slots { AllSlotsLaw }
     ensures windows { WindowsLaw }
@@ -35,7 +35,7 @@ pub fn deliveries_and_drops_are_of_the_bus()
     ensures drops { DropsLaw }
 {}
 
-/// Any two sets of clocks, with a lawful log over each, give the same deliveries and drops.
+/// Any two sets of clocks, with a valid (`Lawful`) log over each, give the same deliveries and drops.
 pub fn clocks_change_nothing_of_the_bus()
     ensures { AnyClocksLaw }
 {}
@@ -45,8 +45,9 @@ pub fn scans_are_those_of_the_bus()
     ensures { ScansLaw }
 {}
 
-/// All in one: no two steps of a lawful log meet, its deliveries and drops are the single-hop bus's, each stream comes in
-/// order and no packet twice, data is received by relay paths, and each node costs what it costs on the bus.
+/// All in one: no two steps of a valid (`Lawful`) log meet, its deliveries and drops are those of the ideal single-hop bus,
+/// each stream comes in order and no packet twice, data is received by relay paths, and each node costs what it costs on the
+/// bus.
 pub fn lawful_runs_are_the_bus()
     ensures { LawfulRunsAreTheBus }
 {}

@@ -1,5 +1,5 @@
-//! A lawful run is the single-hop bus's: each slot as a run of the theorem on floods, what its flood gives, the induction slot by
-//! slot of a round and frame by frame, and what each node's radio costs.
+//! A valid (`Lawful`) run gives what the ideal single-hop bus gives: each slot as a run of the theorem on floods, what its
+//! flood gives, the induction slot by slot of a round and frame by frame, and what each node's radio costs.
 //!
 //! Each law is the contract of a function that does nothing.
 #![tactic(auto)]

@@ -1,4 +1,4 @@
-//! The rounds of a lawful run, slot by slot, each law a function that does nothing and has the law as its contract.
+//! The rounds of a valid (`Lawful`) run, slot by slot, each law a function that does nothing and has the law as its contract.
 
 ghost use Rattle.law_terms.specs.SlotSteps.{FirstSlotLaw, SlotStepLaw, RoundEndLaw};
 
@@ -8,14 +8,13 @@ pub fn rounds_begin_as_the_bus()
     ensures { FirstSlotLaw }
 {}
 
-/// Where they are so before a slot, and its flood gives in the air what it gives on the bus, they are so before the
-/// next: who has a window is as that has left it, and every other node as it was.
+/// Where they are so before a slot, and its flood gives by radio what it gives on the bus, they are so before the next: who has
+/// a window is as that has left it, and every other node as it was.
 pub fn slots_follow_as_on_the_bus()
     ensures { SlotStepLaw }
 {}
 
-/// And behind the last slot: who had a window in it is as that has left it, and every other node as the frame found
-/// it.
+/// And after the last slot: who had a window in it is as that has left it, and every other node as the frame found it.
 pub fn rounds_end_as_on_the_bus()
     ensures { RoundEndLaw }
 {}

@@ -1,5 +1,5 @@
-//! A lawful run as a whole, each law a function that does nothing and has the law as its contract. They stand on what
-//! the flood of a slot gives where the nodes are the bus's before it.
+//! A valid (`Lawful`) run as a whole, each law a function that does nothing and has the law as its contract. They are based on
+//! what the flood of a slot gives where the nodes are the bus's before it.
 
 ghost use Rattle.law_terms.specs.SlotSteps.{SlotHeardLaw};
 ghost use Rattle.law_terms.specs.SlotLaws.{CoresLaw, WindowsLaw};
@@ -13,7 +13,7 @@ pub fn runs_are_the_bus()
     ensures { SlotHeardLaw → RunLaw }
 {}
 
-/// So it is before each slot of each round, and the flood of each slot gives in the air what it gives on the bus.
+/// So it is before each slot of each round, and the flood of each slot gives by radio what it gives on the bus.
 pub fn slots_are_the_bus()
     ensures { SlotHeardLaw → AllSlotsLaw }
 {}
@@ -32,7 +32,7 @@ pub fn deliveries_are_those_of_the_bus()
     ensures drops { SlotHeardLaw → DropsLaw }
 {}
 
-/// So neither hangs on the clocks of the nodes, nor on which of the lawful logs of a scenario is taken.
+/// So neither depends on the clocks of the nodes, nor on which of the valid (`Lawful`) logs of a scenario is taken.
 pub fn clocks_do_not_matter()
     ensures { SlotHeardLaw → AnyClocksLaw }
 {}

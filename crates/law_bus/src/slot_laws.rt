@@ -1,5 +1,5 @@
-//! What the flood of a slot gives for the slot, each law a function that does nothing and has the law as its contract.
-//! They stand on that each slot of a lawful run is a run of the flood theorem.
+//! What the flood of a slot gives for the slot, each law a function that does nothing and has the law as its contract. They are
+//! based on the law that each slot of a valid (`Lawful`) run is a run of the flood theorem.
 
 ghost use Rattle.law_terms.specs.SlotRuns.{RunsLaw};
 ghost use Rattle.law_terms.specs.SlotSteps.{SlotHeardLaw};
@@ -12,9 +12,8 @@ pub fn windows_say_what_may_be_said()
     ensures { SayableLaw }
 {}
 
-/// The flood of a slot gives in the air what it gives on the bus: a window that has closed has accepted what its node
-/// accepts on the bus, the flood of a window was initiated where the node says something there, and who has no window
-/// accepts nothing.
+/// The flood of a slot gives by radio what it gives on the bus: a window that has closed has accepted what its node accepts on
+/// the bus, the flood of a window was initiated where the node says something there, and who has no window accepts nothing.
 pub fn slots_are_heard_by_their_floods()
     ensures { RunsLaw → SlotHeardLaw }
 {}

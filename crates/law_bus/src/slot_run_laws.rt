@@ -5,7 +5,7 @@ ghost use Rattle.law_bus.specs.RunLaws.{RecordsLaw, RuleLaw, SendingsLaw, Window
 ghost use Rattle.law_bus.specs.ScannerLaws.{ScannersLaw};
 ghost use Rattle.law_terms.specs.SlotRuns.{RunsLaw};
 
-/// Its setting is the flood of the bus, its packets say what is said there, and its sendings and hearings are all of
+/// Its setting is the flood of the bus, its packets say what is said there, and its transmissions and receptions are all of
 /// this frame, channel and slot (`bus`). With the events of its nodes, their floods end as their windows do, and who has
 /// accepted has a window that has closed (`records`).
 pub fn slots_are_of_the_bus()
@@ -20,14 +20,14 @@ pub fn slots_are_of_their_rank()
     ensures windows { WindowsTakePartLaw }
 {}
 
-/// Nothing else that is on the air matters for it (`part`), so its nodes hear by its own rule (`rule`).
+/// Nothing else that is on the air matters for it (`part`), so its nodes receive by its own rule (`rule`).
 pub fn slots_are_a_part_of_the_air()
     ensures part { PartLaw }
     ensures rule { RuleLaw }
 {}
 
-/// A node with a window in the slot has its events, by which it takes part; any other has none (`some`). They are all
-/// that a node which takes part hears of the slot and sends in it, so one without a window hears nothing (`happened`).
+/// A node with a window in the slot has its events, by which it takes part; any other has none (`some`). They are all that a
+/// node which takes part receives of the slot and sends in it, so one without a window receives nothing (`happened`).
 pub fn slots_have_events()
     ensures some { EventsLaw }
     ensures happened { HappenedLaw }
@@ -42,8 +42,8 @@ pub fn slots_are_sent_as_floods()
 {}
 
 /// A node that takes part without a window by an alarm listens in a window that covers the flood: it scans the rank as the
-/// frame found it, and so is tuned through all that is sent in the slot, or in the window of the slot that it joined up
-/// to the end of its last own sending.
+/// frame found it, and so is tuned through all that is sent in the slot, or in the window of the slot that it joined up to the
+/// end of its own last transmission.
 pub fn scanners_are_tuned()
     ensures { ScannersLaw }
 {}

@@ -1,4 +1,4 @@
-//! One scenario over the same clocks has one lawful log, but for the order of its entries.
+//! One scenario over the same clocks has one valid (`Lawful`) log, but for the order of its entries.
 #![tactic(auto)]
 
 mod one_flood;

@@ -1,4 +1,4 @@
-//! What two lawful runs of one scenario over the same clocks have of one another, each law a function that does nothing
+//! What two valid (`Lawful`) runs of one scenario over the same clocks have in common, each law a function that does nothing
 //! and has the law as its contract.
 
 ghost use Rattle.law_one_log.specs.OneLog.{EntriesApartLaw, OneCostLaw, OneLogLaw, OneTextLaw};
@@ -8,7 +8,7 @@ pub fn a_scenario_has_one_lawful_log()
     ensures { OneLogLaw }
 {}
 
-/// No two entries of a lawful log have the same start, kind and node.
+/// No two entries of a valid (`Lawful`) log have the same start, kind and node.
 pub fn entries_of_a_lawful_log_differ()
     ensures { EntriesApartLaw }
 {}

@@ -1,5 +1,6 @@
-//! Why every lawful log is safe: what is known of all nodes, hosts and sendings at each tick of a run, the invariant by which no
-//! two steps of floods meet; and from it the clauses of a safe log, which speak of pairs of sendings.
+//! Why every valid (`Lawful`) log is safe: what is known of all nodes, hosts and transmissions at each tick of a run, the
+//! invariant by which no two steps of floods meet; and from it the clauses of a safe log, which speak of pairs of
+//! transmissions.
 //!
 //! Each law is the contract of a function that does nothing.
 #![tactic(auto)]

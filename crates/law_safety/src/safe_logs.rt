@@ -3,21 +3,21 @@
 ghost use Rattle.law_safety.specs.Invariant.{HoldsThroughout, HeedfulLogsAreSafe, LawfulLogsAreSafe};
 ghost use Rattle.law_safety.specs.Endings.{LogsInOrderAreSafe};
 
-/// Where the invariant holds at the end of a run, its log is safe: a sending lies in one frame, none meets one of
-/// another frame, slot or step of its channel, those of a slot differ in the counter alone unless both are requests,
-/// one node at most begins the flood of a slot, and who neither hosts nor heard that it may begins none.
+/// Where the invariant holds at the end of a run, its log is safe: a transmission lies in one frame, none meets one of another
+/// frame, slot or step of its channel, those of a slot differ in the counter alone unless both are requests, one node at most
+/// begins the flood of a slot, and who neither hosts nor received a schedule that allows it begins none.
 pub fn logs_in_order_are_safe()
     ensures { LogsInOrderAreSafe }
 {}
 
-/// So if the invariant holds throughout every run, every heedful log and every lawful log is safe.
+/// So if the invariant holds throughout every run, every protocol-obedient log and every valid (`Lawful`) log is safe.
 pub fn the_invariant_makes_logs_safe()
     ensures heedful { HoldsThroughout → HeedfulLogsAreSafe }
     ensures lawful { HoldsThroughout → LawfulLogsAreSafe }
 {}
 
-/// It does hold. So for every sound scenario and all clocks of the drift law, every log whose nodes do what they heard
-/// calls for, and heard only what was in their reach, is safe (`heedful`). So is every lawful log (`lawful`).
+/// It does hold. So for every sound scenario and all clocks of the drift law, every log is safe whose nodes do what they
+/// received calls for, and received only what was in their reach (`heedful`). So is every valid log (`lawful`).
 pub fn every_lawful_log_is_safe()
     ensures heedful { HeedfulLogsAreSafe }
     ensures lawful { LawfulLogsAreSafe }

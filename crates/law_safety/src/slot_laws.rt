@@ -9,7 +9,7 @@ pub fn one_plan_is_sent_for_a_round()
     ensures { OnePlanIsSent }
 {}
 
-/// And sendings of one slot of a round are of one flood, unless they ask for streams.
+/// And transmissions of one slot of a round are of one flood, unless they ask for streams.
 pub fn a_slot_has_one_flood()
     ensures { OneFloodInASlot }
 {}

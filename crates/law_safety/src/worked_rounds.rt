@@ -7,11 +7,11 @@ ghost use Rattle.law_trails.specs.OnePacketHost.{host_0, host_2, host_29, host_3
 ghost use Rattle.law_trails.specs.OnePacketMember.{member_14, member_28, member_34, member_37, member_53, member_60, member_7, member_late};
 ghost use Rattle.law_safety.specs.WorkedRounds.{Holds, IsFlooded, Lives};
 
-/// Worked by hand, over clocks that drift apart: the clauses hold of the host before the run (`off`), while it scans
-/// (`scans`), before its first round (`awaits`), where its opening is ordered (`opens`) and on the air (`sends`), where its
-/// node counts the next frame already, between rounds (`goes_on`) and before slot 0 (`early`), where it heard data and
-/// relays it (`relays`), between data slots (`between`), where its closing is ordered and its core has the next plan
-/// (`closes`), and between rounds (`waits`).
+/// Worked example, over clocks that drift apart: the clauses hold of the host before the run (`off`), while it scans (`scans`),
+/// before its first round (`awaits`), where its opening schedule is ordered (`opens`) and on the air (`sends`), where its node
+/// counts the next frame already, between rounds (`goes_on`) and before slot 0 (`early`), where it received data and relays it
+/// (`relays`), between data slots (`between`), where its closing schedule is ordered and its core has the next plan (`closes`),
+/// and between rounds (`waits`).
 pub fn clauses_hold_at_a_host()
     ensures off { (w : List WindowLog) → Holds 1 0 (host_0 w) }
     ensures scans { (w : List WindowLog) → Holds 1 460790785 (host_2 w) }
@@ -32,10 +32,11 @@ pub fn a_host_lives_quietly()
     ensures { (w : List WindowLog) → Lives 2380688387 (host_53 w) }
 {}
 
-/// The clauses hold of node 2: where it heard an opening while it scanned, and relays it (`joins`), where its request is ordered
-/// (`asks`), where it holds its slots (`holds`), where it heard the opening of their round (`relays`), between the two
-/// alarms of one tick (`late`), in its window of the data slot that opened late, where its packet is ordered (`says`), where
-/// it heard the closing (`hears`), and where it holds the slots of the next round (`goes_on`).
+/// The clauses hold of node 2: where it received an opening schedule while it scanned, and relays it (`joins`), where its
+/// request is ordered (`asks`), where it holds its slots (`holds`), where it received the opening schedule of their round
+/// (`relays`), between the two alarms of one tick (`late`), in its window of the data slot that opened late, where its packet
+/// is ordered (`says`), where it received the closing schedule (`hears`), and where it holds the slots of the next round
+/// (`goes_on`).
 pub fn clauses_hold_at_a_guest()
     ensures joins { (w : List WindowLog) → Holds 2 1344086272 (member_7 w) }
     ensures asks { (w : List WindowLog) → Holds 2 1346149161 (member_14 w) }
@@ -47,8 +48,8 @@ pub fn clauses_hold_at_a_guest()
     ensures goes_on { (w : List WindowLog) → Holds 2 2764855298 (member_60 w) }
 {}
 
-/// And of sendings: a request that begins its flood (`request`), the relay of data (`data_relay`) and that of a closing
-/// (`closing`).
+/// And of transmissions: a request that begins its flood (`request`), the relay of data (`data_relay`) and that of a closing
+/// schedule (`closing`).
 pub fn sendings_are_of_their_floods()
     ensures request { IsFlooded request_0 }
     ensures data_relay { IsFlooded data_1 }

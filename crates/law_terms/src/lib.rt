@@ -1,5 +1,5 @@
-//! The bus of the definitions beside the trails of a lawful log: what it is that both are the same, and what of it hangs on no
-//! clock.
+//! The bus of the definitions next to the traces of a valid (`Lawful`) log: what it means that both are the same, and what of
+//! it depends on no clock.
 #![tactic(auto)]
 
 mod core_laws;

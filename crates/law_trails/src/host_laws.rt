@@ -1,9 +1,9 @@
 ghost use Rattle.law_trails.specs.Lives.{HostsAreQuiet, OnePlan, QuietPeriod};
 
-/// Whatever comes in the life of a host, switched on and off at any frames: each closing is over before its next one and
-/// before its next opening, and says what the opening of its due frame says (`quiet`); for one frame it has one plan
-/// (`one`). After it went off in frame b no closing that it made before is due later than frame b + 3, and until it opens
-/// or closes again it hosts no round before frame b + 5 (`silent`).
+/// Whatever comes in the life of a host, powered on and off at any frames: each closing schedule is over before its next one
+/// and before its next opening schedule, and says what the opening schedule of its due frame says (`quiet`); for one frame it
+/// has one plan (`one`). After it went off in frame b no closing schedule that it made before is due later than frame b + 3,
+/// and until it opens or closes again it hosts no round before frame b + 5 (`silent`).
 pub fn hosts_plan_apart()
     ensures quiet { HostsAreQuiet }
     ensures one { OnePlan }

@@ -1,5 +1,5 @@
-//! Times by a node's own clock along a run: no sum of them stops, references come of what was heard and move on with
-//! the rounds, and relays begin when they should.
+//! Times by a node's own clock along a run: no sum of them stops, references come from what was received and move on with the
+//! rounds, and relays begin when they should.
 //!
 //! `host` is the clock of the host of the round and `own` that of the node that the times are of. Each law holds for
 //! every profile with a budget that fits it.
@@ -42,9 +42,9 @@ pub fn hosts_start_at_nominal_times()
     ensures { (p : Numbers) (host : ℕ → ℕ) (c j : ℕ) → point host (host_zero p c) (starting p j) ≡ started p host c j }
 {}
 
-/// A schedule that is heard whole gives a reference to whoever hears it, whatever its counter: the host started its
-/// flood in this slot of frame c, its hearing began at s and ended at e, and its length allows an error of at most 55
-/// ticks (`any`). Every schedule of a profile does so with the profile's budget (`of_profile`).
+/// A schedule that is received whole gives a reference to whoever receives it, whatever its counter: the host started its flood
+/// in this slot of frame c, its reception began at s and ended at e, and its length allows an error of at most 55 ticks
+/// (`any`). Every schedule of a profile does so with the profile's budget (`of_profile`).
 pub fn schedules_heard_whole_give_references()
     ensures any { (p : Numbers) (b : Budget) → Fits p b → (host own : ℕ → ℕ) (c s e : ℕ) (q : List ℕ) → IsClock host
         → IsClock own → 1 ≤ c → c ≤ 4095 → slot_of q ≤ b.last → counter_of q ≤ 11 → length q ≤ b.packet
@@ -58,9 +58,9 @@ pub fn schedules_heard_whole_give_references()
         → e ≡ s + airtime p (length q) → Ref p (budget_of p) host own (zero_from p (own e) q) c c (slot_of q) }
 {}
 
-/// A reference moves on by gaps, up to four frames past the frame in which it was taken (`moved`), and the sum does not
-/// stop (`sum`). One that was taken in slot j of frame c is good at once from the closing of that slot on (`now`), and
-/// by the gap of a closing from the beginning of the round that is due then (`ahead`).
+/// A reference moves on by gaps, up to four frames past the frame in which it was taken (`moved`), and the sum does not stop
+/// (`sum`). One that was taken in slot j of frame c is good at once from the closing of the window of that slot on (`now`), and
+/// by the gap of a closing schedule from the beginning of the round that is due then (`ahead`).
 pub fn references_move_on_by_gaps()
     ensures moved { (p : Numbers) (b : Budget) → Fits p b → (host own : ℕ → ℕ) (z f c j g : ℕ) → IsClock host
         → IsClock own → Ref p b host own z f c j → f + g ≤ c + 4
@@ -74,9 +74,9 @@ pub fn references_move_on_by_gaps()
         → Good p b host own (stopped (z + g * p.frame)) (c + g) 0 }
 {}
 
-/// The relay of what was heard until tick t of a run begins where the clock reads a turnaround more than at t (`tick`).
-/// That is within one tick of a turnaround after t (`near`), and after t (`after`). So what was sent with counter k
-/// within k ticks of k steps after its origin is relayed within k + 1 ticks of k + 1 steps after it (`follows`).
+/// The relay of what was received until tick t of a run begins where the clock reads a turnaround more than at t (`tick`). That
+/// is within one tick of a turnaround after t (`near`), and after t (`after`). So what was sent with counter k within k ticks
+/// of k steps after its origin is relayed within k + 1 ticks of k + 1 steps after it (`follows`).
 pub fn relays_begin_after_a_turnaround()
     ensures tick { (p : Numbers) (b : Budget) → Fits p b → (own : ℕ → ℕ) → IsClock own → (t : ℕ)
         → t ≤ 4096 * p.frame → relay_tick p own t ≡ due own (own t + p.turn) }

@@ -41,9 +41,9 @@ pub fn what_is_read_is_written_again()
         → slot_of q ≡ slot_of r → All (λ b. b < 256) q → All (λ b. b < 256) r → body q ≡ body r }
 {}
 
-/// What a packet says determines its kind and its length; it may be said in the packet's slot, and the counter is at
-/// most 11 (`packet`). The packets of each kind say something of that kind (`kind`), and packets alone say something
-/// (`some`). A schedule stands in slot 0 where it opens its round, and behind slot 1 where it closes it (`place`).
+/// What a packet says determines its kind and its length; it may be said in the packet's slot, and the counter is at most 11
+/// (`packet`). The packets of each kind say something of that kind (`kind`), and only packets say something (`some`). A
+/// schedule is in slot 0 where it opens its round, and after slot 1 where it closes it (`place`).
 pub fn messages_tell_of_their_packets()
     ensures packet { (q : List ℕ) (m : Message) → message_of q ≡ Some m → IsPacketOf m q }
     ensures kind { (kind : Kind) (q : List ℕ) → is_spelling kind q ≡ true → SaysOfKind kind q }
@@ -51,7 +51,7 @@ pub fn messages_tell_of_their_packets()
     ensures place { (q : List ℕ) (x : Schedule) → message_of q ≡ Some (ScheduleOf x) → IsInSlot (slot_of q) x }
 {}
 
-/// A packet that says something has at least 7 bytes (`least`), and at most as many as the greatest of its profile
+/// A packet that says something has at least 7 bytes (`least`), and at most the number of bytes of the greatest of its profile
 /// (`most`). A schedule has at most 74, and at most 61 where it names no contention slots (`schedules`).
 pub fn packets_have_their_lengths()
     ensures least { (q : List ℕ) (m : Message) → message_of q ≡ Some m → 7 ≤ length q }
@@ -70,8 +70,8 @@ pub fn schedules_allow_small_errors()
         → message_of q ≡ Some (ScheduleOf x) → x.plan.contend ≡ 0 → drift (span p (length q) + 11) + 12 ≤ 48 }
 {}
 
-/// A schedule of its profile stands in a slot that the profile's budget covers (`slot`). The budget covers the last
-/// slot of the round of its plan, too (`last`).
+/// A schedule of its profile is in a slot that the profile's budget covers (`slot`). The budget covers the last slot of the
+/// round of its plan, too (`last`).
 pub fn rounds_fit_their_budget()
     ensures slot { (p : Numbers) → IsProfile p → (q : List ℕ) (x : Schedule) → IsOfProfile p (ScheduleOf x)
         → message_of q ≡ Some (ScheduleOf x) → slot_of q ≤ (budget_of p).last }

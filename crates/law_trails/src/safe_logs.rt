@@ -12,19 +12,19 @@ ghost use Rattle.law_trails.specs.BrokenClauses.{BreaksOnly, InFrame, Apart, Ali
 ghost use Rattle.law_trails.specs.UnsafeLogs.{ends_late, slots_meet, steps_meet, starts_apart, other_bytes, two_begin};
 ghost use Rattle.law_trails.specs.UnsafeLogs.{not_the_host, no_power, switched_off, unheard, not_the_owner, not_due, not_opened, gone_off};
 
-/// Lawful logs are heedful: that is what safety stands on.
+/// Valid (`Lawful`) logs are protocol-obedient: that is what safety is based on.
 pub fn lawful_logs_are_heedful()
     ensures { (s : ScenarioParts) (clocks : ℕ → ℕ → ℕ) (air : List Entry) → Lawful s clocks air → Heedful s clocks air }
 {}
 
-/// Worked by hand: the log of a first round is safe.
+/// Worked example: the log of a first round is safe.
 pub fn the_log_of_a_first_round_is_safe()
     ensures { Safe first_round true_time first_round_log }
 {}
 
-/// Small logs of schedules that are not safe, each by one clause alone: a sending that ends with its frame; two slots, and
-/// two steps of one slot, that are on the air together; a step that does not start together, and a slot with two bodies;
-/// two initiators, and one that is not the host.
+/// Small logs of schedules that are not safe, each by one clause alone: a transmission that ends with its frame; two slots, and
+/// two steps of one slot, that are on the air together; a step that does not start together, and a slot with two bodies; two
+/// initiators, and one that is not the host.
 pub fn schedules_break_a_clause()
     ensures ends_late { BreaksOnly InFrame first_round true_time ends_late }
     ensures slots_meet { BreaksOnly Apart first_round true_time slots_meet }
@@ -35,8 +35,8 @@ pub fn schedules_break_a_clause()
     ensures not_the_host { BreaksOnly OneBegins first_round true_time not_the_host }
 {}
 
-/// Small logs in which a node that does not host breaks silence, and no other clause: it heard no schedule, or one by
-/// which the slot is not its own, one for another frame, a closing where it asks, or it was switched off since.
+/// Small logs in which a node that does not host breaks silence, and no other clause: it received no schedule, or one by which
+/// the slot is not its own, one for another frame, a closing schedule where it asks, or it was powered off since.
 pub fn guests_break_silence()
     ensures unheard { BreaksOnly Silent no_power true_time unheard }
     ensures not_the_owner { BreaksOnly Silent no_power true_time not_the_owner }

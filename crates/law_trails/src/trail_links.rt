@@ -1,4 +1,4 @@
-//! What a log and the trails that it follows know of one another, each law a function that does nothing.
+//! How a log and the node traces that it follows are related, each law a function that does nothing.
 
 ghost use Rattle.std.specs.Prelude.{◌≡◌, ◌≢◌, ◌↔◌, ◌⊎◌, ℕ, suc, ◌<◌, ◌≤◌, ◌+◌, List, [], length, All, AllPairs, Contains, Some, true, slice_get};
 ghost use Rattle.lwb_base.specs.Profile.{airtime};
@@ -23,9 +23,9 @@ ghost use Rattle.law_trails.specs.Obeying.{channel_of};
 ghost use Rattle.law_trails.specs.Phases.{Hearings, SilentBy, IsNextHearing, device_at};
 ghost use Rattle.law_trails.specs.TrailLinks.{IsSentBelow, ListensSince, IsReceptionOf, IsTold, WentOff, StaysOn, boots_of, device_in};
 
-/// What a node has sent before a tick is what the log has of it: a Sent entry of it starts below tick t exactly where it
-/// stands among what its trail has sent before t. Only nodes of the scenario send, each sending starts in the run and
-/// lasts its airtime, and those of a trail start one after another.
+/// What a node has sent before a tick is what the log has of it: a `Sent` entry of it starts below tick t if and only if it is
+/// among what its trace has sent before t. Only nodes of the scenario send, each transmission starts in the run and lasts its
+/// airtime, and those of a trace start one after another.
 pub fn sendings_stand_in_their_trails()
     ensures below { (s : ScenarioParts) (clocks : ℕ → ℕ → ℕ) (air : List Entry) → FollowsTrails s clocks air
         → (v : ℕ) → knows s.nodes v ≡ true → (t : ℕ) → t ≤ run_end s → (x : Sending)
@@ -40,7 +40,7 @@ pub fn sendings_stand_in_their_trails()
         × AllPairs StartsBefore (before_tick s v clock hs t).made.sent }
 {}
 
-/// While a node is tuned by the log its radio is on at that channel: behind a tick of one of its Tuned entries its device
+/// While a node is tuned by the log its radio is on at that channel: after a tick of one of its `Tuned` entries its device
 /// listens to the rank of the entry, since that tick or earlier. Only nodes of the scenario are tuned.
 pub fn tuned_devices_listen()
     ensures listens { (s : ScenarioParts) (clocks : ℕ → ℕ → ℕ) (air : List Entry) → FollowsTrails s clocks air
@@ -52,7 +52,7 @@ pub fn tuned_devices_listen()
         → (v rank k : ℕ) → IsTuned (scene_of s.profile s.trace air) v rank k → k < run_end s }
 {}
 
-/// Hearings of a tick leave the radio at its channel. So what a node hears at a tick at which it is told nothing comes over
+/// Receptions of a tick leave the radio at its channel. So what a node receives at a tick at which it has no event comes over
 /// the channel to which it was tuned by the log at the tick before.
 pub fn hearings_leave_the_channel()
     ensures kept { (s : ScenarioParts) (v : ℕ) (clock : ℕ → ℕ) (hs : List Reception) (t : ℕ) (h : Reception) (d : Device)
@@ -64,7 +64,7 @@ pub fn hearings_leave_the_channel()
         → channel_of d.listening ≡ Some rank }
 {}
 
-/// What a trail takes as heard are the Heard entries of its node, each with its packet and its end.
+/// What a trace takes as received are the `Heard` entries of its node, each with its packet and its end.
 pub fn receptions_are_heard_entries()
     ensures { (air : List Entry) (v : ℕ) (h : Reception) → Contains (heard_by air v) h ↔ IsReceptionOf air v h }
 {}
@@ -75,8 +75,8 @@ pub fn a_host_is_of_its_rank()
         → (own_rank v s.hosts ≡ Some rank) ↔ (slice_get s.hosts rank ≡ Some v) }
 {}
 
-/// A node with a line `off` among the lines of a tick is off behind them, or it has booted again and scans the channel of
-/// rank 0, with a later boot. One that is on and has none stays on, as it was but for its streams.
+/// A node with a line `off` among the lines of a tick is off after them, or it has booted again and scans the channel of rank
+/// 0, with a later boot. One that is on and has none stays on, as it was but for its streams.
 pub fn lines_of_a_tick()
     ensures off { (s : ScenarioParts) (v : ℕ) (clock : ℕ → ℕ) (t : ℕ) (d : Device) → SilentBy d d.power → (l : ScriptLine)
         → Contains (lines_at s v t) l → l.act ≡ Off

@@ -1,4 +1,4 @@
-//! What a node keeps, orders and sends is in its ranges, whatever it hears.
+//! What a node keeps, orders and sends is in its ranges, whatever it receives.
 
 ghost use Rattle.std.specs.Prelude.{◌≡◌, ◌≤◌, ℕ, suc, true, Contains, List, length};
 ghost use Rattle.std.specs.List.{list_all};
@@ -76,7 +76,7 @@ pub fn spellings_say_what_may_be_said()
 {}
 
 /// Each row of the node table leaves a node in its ranges, and orders only packets that say what may be said, whatever the
-/// clock reads and whatever is heard that is no longer than the profile's greatest packet (`spoken`). Where what is heard
+/// clock reads and whatever is received that is no longer than the profile's greatest packet (`spoken`). Where what is received
 /// is of the profile, what is ordered is, too (`proper`).
 pub fn rows_stay_in_range()
     ensures spoken { (s : Setup) → IsSetup s → (n : Node) (now : ℕ) (e : Event)
@@ -86,10 +86,10 @@ pub fn rows_stay_in_range()
         → IsNode s n → IsStepped (IsProper s.profile) s (row s n now e) }
 {}
 
-/// Whatever a node hears, lawful or not, and whatever its clock reads: before each tick all that it keeps is in its
-/// ranges, and what it has ordered, sends and sent are packets that say what may be said, if what it heard before is no
-/// longer than the profile's greatest packet (`before`). So it is behind each phase of the tick, by what it heard until
-/// then (`through`). Where all that it heard is of the profile, so is all that it sends (`proper`).
+/// Whatever a node receives, valid (`Lawful`) or not, and whatever its clock reads: before each tick all that it keeps is in
+/// its ranges, and what it has ordered, sends and sent are packets that say what may be said, if what it received before is no
+/// longer than the profile's greatest packet (`before`). So it is after each phase of the tick, by what it received until then
+/// (`through`). Where all that it received is of the profile, so is all that it sends (`proper`).
 pub fn trails_stay_in_range()
     ensures before { (s : ScenarioParts) → IsSoundScenario s → (v : ℕ) → 1 ≤ v → v ≤ 200
         → (clock : ℕ → ℕ) (hs : List Reception) (t : ℕ) → AreShort s hs t
@@ -102,9 +102,9 @@ pub fn trails_stay_in_range()
         → HoldsThrough (IsWellAndProper s v) s v clock hs t }
 {}
 
-/// In a log that follows its trails, and in which only what was sent is heard, each packet that is sent says what may be
-/// said, and what is of the profile (`sent`). So what a node hears fits (`heard`), and at every tick each node of the log
-/// is in its ranges, by the trail over what it heard (`nodes`).
+/// In a log that follows its node traces, and in which only what was sent is received, each packet that is sent says what may
+/// be said, and what is of the profile (`sent`). So what a node receives fits (`heard`), and at every tick each node of the log
+/// is in its ranges, by the node trace over what it received (`nodes`).
 pub fn packets_of_a_log_stay_in_range()
     ensures sent { (s : ScenarioParts) → IsSoundScenario s → (clocks : ℕ → ℕ → ℕ) (air : List Entry)
         → FollowsTrails s clocks air → HearsWhatIsSent air

@@ -14,9 +14,9 @@ ghost use Rattle.law_trails.specs.OnePacket.{one_packet, drifting, one_packet_lo
 ghost use Rattle.law_trails.specs.OnePacketHost.{host_dues};
 ghost use Rattle.law_trails.specs.OnePacketMember.{member_dues, member_36, member_late, member_37};
 
-/// The clocks of the worked rounds of one packet keep the drift law (`clocks`), and each zero of node 2 is a reference of
-/// its host: by the opening of frame 5 (`opened`), by its closing for frame 9 (`granted`), by the opening of frame 9
-/// (`reopened`), and by its closing for frame 13 (`closed`).
+/// The clocks of the worked rounds of one packet keep the drift law (`clocks`), and each zero of node 2 is a reference of its
+/// host: by the opening schedule of frame 5 (`opened`), by its closing schedule for frame 9 (`granted`), by the opening
+/// schedule of frame 9 (`reopened`), and by its closing schedule for frame 13 (`closed`).
 pub fn zeros_of_one_packet()
     ensures clocks { (v : ℕ) → IsClock (drifting v) }
     ensures opened { Ref one budget_one (drifting 1) (drifting 2) 1343946238 5 5 0 }
@@ -25,22 +25,22 @@ pub fn zeros_of_one_packet()
     ensures closed { Ref one budget_one (drifting 1) (drifting 2) 3391904772 13 9 6 }
 {}
 
-/// Worked by hand, over clocks that drift apart: the trails of a host and of a node that asks for a stream, is granted its
-/// slots, and says its packet. Each stands as it is written down from each due tick to the next, until the end of the run.
+/// Worked example, over clocks that drift apart: the traces of a host and of a node that asks for a stream, is granted its
+/// slots, and says its packet. Each is as it is written down from each due tick to the next, until the end of the run.
 pub fn trails_of_one_packet()
     ensures host { StandsAs one_packet 1 (drifting 1) (heard_by one_packet_log 1) 0 host_dues }
     ensures member { StandsAs one_packet 2 (drifting 2) (heard_by one_packet_log 2) 0 member_dues }
 {}
 
 /// In tick 2370089470 node 2 has two alarms: by the first it closes its window of slot 0 and takes the zero of the opening
-/// that it accepted, by which slot 1 opens in the past; so by the second it opens the window of slot 1, and both tunings
-/// are one.
+/// schedule that it accepted, by which slot 1 opens in the past; so by the second it opens the window of slot 1, and both
+/// tunings are one.
 pub fn a_window_opens_late()
     ensures closes { (w : List WindowLog) → Shows (one_alarm (drifting 2) (setup_of one_packet 2) 2370089470 (member_36 w)) member_late }
     ensures opens { (w : List WindowLog) → Shows (one_alarm (drifting 2) (setup_of one_packet 2) 2370089470 (member_late w)) member_37 }
 {}
 
-/// The log of both is lawful, and it is safe.
+/// The log of both is valid (`Lawful`), and it is safe.
 pub fn the_log_of_one_packet_is_lawful_and_safe()
     ensures lawful { Lawful one_packet drifting one_packet_log }
     ensures safe { Safe one_packet drifting one_packet_log }

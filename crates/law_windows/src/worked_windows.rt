@@ -1,4 +1,4 @@
-//! Windows that were worked by hand, each law a function that does nothing and has the law as its contract.
+//! Worked examples of windows, each law a function that does nothing and has the law as its contract.
 
 ghost use Rattle.std.specs.Option.{IfSome};
 ghost use Rattle.air_log.specs.Trails.{setup_of};
@@ -7,8 +7,8 @@ ghost use Rattle.law_windows.specs.WindowFloods.{HasFlood};
 ghost use Rattle.law_windows.specs.WindowRows.{ClosesAs, IsOpened};
 ghost use Rattle.law_windows.specs.WorkedWindows.{asking_window, joined_window};
 
-/// The window that a heard opening opens at node 2 while it scans, over clocks that drift apart: it opens and closes by the
-/// rows, and its flood is what happened in it.
+/// The window that a received opening schedule opens at node 2 while it scans, over clocks that drift apart: it opens and
+/// closes by the rows, and its flood is what happened in it.
 pub fn a_scanner_joins()
     ensures opening { IsOpened one_packet drifting 2 joined_window }
     ensures closing { IfSome joined_window.closed (ClosesAs one_packet drifting 2 joined_window) }

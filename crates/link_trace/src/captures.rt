@@ -10,7 +10,7 @@ use crate::CaptureLine;
 use crate::starts::{of_slots, slot_number};
 use lwb_base::{Memory, NodeId};
 
-/// Adds a line where it stands by its key. `Ok(false)` comes exactly where a line of that key is there already.
+/// Adds a line at its place by key. Returns `Ok(false)` if and only if a line of that key is there already.
 pub fn add_capture(lines: &mut Vec<CaptureLine>, line: CaptureLine) -> Result<bool, Memory>
     requires { Ascends by_capture lines.old.items }
     ensures added { result ≡ Ok true → lines.new.items ≡ with_line by_capture line lines.old.items }
@@ -33,7 +33,7 @@ pub fn add_capture(lines: &mut Vec<CaptureLine>, line: CaptureLine) -> Result<bo
     }
 }
 
-/// The sender that the line of the key names. None comes exactly where there is no such line.
+/// The sender that the line of the key names. Returns `None` if and only if there is no such line.
 pub fn captured_sender(
     lines: &[CaptureLine],
     starts: &[usize],

@@ -7,7 +7,7 @@ ghost use Rattle.link_trace.specs.Order.{Ascends, HasPlace, by_link, by_loss, wi
 use crate::{LinkLine, LoseLine};
 use lwb_base::{Memory, NodeId};
 
-/// Adds a line where it stands in the ascending lines. `Ok(false)` comes exactly where it is there already.
+/// Adds a line at its place in the ascending lines. Returns `Ok(false)` if and only if it is there already.
 pub fn add_in_order<L: Ord + Drop>(lines: &mut Vec<L>, line: L) -> Result<bool, Memory>
     requires { Ascends L.cmp lines.old.items }
     ensures added { result ≡ Ok true → lines.new.items ≡ with_line L.cmp line lines.old.items }

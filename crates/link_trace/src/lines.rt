@@ -5,7 +5,7 @@ use lwb_base::NodeId;
 pub struct LinkLine {
     /// The node that sends.
     pub from: NodeId,
-    /// The node that hears it.
+    /// The node that receives it.
     pub to: NodeId,
 }
 
@@ -20,7 +20,7 @@ pub struct LoseLine {
     pub step: u8,
     /// The node that sends.
     pub from: NodeId,
-    /// The node that does not hear it.
+    /// The node that does not receive it.
     pub to: NodeId,
 }
 
@@ -37,7 +37,7 @@ pub struct CutLine {
     pub node: NodeId,
 }
 
-/// Where different packets meet at the node `at` in that step, it hears what `from` sends.
+/// Where different packets meet at the node `at` in that step, it receives what `from` sends.
 #[derive(Clone, Copy, Debug, PartialEq, Eq)]
 pub struct CaptureLine {
     /// The frame, counted from 0.
@@ -48,6 +48,6 @@ pub struct CaptureLine {
     pub step: u8,
     /// The node where they meet.
     pub at: NodeId,
-    /// The node that it hears.
+    /// The node from which it receives.
     pub from: NodeId,
 }

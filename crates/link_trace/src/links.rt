@@ -26,8 +26,8 @@ pub trait Links {
         ensures { IsMask (λ to. passes (lines self.now) frame slot step (slice_index (nodes self.now) from) to)
             (nodes self.now) result };
 
-    /// The sender that the capture line of that frame, slot and step at the node names. None comes exactly where there
-    /// is no such line.
+    /// The sender that the capture line of that frame, slot and step at the node names. Returns `None` if and only if there is
+    /// no such line.
     fn captured(&self, frame: u32, slot: u8, step: u8, at: NodeId) -> Option<NodeId>
         ensures { result ≡ captured_by (lines self.now) frame slot step at };
 }

@@ -64,8 +64,8 @@ impl Trace {
         }
     }
 
-    /// Adds a link, which unseals the trace. `Ok(false)` comes exactly where it is there already, and then nothing
-    /// changes. After Memory the trace is as it was.
+    /// Adds a link, which unseals the trace. Returns `Ok(false)` if and only if it is there already, and then nothing changes.
+    /// After Memory the trace is as it was.
     pub fn link(&mut self, from: NodeId, to: NodeId) -> Result<bool, Memory>
         ensures added { result ≡ Ok true
             → self.new ≡ unsealed (with_link (record { from = from; to = to }) self.old.lines) }
@@ -83,8 +83,8 @@ impl Trace {
         Ok(is_new)
     }
 
-    /// Loses a link in one step, which unseals the trace. `Ok(false)` comes exactly where that line is there
-    /// already, and then nothing changes. After Memory the trace is as it was.
+    /// Loses a link in one step, which unseals the trace. Returns `Ok(false)` if and only if that line is there already, and
+    /// then nothing changes. After Memory the trace is as it was.
     #[tactic(auto, using(crate::proofs::Orders::tells_loss))]
     pub fn lose(
         &mut self,
@@ -116,8 +116,8 @@ impl Trace {
         Ok(is_new)
     }
 
-    /// Cuts a node off from that step on until the frame ends, which unseals the trace. `Ok(false)` comes exactly
-    /// where that line is there already, and then nothing changes. After Memory the trace is as it was.
+    /// Cuts a node off from that step on until the frame ends, which unseals the trace. Returns `Ok(false)` if and only if that
+    /// line is there already, and then nothing changes. After Memory the trace is as it was.
     pub fn cut(&mut self, frame: u32, slot: u8, step: u8, node: NodeId) -> Result<bool, Memory>
         ensures added { result ≡ Ok true
             → self.new ≡ unsealed (with_cut (record { frame = frame; slot = slot; step = step; node = node }) self.old.lines) }
@@ -140,9 +140,9 @@ impl Trace {
         Ok(is_new)
     }
 
-    /// Names the sender that a node hears in that step where different packets meet, which unseals the trace.
-    /// `Ok(false)` comes exactly where a line of that frame, slot, step and node is there already, and then nothing
-    /// changes. After Memory the trace is as it was.
+    /// Names the sender from which a node receives in that step where different packets meet, which unseals the trace. Returns
+    /// `Ok(false)` if and only if a line of that frame, slot, step and node is there already, and then nothing changes. After
+    /// Memory the trace is as it was.
     pub fn capture(
         &mut self,
         frame: u32,
@@ -173,8 +173,8 @@ impl Trace {
         Ok(is_new)
     }
 
-    /// The sender that the capture line of that frame, slot and step at the node names. None comes exactly where there
-    /// is no such line.
+    /// The sender that the capture line of that frame, slot and step at the node names. Returns `None` if and only if there is
+    /// no such line.
     pub fn captured(&self, frame: u32, slot: u8, step: u8, at: NodeId) -> Option<NodeId>
         ensures { result ≡ captured_by self.now.lines frame slot step at }
     {
@@ -258,7 +258,7 @@ impl Trace {
         links.from_it & !lost & !cut
     }
 
-    /// The links, ascending by the sending node and then the receiving one.
+    /// The links, ascending by the sender and then the receiver.
     pub fn links(&self) -> &[LinkLine]
         ensures value { result.now ≡ self.now.lines.links }
         ensures ascends { Ascends by_link self.now.lines.links }
@@ -266,7 +266,7 @@ impl Trace {
         &self.links
     }
 
-    /// The lose lines, ascending by frame, slot, step, sending and receiving node.
+    /// The lose lines, ascending by frame, slot, step, sender and receiver.
     pub fn losses(&self) -> &[LoseLine]
         ensures value { result.now ≡ self.now.lines.losses }
         ensures ascends { Ascends by_loss self.now.lines.losses }

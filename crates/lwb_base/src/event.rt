@@ -7,8 +7,8 @@ pub enum Event {
     Boot,
     /// Its alarm is due.
     Alarm,
-    /// The hearing of this packet ended.
+    /// The reception of this packet ended.
     Heard(Packet),
-    /// Its own sending ended.
+    /// Its own transmission ended.
     Sent,
 }

@@ -8,8 +8,8 @@ use crate::{Failed, Memory, Sink};
 use std::alloc::Global;
 use std::marker::Model;
 
-/// A sink that keeps its bytes in memory. It takes at most so many bytes a call, and fails at the calls that it is
-/// told to, and at a piece that is not empty once its room is full.
+/// A sink that keeps its bytes in memory. It takes at most a set number of bytes a call. It fails at the calls that are set to
+/// fail, and at a piece that is not empty once its room is full.
 #[derive(Drop)]
 pub struct MemorySink {
     held: Vec<u8>,
@@ -32,7 +32,7 @@ impl Model for MemorySink {
 }
 
 impl MemorySink {
-    /// The calls whose numbers stand in `fails` fail. They are counted from 1.
+    /// The calls whose numbers are in `fails` fail. They are counted from 1.
     pub fn new(alloc: Global, most: usize, room: usize, fails: &[u64]) -> Result<MemorySink, Memory>
         requires some { 0 < most }
         requires numbers { All (λ n. n < 2 ^ 64 - 1) fails.now }

@@ -8,7 +8,7 @@ use crate::{Failed, Memory, Source};
 use std::alloc::Global;
 use std::marker::Model;
 
-/// A source over bytes in memory. It moves at most so many bytes a call, and fails at the calls that it is told to.
+/// A source over bytes in memory. It moves at most a set number of bytes a call, and fails at the calls that are set to fail.
 #[derive(Drop)]
 pub struct MemorySource {
     data: Vec<u8>,
@@ -31,7 +31,7 @@ impl Model for MemorySource {
 }
 
 impl MemorySource {
-    /// The calls whose numbers stand in `fails` fail. They are counted from 1.
+    /// The calls whose numbers are in `fails` fail. They are counted from 1.
     pub fn new(
         alloc: Global,
         bytes: &[u8],

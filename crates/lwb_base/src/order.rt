@@ -8,7 +8,7 @@ pub enum Order {
     /// End the tuning.
     #[default]
     Off,
-    /// Begin to send this packet at this time, in place of a sending that has not begun.
+    /// Begin to send this packet at this time, in place of a transmission that has not begun.
     SendAt(u64, Packet),
     /// Set the one alarm to this time.
     Alarm(u64),

@@ -5,7 +5,7 @@ ghost use Rattle.lwb_base.specs.Causes.{HasCause};
 
 use std::alloc::{AllocError, AllocFailed};
 
-/// Want of memory.
+/// Out of memory.
 #[derive(Clone, Copy, Debug, PartialEq, Eq)]
 pub struct Memory;
 

@@ -21,7 +21,7 @@ impl Model for Packet {
 }
 
 impl Packet {
-    /// None exactly where there are fewer than 3 or more than 125 bytes.
+    /// Returns `None` if and only if there are fewer than 3 or more than 125 bytes.
     pub fn new(bytes: &[u8]) -> Option<Packet>
         ensures { SomeIff result ((3 ≤ length bytes.now) × (length bytes.now ≤ 125)) bytes.now }
     {

@@ -21,7 +21,7 @@ impl Model for Payload {
 }
 
 impl Payload {
-    /// None exactly where there are more than 96 bytes.
+    /// Returns `None` if and only if there are more than 96 bytes.
     pub fn new(bytes: &[u8]) -> Option<Payload>
         ensures { SomeIff result (length bytes.now ≤ 96) bytes.now }
     {

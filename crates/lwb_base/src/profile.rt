@@ -144,7 +144,7 @@ impl Profile {
         self.byte
     }
 
-    /// From the end of a hearing to the start of its relay.
+    /// From the end of a reception to the start of its relay.
     pub fn turn(&self) -> u64
         ensures value { result ≡ self.now.turn }
         ensures made { IsProfile self.now }
@@ -152,7 +152,7 @@ impl Profile {
         self.turn
     }
 
-    /// The greatest displacement at which equal sendings are heard as one.
+    /// The greatest displacement at which equal transmissions are received as one.
     pub fn delta(&self) -> u64
         ensures value { result ≡ self.now.delta }
         ensures made { IsProfile self.now }
@@ -176,7 +176,7 @@ impl Profile {
         self.slot
     }
 
-    /// From the opening of a window to its closing.
+    /// From the opening of a window until it closes.
     pub fn close(&self) -> u64
         ensures value { result ≡ self.now.close }
         ensures made { IsProfile self.now }

@@ -19,7 +19,7 @@ pub trait Radio {
         requires { 1 ≤ (told self.old).room }
         ensures { Gives (told self.old) (told self.new) (Off ∷ []) };
 
-    /// Begins to send this packet at a local time, in place of a sending that has not begun.
+    /// Begins to send this packet at a local time, in place of a transmission that has not begun.
     fn send_at(&mut self, local: u64, packet: &Packet)
         requires { 1 ≤ (told self.old).room }
         ensures { Gives (told self.old) (told self.new) (SendAt local packet.now ∷ []) };

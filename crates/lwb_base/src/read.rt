@@ -17,7 +17,7 @@ pub enum ReadStop {
     ReadFault,
     /// One byte more than the limit was taken, and no more.
     TooLong,
-    /// Want of memory.
+    /// Out of memory.
     Memory,
 }
 

@@ -34,7 +34,7 @@ impl RecordingRadio {
         }
     }
 
-    /// Gives the first order back. None exactly where it keeps none.
+    /// Gives the first order back. Returns `None` if and only if it keeps none.
     pub fn take(&mut self) -> Option<Order>
         ensures first { result ≡ slice_get self.old 0 }
         ensures rest { self.new ≡ drop 1 self.old }

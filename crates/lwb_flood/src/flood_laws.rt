@@ -22,7 +22,7 @@ pub fn air_floods_by_steps()
     ensures test { (r : Run) (tuned : ℕ → Sending → Bool) → FloodRun r (λ v x. tuned v x ≡ true) → IsFloodBySteps r }
 {}
 
-/// There are as many sendings as pairs of a node and a step in which it sends.
+/// The number of transmissions is the number of pairs of a node and a step in which it sends.
 pub fn sendings_are_counted()
     ensures scene { (a : Scene) (r : Run) → FloodRun r (TunedThrough a)
         → AllPairs (λ x y. x ≢ y) r.sendings → AllPairs (λ u v. u ≢ v) r.setting.everyone → length r.sendings ≡ sendings r.setting }
@@ -30,7 +30,7 @@ pub fn sendings_are_counted()
         → AllPairs (λ x y. x ≢ y) r.sendings → AllPairs (λ u v. u ≢ v) r.setting.everyone → length r.sendings ≡ sendings r.setting }
 {}
 
-/// Among all that is on the air, a node hears a sending of a run that is a part of it by the rule of that run.
+/// Among all that is on the air, a node receives a transmission of a run that is a part of it by the rule of that run.
 pub fn runs_hear_by_the_rule_of_the_air()
     ensures { (a : Scene) (r : Run) → IsPart a r → (v : ℕ) (x : Sending) → takes_part r v → Contains r.sendings x
         → Hears a v x ↔ HearsIn r (TunedThrough a) v x }
@@ -44,8 +44,8 @@ pub fn premises_are_met()
         → is_spelling kind (slice_set p 2 k) ≡ true }
 {}
 
-/// A node that is tuned from its window's opening until it goes off is tuned through what does not overlap a sending
-/// of its own exactly where it has sent less often than its limit.
+/// A node that is tuned from its window's opening until it goes off is tuned through what does not overlap a transmission of
+/// its own if and only if it has sent less often than its limit.
 pub fn windows_give_tuning()
     ensures scene { (a : Scene) (r : Run) (v opening closing : ℕ)
         → ((x : Sending) → Contains r.sendings x → x.start < x.end) → IsWindow r (TunedThrough a) v opening closing

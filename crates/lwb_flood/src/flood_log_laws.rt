@@ -16,8 +16,8 @@ ghost use Rattle.lwb_flood.specs.FloodBySteps.{IsFloodBySteps};
 ghost use Rattle.scenario_clocks.specs.StatedClocks.{stated_clock};
 ghost use Rattle.lwb_flood.specs.FloodLog.{HasClocks, run_of, HasSent, HasHeard, HeardFirst, IsAcceptance, accepting};
 
-/// A log that keeps the law of one flood is the flood by steps: a node has a Sent entry with counter k exactly where
-/// it sends in step k, and a Heard entry with counter k exactly where it hears in step k.
+/// A log that keeps the law of one flood is the flood by steps: a node has a `Sent` entry with counter k if and only if it
+/// sends in step k, and a `Heard` entry with counter k if and only if it receives in step k.
 pub fn flood_logs_are_floods_by_steps()
     ensures run { (f : FloodParts) (clocks : ℕ → ℕ → ℕ) (air : List Entry) → HasClocks f clocks
         → (law : FloodLaw f clocks air)
@@ -31,8 +31,8 @@ pub fn flood_logs_are_floods_by_steps()
         → (frame_of one x ≡ 5) × (slot_of x ≡ 1) × (counter_of x ≤ 11) }
 {}
 
-/// What is read off such a log is the outcome of the flood: the nodes that accept with the counters of their first
-/// hearings, in the order of the text, and the number of Sent entries.
+/// What is read off such a log is the outcome of the flood: the nodes that accept with the counters of their first receptions,
+/// in the order of the text, and the number of Sent entries.
 pub fn flood_logs_have_the_outcome()
     ensures accepts { (f : FloodParts) (clocks : ℕ → ℕ → ℕ) (air : List Entry) → HasClocks f clocks
         → FloodLaw f clocks air → (step : ℕ → Option ℕ)
@@ -41,7 +41,7 @@ pub fn flood_logs_have_the_outcome()
         → FloodLaw f clocks air → length (sendings_of air) ≡ (outcome f).sent }
 {}
 
-/// In such a log the first hearing of a node has counter k exactly where the shortest relay path to it has k + 1 links.
+/// In such a log the first reception of a node has counter k if and only if the shortest relay path to it has k + 1 links.
 pub fn flood_logs_accept_by_the_least_relay_path()
     ensures { (f : FloodParts) (clocks : ℕ → ℕ → ℕ) (air : List Entry) → HasClocks f clocks
         → FloodLaw f clocks air → (v k : ℕ) → knows f.nodes v ≡ true → v ≢ f.start

@@ -23,8 +23,8 @@ pub(crate) struct FirstHearing {
     pub(crate) counter: u8,
 }
 
-/// What one flood gives, read off its log, which may be over any clocks of the drift law: each node but the starting
-/// one accepts at the counter of its hearing that ends first, and each Sent entry counts. Err is want of memory.
+/// What one flood gives, read off its log, which may be over any clocks of the drift law: each node but the starting one
+/// accepts at the counter of its reception that ends first, and each Sent entry counts. `Err` means out of memory.
 pub fn outcome_of(alloc: Global, f: &FloodText, air: &Air) -> Result<FloodResult, Memory>
     requires { (clocks : ℕ → ℕ → ℕ) × HasClocks f.now clocks × FloodLaw f.now clocks air.now }
     ensures { IfOk result (λ r. r ≡ outcome f.now) }

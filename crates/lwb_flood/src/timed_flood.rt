@@ -9,8 +9,8 @@ use scenario_text::FloodText;
 use std::alloc::Global;
 use tick_clock::DriftClock;
 
-/// What one flood gives over these clocks, one for each node by ascending ids: it is read off the log of the flood.
-/// Err is want of memory.
+/// What one flood gives over these clocks, one for each node by ascending ids: it is read off the log of the flood. `Err` means
+/// out of memory.
 pub fn flood<C: DriftClock>(
     alloc: Global,
     f: &FloodText,

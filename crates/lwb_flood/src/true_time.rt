@@ -15,7 +15,8 @@ use tick_clock::DriftClock;
 /// The log of the flood that a text tells of, run in true time with one clock for each node, in the order of their ids.
 ///
 /// All nodes tune in at true tick 1,344,000,000, in frame 5, and the starting node sends at 1,344,064,000. A node goes off at
-/// the end of its last sending, or at 1,346,096,000. The log keeps the law of one flood. With `Memory` the clocks are dropped.
+/// the end of its last transmission, or at 1,346,096,000. The log keeps the law of one flood. With `Memory` the clocks are
+/// dropped.
 pub fn flood_air<C: DriftClock>(alloc: Global, f: &FloodText, clocks: Vec<C>) -> Result<Air, Memory>
     requires { length clocks.items ≡ length f.now.nodes }
     ensures { IfOk result (λ air. FloodLaw f.now (clocks_by C.readings f.now.nodes clocks.items) air) }

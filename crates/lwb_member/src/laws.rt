@@ -4,7 +4,7 @@ ghost use Rattle.std.specs.Prelude.{◌≡◌, ℕ, length, Some};
 ghost use Rattle.bus_rules.specs.Slots.{Message, message_length};
 ghost use Rattle.lwb_member.specs.Said.{bytes_of, message_of, MaySay};
 
-/// How many bytes a packet has does not hang on its slot.
+/// The number of bytes of a packet does not depend on its slot.
 pub fn lengths_of_what_is_said()
     ensures { (m : Message) (j : ℕ) → length (bytes_of m j) ≡ message_length m }
 {}

@@ -149,7 +149,7 @@ impl Member {
         }
     }
 
-    /// Sets the interval that a stream wishes, 1 to 120 seconds. Streams are 0 to 3.
+    /// Sets the interval that a stream requests, 1 to 120 seconds. Streams are 0 to 3.
     pub fn declare(&mut self, stream: u8, interval: u8)
         requires stream { stream ≤ 3 }
         requires interval { (1 ≤ interval) × (interval ≤ 120) }
@@ -158,7 +158,7 @@ impl Member {
         self.streams.declare(stream, interval);
     }
 
-    /// The stream wishes nothing more, and what waits in it is gone.
+    /// The stream requests nothing more, and what waits in it is gone.
     pub fn leave(&mut self, stream: u8)
         requires { stream ≤ 3 }
         ensures { self.new ≡ record self.old { core = record self.old.core { streams = rule.left stream self.old.core.streams } } }
@@ -166,7 +166,7 @@ impl Member {
         self.streams.leave(stream);
     }
 
-    /// Puts a packet at the end of a stream's queue. `Dropped`, and nothing changes, exactly where the stream wishes
+    /// Puts a packet at the end of a stream's queue. Returns `Dropped`, and nothing changes, if and only if the stream requests
     /// nothing, 16 packets wait in it, or its 65,535 numbers are used.
     pub fn put(&mut self, stream: u8, payload: &Payload) -> Put
         requires { stream ≤ 3 }
@@ -186,7 +186,7 @@ impl Member {
         }
     }
 
-    /// Whether it accepted this frame's opening as a scanner, and so takes part in its round.
+    /// Whether it accepted this frame's opening schedule as a scanning node, and so takes part in its round.
     pub fn is_fresh(&self) -> bool
         ensures { result ≡ is_fresh self.now.core }
     {

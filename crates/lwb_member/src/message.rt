@@ -8,7 +8,7 @@ use lwb_base::Packet;
 use lwb_packets::{DataPacket, Request, decode_payload, decode_request};
 use schedule_codec::{Schedule, read};
 
-/// What a packet that was heard says.
+/// What a received packet says.
 #[derive(Drop)]
 pub enum Heard {
     /// A host opens or closes its round.
@@ -19,7 +19,7 @@ pub enum Heard {
     Request(Request),
 }
 
-/// What a packet says. None exactly where its bytes are no spelling.
+/// What a packet says. Returns `None` if and only if its bytes are no spelling.
 #[tactic(auto, using(crate::proofs::Meanings::says_data, crate::proofs::Meanings::says_request))]
 pub fn message_in(p: &Packet) -> Option<Heard>
     ensures value { option_map meaning result ≡ message_of p.now }

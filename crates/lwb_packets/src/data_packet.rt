@@ -43,7 +43,7 @@ pub fn encode_payload(d: &DataPacket) -> Packet
     Packet::new(&bytes[..end]).unwrap()
 }
 
-/// The data packet that these bytes spell. None exactly where they spell none.
+/// The data packet that these bytes spell. Returns `None` if and only if they spell none.
 pub fn decode_payload(p: &Packet) -> Option<DataPacket>
     ensures some { IfSome result (SpellsData p.now) }
     ensures all { (d : DataPacket) → SpellsData p.now d → result ≡ Some d }

@@ -38,7 +38,7 @@ pub fn encode_request(r: &Request) -> Packet
     Packet::new(&bytes).unwrap()
 }
 
-/// The request that these bytes spell. None exactly where they spell none.
+/// The request that these bytes spell. Returns `None` if and only if they spell none.
 pub fn decode_request(p: &Packet) -> Option<Request>
     ensures some { IfSome result (SpellsRequest p.now) }
     ensures all { (r : Request) → SpellsRequest p.now r → result ≡ Some r }

@@ -1,4 +1,5 @@
-//! The run of a scenario, and that it is the single-hop bus's: the engine, with what follows from a lawful log.
+//! The run of a scenario, and that it gives what the ideal single-hop bus gives: the engine, with what follows from a valid
+//! (`Lawful`) log.
 #![tactic(auto)]
 
 mod world;

@@ -58,9 +58,8 @@ impl<'a, C: DriftClock> World<'a, C> {
         self.run_with(alloc, &mut calendar)
     }
 
-    /// As `run`, over a queue of orders in which nothing stands: place i, counted from 0, is that of the i-th node by
-    /// ascending ids. After Ok the queue has the orders that stand at the end of the run; what it has after `Memory` is
-    /// left open.
+    /// As `run`, over an empty queue of orders: place i, counted from 0, is that of the i-th node by ascending ids. After `Ok`
+    /// the queue has the orders that remain at the end of the run; what it has after `Memory` is left open.
     pub fn run_with<Q: Orders>(&mut self, alloc: Global, orders: &mut Q) -> Result<(), Memory>
         requires first { self.old.0.ran ≡ false }
         requires empty { Q.map orders.old ≡ replicate (length self.old.0.scenario.nodes) nothing_due }
@@ -79,7 +78,7 @@ impl<'a, C: DriftClock> World<'a, C> {
         self.engine.air()
     }
 
-    /// What the nodes delivered, by frame, rank, slot and node: after a run that ended with Ok what the single-hop bus
+    /// What the nodes delivered, by frame, rank, slot and node: after a run that ended with Ok what the ideal single-hop bus
     /// delivers, whatever the clocks. There are none before the run.
     pub fn deliveries(&self) -> &[Delivery]
         ensures value { result.now ≡ self.now.0.deliveries }
@@ -89,7 +88,7 @@ impl<'a, C: DriftClock> World<'a, C> {
     }
 
     /// The packets that were lost before they were queued, in the order of the text: after a run that ended with Ok those of
-    /// the single-hop bus. There are none before the run.
+    /// the ideal single-hop bus. There are none before the run.
     pub fn drops(&self) -> &[DropLine]
         ensures value { result.now ≡ self.now.0.drops }
         ensures bus { IsLeftByRun self.now.0 → result.now ≡ bus_drops self.now.0.scenario }

@@ -1,5 +1,5 @@
-//! Tests of calendars, made scenarios, the plain bus, the medium, logs and plans with deadlines. They stand above what they test, so that
-//! each of those crates is proved once, and without them.
+//! Tests of calendars, made scenarios, the ideal single-hop bus, the medium, logs and plans with deadlines. They are in a crate
+//! above what they test, so that each of those crates is proved once, and without them.
 #![tactic(auto)]
 
 #[cfg(test)]

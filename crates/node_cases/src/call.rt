@@ -8,9 +8,9 @@ use std::marker::Model;
 pub enum Call {
     /// An event, at this reading of its clock, below 2^46.
     Step(u64, Event),
-    /// A stream, 0 to 3, wishes this interval, 1 to 120 seconds.
+    /// A stream, 0 to 3, requests this interval, 1 to 120 seconds.
     Declare(u8, u8),
-    /// A stream, 0 to 3, wishes nothing more.
+    /// A stream, 0 to 3, requests nothing more.
     Leave(u8),
     /// A packet for a stream, 0 to 3, with a payload that the profile allows.
     Put(u8, Payload),

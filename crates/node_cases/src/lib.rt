@@ -1,4 +1,4 @@
-//! Tests of nodes and of their parts, and whole runs of a node. They stand above what they test, so that each of those
+//! Tests of nodes and of their parts, and whole runs of a node. They are in a crate above what they test, so that each of those
 //! crates is proved once, and without them.
 #![tactic(auto)]
 

@@ -97,7 +97,7 @@ impl Node {
         self.delivery = None;
     }
 
-    /// Sets the interval that a stream wishes, 1 to 120 seconds. Streams are 0 to 3.
+    /// Sets the interval that a stream requests, 1 to 120 seconds. Streams are 0 to 3.
     pub fn declare(&mut self, stream: u8, interval: u8)
         requires stream { stream ≤ 3 }
         requires interval { (1 ≤ interval) × (interval ≤ 120) }
@@ -106,7 +106,7 @@ impl Node {
         self.member.declare(stream, interval);
     }
 
-    /// The stream wishes nothing more, and what waits in it is gone.
+    /// The stream requests nothing more, and what waits in it is gone.
     pub fn leave(&mut self, stream: u8)
         requires { stream ≤ 3 }
         ensures { self.new ≡ record self.old { node = with_streams self.old.node (rule.left stream self.old.node.core.streams) } }
@@ -114,8 +114,8 @@ impl Node {
         self.member.leave(stream);
     }
 
-    /// Puts a packet at the end of a stream's queue; its payload is at most as long as the profile allows. `Dropped`, and
-    /// nothing changes, exactly where the stream wishes nothing, 16 packets wait in it, or its 65,535 numbers are used.
+    /// Puts a packet at the end of a stream's queue; its payload is at most as long as the profile allows. Returns `Dropped`,
+    /// and nothing changes, if and only if the stream requests nothing, 16 packets wait in it, or its 65,535 numbers are used.
     pub fn put(&mut self, stream: u8, payload: &Payload) -> Put
         requires stream { stream ≤ 3 }
         requires payload { length payload.now ≤ self.old.setup.profile.payload_max }
@@ -150,8 +150,8 @@ impl Node {
         }
     }
 
-    /// The delivery of the last step whose event fitted a row, once. None exactly where that step made none, it was taken,
-    /// or there was no such step.
+    /// The delivery of the last step whose event fitted a row, once. Returns `None` if and only if that step made none, it was
+    /// taken, or there was no such step.
     pub fn delivered(&mut self) -> Option<Delivery>
         ensures delivery { result ≡ self.old.delivery }
         ensures once { self.new ≡ record self.old { delivery = None } }

@@ -1,4 +1,4 @@
-//! The rows of the node table in which a packet is heard.
+//! The rows of the node table in which a packet is received.
 
 ghost use Rattle.std.specs.Prelude.{◌≡◌, ◌≤◌, ◌<◌, ◌^◌, Some, None, true, false};
 ghost use Rattle.schedule_codec.specs.Spelling.{slot_fits};

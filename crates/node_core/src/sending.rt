@@ -1,4 +1,4 @@
-//! The row of the node table in which a sending ends, and the order of a relay.
+//! The row of the node table in which a transmission ends, and the order of a relay.
 
 ghost use Rattle.std.specs.Prelude.{◌≤◌, ◌<◌, ◌^◌};
 ghost use Rattle.node_core.specs.Rows.{at_sent, relaying};

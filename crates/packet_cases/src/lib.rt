@@ -1,4 +1,5 @@
-//! Tests of bytes, clocks, links and packets. They stand above what they test, so that each of those crates is proved once, and without them.
+//! Tests of bytes, clocks, links and packets. They are in a crate above what they test, so that each of those crates is proved
+//! once, and without them.
 #![tactic(auto)]
 
 #[cfg(test)]

@@ -14,7 +14,7 @@ use lwb_base::{Memory, NodeId};
 use scenario_text::{FloodText, NodeLine};
 use std::alloc::Global;
 
-/// What one flood of the text gives: who accepts and in which step, and how often it is sent. Err is want of memory.
+/// What one flood of the text gives: who accepts and in which step, and how often it is sent. `Err` means out of memory.
 pub fn accepts(alloc: Global, f: &FloodText) -> Result<FloodResult, Memory>
     ensures { IfOk result (λ r. r ≡ outcome f.now) }
 {

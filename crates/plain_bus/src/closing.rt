@@ -18,9 +18,9 @@ use bus_rules::{Delivery, Part};
 use lwb_base::{Memory, NodeId, Rank};
 use lwb_member::{Heard, message_in};
 
-/// The slot of this part and number closes at all nodes in the round of this rank and frame, which is at most 16,777,215:
-/// by the windows and the stations behind the flood, in the order of the nodes, whose ids ascend. What they deliver comes to
-/// the end of `log`. Err is want of memory.
+/// The slot of this part and number closes at all nodes in the round of this rank and frame, which is at most 16,777,215: by
+/// the windows and the stations after the flood, in the order of the nodes, whose ids ascend. What they deliver is added at the
+/// end of `log`. `Err` means out of memory.
 pub fn close_all(
     nodes: &mut [BusNode],
     windows: &[Window],

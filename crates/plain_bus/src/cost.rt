@@ -14,10 +14,10 @@ use std::marker::Model;
 pub struct Cost {
     /// How long it sends.
     pub sent: u64,
-    /// What the windows count that it has in rounds: each until the end of its last sending, if the node sent as often as
+    /// What the windows count that it has in rounds: each until the end of its last transmission, if the node sent as often as
     /// it may, and else until the window closes.
     pub windows: u64,
-    /// The number of frames in which it scans for a host, behind what the script tells it.
+    /// The number of frames in which it scans for a host, after the script lines.
     pub scanned: u32,
 }
 
@@ -39,7 +39,7 @@ pub struct Steps {
 }
 
 impl Cost {
-    /// With that of a slot, in which the node sent so many bytes in each of these steps, and had a window or none. A node
+    /// With the cost of a slot, in which the node sent `bytes` bytes in each of these steps, and had a window or none. A node
     /// sends at most `limit` times, 1 to 4.
     pub fn add_slot(&mut self, profile: &Profile, limit: u8, is_open: bool, bytes: u8, steps: Steps)
         requires room { IsBelow 1048576 self.old }

@@ -1,4 +1,4 @@
-//! What a node hears in a step of a flood.
+//! What a node receives in a step of a flood.
 
 ghost use Rattle.std.specs.Prelude.{◌≡◌, ◌<◌, ◌≤◌, length, slice_index};
 ghost use Rattle.bus_model.specs.Flooding.{Setting, Moment, hears as hears_in, agrees as agrees_with};
@@ -9,7 +9,7 @@ use crate::station::{Flood, Station, Stations, has_bit};
 use link_trace::Trace;
 use lwb_base::NodeId;
 
-/// The initiator whose message the node at this place hears in the step, if it hears one.
+/// The initiator whose message the node at this place receives in the step, if it receives one.
 pub fn hears(trace: &Trace, flood: &Flood, now: &Stations, step: u8, place: u8) -> Option<NodeId>
     requires place { place < length now.now.each.items }
     requires sealed { length now.now.each.items ≡ length trace.now.nodes }

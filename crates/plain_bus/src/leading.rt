@@ -14,8 +14,8 @@ use lwb_base::{Memory, Rank};
 use lwb_member::Member;
 use std::alloc::Global;
 
-/// What the slots are for in the round of this rank and frame, by slot, as its host has it if it is due, or else the holder
-/// with the least id. None comes exactly where there is no round. Err is want of memory.
+/// What the slots are for in the round of this rank and frame, by slot, as its host has it if it is due, or else the
+/// synchronized member with the least id. Returns `Ok(None)` if and only if there is no round. `Err` means out of memory.
 pub fn parts_of_round(
     alloc: Global,
     nodes: &[BusNode],

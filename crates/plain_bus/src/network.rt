@@ -44,7 +44,7 @@ impl Model for Network {
 }
 
 impl Network {
-    /// All nodes of the scenario, off and without a boot: they cost and delivered nothing so far. Err is want of memory.
+    /// All nodes of the scenario, off and without a boot: they cost and delivered nothing so far. `Err` means out of memory.
     pub fn new(alloc: Global, s: &Scenario) -> Result<Network, Memory>
         ensures { IfOk result (λ n. n ≡ record {
           ids = ids s.now.nodes;
@@ -77,7 +77,7 @@ impl Network {
     }
 
     /// A slot of this part and number in the round of this rank and frame, which is at most 16,777,215: it opens, its flood
-    /// runs, and it closes. Err is want of memory.
+    /// runs, and it closes. `Err` means out of memory.
     pub fn run_slot(
         &mut self,
         s: &Scenario,

@@ -17,7 +17,7 @@ use std::alloc::Global;
 use std::marker::Model;
 use stream_source::Put;
 
-/// A node of the bus: off after so many boots, or on as a member of its rounds.
+/// A node of the bus: off after a number of boots, or on as a member of its rounds.
 #[derive(Drop)]
 pub struct BusNode {
     pub(crate) member: Member,

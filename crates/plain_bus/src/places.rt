@@ -6,7 +6,7 @@ ghost use Rattle.bus_model.specs.Flooding.{has};
 
 use lwb_base::NodeId;
 
-/// The place of this node among ascending ones. None exactly where it is none of them.
+/// The place of this node among ascending ones. Returns `None` if and only if it is none of them.
 pub fn place_of(ids: &[NodeId], node: NodeId) -> Option<usize>
     requires { AllPairs (λ a b. a < b) ids.now }
     ensures place { IfSome result (λ i. (i < length ids.now) × (slice_index ids.now i ≡ node)) }

@@ -22,9 +22,9 @@ use crate::window::Window;
 use bus_rules::Part;
 use lwb_base::{Memory, Rank};
 
-/// A slot of this part and number opens at all nodes in the round of this rank and frame, which is at most 16,777,215, and
-/// a node sends at most so often in its flood: the flood. The windows come in the place of what `windows` had, in the order
-/// of the nodes. Err is want of memory.
+/// A slot of this part and number opens at all nodes in the round of this rank and frame, which is at most 16,777,215, and a
+/// node sends at most `limit` times in its flood: the flood. The windows come in the place of what `windows` had, in the order
+/// of the nodes. `Err` means out of memory.
 pub fn open_slot(
     nodes: &mut [BusNode],
     windows: &mut Vec<Window>,

@@ -9,8 +9,8 @@ use crate::window::Window;
 use bus_rules::Part;
 use lwb_base::{Memory, Rank};
 
-/// A slot of this part opens at all nodes in the round of this rank and frame, which is at most 16,777,215. The windows
-/// come in the place of what `windows` had, in the order of the nodes. Err is want of memory.
+/// A slot of this part opens at all nodes in the round of this rank and frame, which is at most 16,777,215. The windows come in
+/// the place of what `windows` had, in the order of the nodes. `Err` means out of memory.
 pub fn open_all(
     nodes: &mut [BusNode],
     windows: &mut Vec<Window>,

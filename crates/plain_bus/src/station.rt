@@ -28,7 +28,7 @@ pub struct Station {
     pub sends: Option<NodeId>,
     /// How often it has sent before.
     pub times: u8,
-    /// The first initiator that it heard, and the step.
+    /// The first initiator from which it received, and the step.
     pub heard: Option<(NodeId, u8)>,
 }
 

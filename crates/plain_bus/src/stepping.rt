@@ -131,7 +131,7 @@ fn initiator(flood: &Flood, place: u8, node: NodeId) -> Station
 /// A flood that went by.
 #[derive(Drop)]
 pub struct FloodEnd {
-    /// All nodes behind it.
+    /// All nodes after it.
     pub stations: Stations,
     /// The mask of those that sent in each of its 12 steps.
     pub senders: ArrayVec<u64, 12>,

@@ -20,7 +20,7 @@ use lwb_member::{Heard, Member, message_in};
 pub struct Window {
     /// It is a member of the round.
     pub is_open: bool,
-    /// It takes part in the flood of the slot: members do, and in the first slot and the last the scanners of the rank.
+    /// It takes part in the flood of the slot: members do, and in the first slot and the last the scanning nodes of the rank.
     pub takes_part: bool,
     /// It says something.
     pub initiates: bool,

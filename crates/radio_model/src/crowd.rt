@@ -19,7 +19,7 @@ use crate::station::Station;
 use link_trace::Links;
 use lwb_base::Profile;
 
-/// What keeps a sending from being heard: to which nodes other packets come while it does, and to which its own packet
+/// What keeps a transmission from being received: to which nodes other packets come while it does, and to which its own packet
 /// comes out of time, each node by the bit of its place.
 #[derive(Clone, Copy)]
 pub struct Crowd {
@@ -178,10 +178,10 @@ fn strangers(
     strange
 }
 
-/// What keeps x from being heard by the nodes that are ready for it. x has that key, its packet has that origin, its frame
-/// began at `opens`, and its rivals are at those places. None comes only where its packet comes out of time to each of
-/// these nodes. First come the stations from which a link passes to one of them. For the others a look at their marks is
-/// mostly enough.
+/// What keeps x from being received by the nodes that are ready for it. x has that key, its packet has that origin, its frame
+/// began at `opens`, and its rivals are at those places. Returns `None` only if its packet comes out of time to each of these
+/// nodes. First come the stations from which a link passes to one of them. For the others a look at their marks is mostly
+/// enough.
 pub fn crowd_of<M: Links>(
     links: &M,
     profile: &Profile,
@@ -242,8 +242,8 @@ pub fn crowd_of<M: Links>(
     )
 }
 
-/// To which nodes the packet of x comes out of time from the node that began it, as far as the mark of this one tells.
-/// Where many hear each other, these are nearly all.
+/// To which nodes the packet of x comes out of time from the node that began it, as far as the mark of this one shows. Where
+/// many receive each other, these are nearly all.
 pub fn lost_early<M: Links>(
     links: &M,
     profile: &Profile,

@@ -4,7 +4,7 @@ use arrayvec::ArrayVec;
 use lwb_base::NodeId;
 use std::marker::Model;
 
-/// One who hears, and the sender.
+/// A receiver and its sender.
 #[derive(Clone, Copy)]
 struct Pair {
     hearer: NodeId,
@@ -21,7 +21,8 @@ impl Default for Pair {
     }
 }
 
-/// Who hears one sending: pairs of a hearer and the sender, at most 64, by hearer ascending. Contracts see the list.
+/// Who receives one transmission: pairs of a receiver and its sender, at most 64, by receiver ascending. Contracts see the
+/// list.
 #[derive(Drop)]
 pub struct Hearers {
     pairs: ArrayVec<Pair, 64>,
@@ -38,7 +39,7 @@ impl Model for Hearers {
 }
 
 impl Hearers {
-    /// Nobody hears.
+    /// Nobody receives.
     pub(crate) fn none() -> Hearers
         ensures { result ≡ [] }
     {
@@ -47,7 +48,7 @@ impl Hearers {
         }
     }
 
-    /// One more hears.
+    /// One more receives.
     pub(crate) fn push(&mut self, hearer: NodeId, sender: NodeId)
         requires { length self.old < 64 }
         ensures { self.new ≡ self.old ++ (hearer, sender) ∷ [] }
@@ -55,7 +56,7 @@ impl Hearers {
         self.pairs.push(Pair { hearer, sender });
     }
 
-    /// How many hear.
+    /// The number of receivers.
     pub fn count(&self) -> u8
         ensures value { result ≡ length self.now }
         ensures range { result ≤ 64 }
@@ -63,7 +64,7 @@ impl Hearers {
         self.pairs.len() as u8
     }
 
-    /// The hearer and the sender of the pair at place i, counted from 0. None comes exactly where i is not below the
+    /// The receiver and the sender of the pair at place i, counted from 0. Returns `None` if and only if i is not below the
     /// count.
     pub fn at(&self, i: usize) -> Option<(NodeId, NodeId)>
         ensures { result ≡ slice_get self.now i }

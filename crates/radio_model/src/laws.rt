@@ -1,4 +1,4 @@
-//! Laws on hearing and on what a medium holds, each a function that does nothing and has the law as its contract.
+//! Laws on reception and on what a medium holds, each a function that does nothing and has the law as its contract.
 ghost use Rattle.std.specs.Prelude.{◌≡◌, ◌≢◌, ◌↔◌, ◌<◌, ◌≤◌, ℕ, List, Option, option_map};
 ghost use Rattle.lwb_base.specs.Profile.{Numbers, IsProfile};
 ghost use Rattle.link_trace.specs.Masks.{AreNodes};
@@ -8,13 +8,13 @@ ghost use Rattle.radio_model.specs.Stations.{MediumState, IsMedium, KeepsNode, n
 ghost use Rattle.radio_model.specs.Holding.{Agree, Holds, SameHistory, as_it_stands, after_tuning, after_starting};
 ghost use Rattle.radio_model.specs.declared.station.Station.{Station};
 
-/// Who hears a sending is settled when it ends: nothing that happens from then on counts.
+/// Who receives a transmission is settled when it ends: nothing that happens from then on counts.
 pub fn hearing_is_settled()
     ensures { (a b : Scene) (v : ℕ) (x : Sending) → x.start < x.end → Agree x.end a b
         → Hears a v x ↔ Hears b v x }
 {}
 
-/// What a medium holds does not hang on how ended tunings that meet are split.
+/// What a medium holds does not depend on how ended tunings that meet are split.
 pub fn same_history_is_held()
     ensures { (m : MediumState) (a b : Scene) → SameHistory m.now a b → Holds m a → Holds m b }
 {}
@@ -30,7 +30,7 @@ pub fn calls_change_nothing_before()
     ensures waiting { (m : MediumState) (s t : ℕ) (a : Scene) → s ≤ t → Agree s (as_it_stands m s a) (as_it_stands m t a) }
 {}
 
-/// Scenes that agree before a tick can stand for one another, and they agree before each earlier tick.
+/// Scenes that agree before a tick can replace one another, and they agree before each earlier tick.
 pub fn agreement_is_an_equivalence()
     ensures same { (t : ℕ) (a : Scene) → Agree t a a }
     ensures back { (t : ℕ) (a b : Scene) → Agree t a b → Agree t b a }

@@ -1,4 +1,4 @@
-//! Who hears what on the air: the medium that all nodes share.
+//! Who receives what on the air: the medium that all nodes share.
 #![tactic(auto)]
 
 mod bits;

@@ -20,7 +20,7 @@ use crate::station::Station;
 use link_trace::Links;
 use lwb_base::Profile;
 
-/// Who hears x, the sending of the station `from`, now that it ends. Its rivals are at those places, and its packet has
+/// Who receives x, the transmission of the station `from`, now that it ends. Its rivals are at those places, and its packet has
 /// that origin.
 pub fn listeners<M: Links>(
     links: &M,

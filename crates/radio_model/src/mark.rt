@@ -8,8 +8,8 @@ use crate::sending::Sending;
 use crate::station::Station;
 use lwb_base::{NodeId, Packet, Rank};
 
-/// Where a packet on the air comes from: the first that began of those that have it and ran on, one into the next, by
-/// the place of its node and its start. So sendings that overlap and have one origin have one packet.
+/// Where a packet on the air comes from: the first that began of those that have it and ran on, one into the next, by the place
+/// of its node and its start. So transmissions that overlap and have one origin have one packet.
 #[derive(Clone, Copy)]
 pub struct Origin {
     pub place: u8,
@@ -24,9 +24,9 @@ impl Origin {
     }
 }
 
-/// The sendings of one node in short, so that most need no look at them: the channel of the newest, which runs or ended
-/// last, when it begins and ends, when those before it were over, and the origin of its packet. All numbers are 0
-/// where there was none.
+/// The transmissions of one node in short, so that most need no look at them: the channel of the newest, which runs or ended
+/// last, when it begins and ends, when those before it were over, and the origin of its packet. All numbers are 0 where there
+/// was none.
 #[derive(Clone, Copy)]
 pub struct Mark {
     pub rank: Rank,
@@ -50,7 +50,7 @@ impl Mark {
         }
     }
 
-    /// Another sending begins.
+    /// Another transmission begins.
     pub(crate) fn next(self, rank: Rank, start: u64, end: u64, origin: Origin) -> Mark
         ensures { result ≡ next_mark rank start end origin self }
     {
@@ -63,16 +63,16 @@ impl Mark {
         }
     }
 
-    /// Whether the mark shows that no sending of the node overlaps one with these times: all were over at its start, or
-    /// the newest begins behind it and the others were over.
+    /// Whether the mark shows that no transmission of the node overlaps one with these times: all were over at its start, or
+    /// the newest begins after it and the others were over.
     pub(crate) fn is_aside(&self, start: u64, end: u64) -> bool
         ensures { result ≡ is_aside start end self.now }
     {
         self.end <= start || self.before <= start && end <= self.start
     }
 
-    /// Whether the mark shows that what this node sends beside x, whose packet has that origin, is the packet of x, and
-    /// that x comes first and in time, so that it is heard as one with it.
+    /// Whether the mark shows that what this node sends next to x, whose packet has that origin, is the packet of x, and that x
+    /// comes first and in time, so that it is received as one with it.
     pub(crate) fn comes_along(&self, x: &Sending, node: NodeId, origin: Origin, delta: u64) -> bool
         requires start { x.now.start ≤ 2 ^ 46 }
         requires delta { delta ≤ 2 ^ 32 }
@@ -85,7 +85,7 @@ impl Mark {
             && self.start <= x.start + delta
     }
 
-    /// Whether the mark shows that what this node sends beside x, whose packet has that origin, is the packet of x on its
+    /// Whether the mark shows that what this node sends next to x, whose packet has that origin, is the packet of x on its
     /// channel, and that it comes before x, though not before the tick `opens`.
     pub(crate) fn comes_early(&self, x: &Sending, node: NodeId, origin: Origin, opens: u64) -> bool
         ensures { result ≡ comes_early opens x.now origin node self.now }
@@ -97,8 +97,8 @@ impl Mark {
             && (opens <= self.start && comes_first)
     }
 
-    /// Whether the mark shows that what this node sends beside x, whose packet has that origin, is the packet of x, and
-    /// that it begins at one of the ticks from `opens` to `latest`.
+    /// Whether the mark shows that what this node sends next to x, whose packet has that origin, is the packet of x, and that
+    /// it begins at one of the ticks from `opens` to `latest`.
     pub(crate) fn comes_close(&self, x: &Sending, origin: Origin, opens: u64, latest: u64) -> bool
         ensures { result ≡ comes_close opens latest x.now origin self.now }
     {
@@ -108,7 +108,7 @@ impl Mark {
     }
 }
 
-/// The mark at that place, where another sending may begin on the channel of a rank.
+/// The mark at that place, where another transmission may begin on the channel of a rank.
 pub(crate) fn raise(
     marks: &mut Vec<Mark>,
     place: usize,
@@ -125,7 +125,7 @@ pub(crate) fn raise(
     }
 }
 
-/// The origin of a packet whose sending begins at t at that place: that of the same packet on the air, from one of the
+/// The origin of a packet whose transmission begins at t at that place: that of the same packet on the air, from one of the
 /// places of the mask, or else its own.
 pub(crate) fn origin_of(
     stations: &[Station],

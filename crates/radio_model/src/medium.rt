@@ -25,10 +25,10 @@ use lwb_base::{Memory, NodeId, Packet, Profile, Rank};
 use std::alloc::Global;
 use std::marker::Model;
 
-/// The air that all nodes share. It keeps, for each node, what it is tuned to and sends now, the tuning that ended
-/// last, and the last ended sendings, which are all that can overlap one that still runs. Contracts see that.
+/// The radio medium that all nodes share. It keeps, for each node, what it is tuned to and sends now, the tuning that ended
+/// last, and the last ended transmissions, which are all that can overlap one that still runs. Contracts see that.
 ///
-/// Times are true ticks of 1/64 µs, at most 2^46. They never fall, and none is after the end of a sending that runs.
+/// Times are true ticks of 1/64 µs, at most 2^46. They never fall, and none is after the end of a transmission that runs.
 #[derive(Drop)]
 pub struct Medium {
     profile: Profile,
@@ -101,8 +101,8 @@ impl Medium {
         self.time = t;
     }
 
-    /// The node begins to send at t, for the packet's airtime. False comes exactly where it is not tuned or already
-    /// sends, and then nothing changes but the time.
+    /// The node begins to send at t, for the packet's airtime. Returns `false` if and only if it is not tuned or already sends,
+    /// and then nothing changes but the time.
     #[inline(always)]
     pub fn start(&mut self, node: NodeId, t: u64, packet: &Packet) -> bool
         requires node { Contains (nodes_of self.old) node }
@@ -131,8 +131,8 @@ impl Medium {
         starts
     }
 
-    /// The node's sending ends at t: who hears it now, one whose tuning ends at this very tick too. Which links pass
-    /// is asked of `links`, whose seal has the nodes of the medium.
+    /// The node's transmission ends at t: who receives it now, including a node whose tuning ends at this very tick. Which
+    /// links pass is asked of `links`, whose seal has the nodes of the medium.
     pub fn end<M: Links>(&mut self, links: &M, node: NodeId, t: u64) -> Hearers
         requires node { Contains (nodes_of self.old) node }
         requires time { IsTime self.old t }

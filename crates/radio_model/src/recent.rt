@@ -3,8 +3,8 @@ ghost use Rattle.radio_model.specs.Recent.{no_recent, IsNext};
 
 use crate::bits::with_bit;
 
-/// Whose sendings can matter to one that still runs: the nodes by the bits of their places, and when all that was sent
-/// is over. What a node without its bit sent was over before any that runs began.
+/// Whose transmissions can matter to one that still runs: the nodes by the bits of their places, and when all that was sent is
+/// over. What a node without its bit sent was over before any that runs began.
 #[derive(Clone, Copy)]
 pub struct Recent {
     pub places: u64,
@@ -22,7 +22,7 @@ impl Recent {
         }
     }
 
-    /// Another sending may begin at that place.
+    /// Another transmission may begin at that place.
     pub(crate) fn next(self, starts: bool, place: u8, start: u64, end: u64) -> Recent
         requires { place < 64 }
         ensures starts { starts ≡ true → IsNext place start end self result }

@@ -8,7 +8,7 @@ use crate::station::{Station, overlap};
 use link_trace::Links;
 use lwb_base::{NodeId, Profile};
 
-/// Where a sending stands in a trace: the frame of its start, and the slot and the counter of its packet.
+/// The place of a transmission in a trace: the frame of its start, and the slot and the counter of its packet.
 #[derive(Clone, Copy, PartialEq, Eq)]
 pub struct Key {
     pub frame: u32,
@@ -16,8 +16,8 @@ pub struct Key {
     pub counter: u8,
 }
 
-/// A sending that overlaps another one on its channel: its sender, its key, whether it has the same packet, and whether
-/// it comes in time to be heard as one with it.
+/// A transmission that overlaps another one on its channel: its sender, its key, whether it has the same packet, and whether it
+/// comes in time to be received as one with it.
 #[derive(Clone, Copy)]
 pub struct Rival {
     pub node: NodeId,
@@ -64,7 +64,7 @@ pub fn rival_to(profile: &Profile, station: &Station, x: &Sending, y: &Sending) 
     })
 }
 
-/// The ended sending at that place, the oldest at 0.
+/// The ended transmission at that place, the oldest at 0.
 pub fn ended_at(station: &Station, i: usize) -> &Sending
     requires { i < length station.now.ended.items }
     ensures { result.now ≡ slice_index_or station.now.ended.items i result.now }
@@ -72,8 +72,8 @@ pub fn ended_at(station: &Station, i: usize) -> &Sending
     station.ended.get(i).unwrap()
 }
 
-/// From this place on the ended sendings may overlap one that begins at `start`. They stand by their ends, so the search
-/// goes back from the newest, and before the first that was over by `start` all were.
+/// From this place on the ended transmissions may overlap one that begins at `start`. They are in the order of their ends, so
+/// the search goes back from the newest, and before the first that was over by `start` all were.
 pub fn first_after(station: &Station, start: u64) -> usize
     requires { ByEnd station.now.ended.items }
     ensures within { result ≤ length station.now.ended.items }

@@ -10,8 +10,8 @@ use circular_buffer::HeapCircularBuffer;
 use lwb_base::{Memory, NodeId, Packet, Rank};
 use std::alloc::Global;
 
-/// So many ended sendings of one node are kept. The longest packet is on the air for less than 13 of the shortest, so
-/// one that ended before the last 13 overlaps none that still runs.
+/// The number of ended transmissions of one node that are kept. The longest packet is on the air for less than 13 of the
+/// shortest, so one that ended before the last 13 overlaps none that still runs.
 const KEPT: usize = 13;
 
 /// Tuned to the channel of a rank since a tick.
@@ -29,8 +29,8 @@ pub struct Past {
     pub until: u64,
 }
 
-/// What is kept of one node: its place among the nodes, its tuning, the tuning that ended last, what it sends, and
-/// its last ended sendings, the oldest first.
+/// What is kept of one node: its place among the nodes, its tuning, the tuning that ended last, what it sends, and its last
+/// ended transmissions, the oldest first.
 #[derive(Drop)]
 pub struct Station {
     pub node: NodeId,
@@ -110,7 +110,7 @@ impl Station {
         self.tuned = Some(Tuned { rank, since });
     }
 
-    /// It begins to send at t, until `end`, on the channel of that rank. None comes exactly where it is not tuned or
+    /// It begins to send at t, until `end`, on the channel of that rank. Returns `None` if and only if it is not tuned or
     /// already sends, and then nothing changes.
     pub(crate) fn start(&mut self, t: u64, end: u64, packet: &Packet) -> Option<Rank>
         ensures value { result ≡ begins_on self.old.tuned self.old.sending }
@@ -167,7 +167,7 @@ impl Station {
         }
     }
 
-    /// Whether no sending of its own overlaps x.
+    /// Whether no transmission of its own overlaps x.
     pub(crate) fn is_quiet(&self, x: &Sending) -> bool
         requires { IsAged x.now.end self.now.ended.items }
         ensures { result ≡ not (list_any (overlaps x.now) (on_air self.now)) }

@@ -15,7 +15,7 @@ pub enum Command {
     Run,
     /// The same, with the text of its log.
     Log,
-    /// What the scenario gives on a single-hop bus, without clocks.
+    /// What the scenario gives on the ideal single-hop bus, without clocks.
     Bus,
     /// The summary of the run of the scenario that a seed makes, of 2 to 64 nodes and 1 to 4,096 frames; nodes times frames
     /// is at most 16,384.
@@ -38,7 +38,7 @@ impl Command {
     }
 }
 
-/// The command that the words ask for: its one word, or `demo` and three numbers, and nothing behind it.
+/// The command that the words ask for: its one word, or `demo` and three numbers, and nothing after it.
 pub fn command_of(words: &[String]) -> Option<Command>
     ensures { (c : CommandOf) → (result ≡ Some c) ↔ Asks (map string_bytes words.now) c }
 {

@@ -36,7 +36,7 @@ pub fn run_answer(alloc: Global, bytes: &[u8]) -> Result<Answer, Memory>
     Ok(Answer::Report(report, world.into_air()))
 }
 
-/// The same, with the text of the run's log behind the report.
+/// The same, with the text of the run's log after the report.
 pub fn log_answer(alloc: Global, bytes: &[u8]) -> Result<Answer, Memory>
     requires { length bytes.now < 2 ^ 31 }
     ensures { IfOk result (λ a. Answers asked.Log bytes.now a) }

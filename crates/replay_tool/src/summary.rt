@@ -5,8 +5,8 @@ use air_log::{Air, Entry};
 use std::alloc::{AllocError, Global};
 use text_writers::write_line;
 
-/// The summary of a run with so many deliveries and drops: both numbers, and the ticks in which all nodes sent and in which
-/// their radios were on.
+/// The summary of a run with these numbers of deliveries and drops: both numbers, and the ticks in which all nodes sent and in
+/// which their radios were on.
 pub fn summary(
     alloc: Global,
     deliveries: usize,

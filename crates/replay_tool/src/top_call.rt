@@ -21,8 +21,8 @@ use std::alloc::Global;
 /// How a call of `top` ended.
 #[derive(Drop)]
 pub struct Outcome {
-    /// 0: the whole text was written. 1: the input was refused. 2: the words are no command. 3: the source failed.
-    /// 4: the sink failed. 5: want of memory.
+    /// 0: the whole text was written. 1: the input was rejected. 2: the words are no command. 3: the source failed. 4: the sink
+    /// failed. 5: out of memory.
     pub status: u8,
     /// The log of what was run over the clocks that the text states. It is empty but with status 0, and with status 4
     /// where a report could not be written.
@@ -36,10 +36,10 @@ const TOO_LONG: &[u8; 15] = b"fault too long\n";
 /// Does what the words of the command line ask for: it reads the source to its end, or nothing for `demo`, and writes the
 /// text that is due. The words do not contain the program's name.
 ///
-/// With status 0, and with 4 where the text is a report, of `run`, `log` and `demo`: the log is lawful; one node at most
-/// initiates in a data slot of a channel, transmissions of different steps never overlap there, relays of one data or
-/// schedule flood differ only by counter; and the printed deliveries and drops are the single-hop bus's, received by relay
-/// paths, each stream in order and no packet twice (`IsOfRun`).
+/// With status 0, and with 4 where the text is a report, of `run`, `log` and `demo`: the log is valid (`Lawful`); one node at
+/// most initiates in a data slot of a channel, transmissions of different steps never overlap there, relays of one data or
+/// schedule flood differ only by counter; and the printed deliveries and drops are those of the ideal single-hop bus, received
+/// by relay paths, each stream in order and no packet twice (`IsOfRun`).
 pub fn top<S: Source, K: Sink>(
     alloc: Global,
     words: &[String],

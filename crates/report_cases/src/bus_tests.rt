@@ -1,4 +1,4 @@
-//! The command `bus` on worked texts, beside what `run` writes of them.
+//! The command `bus` on worked texts, next to what `run` writes of them.
 
 use crate::calls::{answer, joined};
 use crate::cases::{BASE, BYTES_32, CASES, ONE_PACKET, TWO_CONTENTION_SLOTS, TWO_ON};

@@ -1,6 +1,6 @@
 //! Worked texts, and what the program answers to them.
 
-/// A call by these words with a text: the status that it gives, and what it writes. Texts stand in parts, each of whole
+/// A call by these words with a text: the status that it gives, and what it writes. Texts are given in parts, each of whole
 /// lines but for payloads.
 pub struct Case {
     pub name: &'static str,

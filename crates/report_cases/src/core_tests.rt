@@ -1,4 +1,4 @@
-//! Node cores by themselves, driven through the hearings of a run's log: they order what the log says was sent and tuned.
+//! Node cores alone, driven through the receptions of a run's log: they order what the log says was sent and tuned.
 
 ghost use Rattle.std.specs.Prelude.{◌≡◌, IfOk, OnOk};
 ghost use Rattle.lwb_base.specs.Profile.{one};
@@ -15,7 +15,7 @@ use tick_clock::{At, DriftClock, SegmentClock};
 // No tick or reading of the run comes to this.
 const FAR: u64 = 1 << 45;
 
-/// A core whose clock reads the true tick, with its alarm and its sendings: the one that is ordered, and the end of the
+/// A core whose clock reads the true tick, with its alarm and its transmissions: the one that is ordered, and the end of the
 /// one that runs. Its radio is on at a rank since a tick, and was on at ranks from a tick on and before another.
 #[derive(Drop)]
 struct Driven {

@@ -1,5 +1,5 @@
-//! Tests of the commands: calls of `top` with worked texts, at the ends of what may come, and what runs log. They stand by
-//! themselves, so that `replay_tool` is proved once.
+//! Tests of the commands: calls of `top` with worked texts, at the ends of what may come, and what runs log. They are a crate
+//! of their own, so that `replay_tool` is proved once.
 #![tactic(auto)]
 
 #[cfg(test)]

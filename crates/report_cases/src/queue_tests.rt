@@ -12,7 +12,7 @@ use scenario_text::Scenario;
 use std::alloc::Global;
 use std::test::Fail;
 
-/// A calendar that notes the ticks at which sendings are to end.
+/// A calendar that notes the ticks at which transmissions are to end.
 #[derive(Drop)]
 struct Noting {
     calendar: Calendar,

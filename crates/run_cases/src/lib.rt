@@ -1,4 +1,4 @@
-//! Tests of whole runs, in true time and on the bus. They stand above all that runs, so they stand by themselves.
+//! Tests of whole runs, in true time and on the bus. They need all that runs, so they are a crate of their own.
 #![tactic(auto)]
 
 #[cfg(test)]

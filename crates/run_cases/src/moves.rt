@@ -1,4 +1,4 @@
-//! Sendings of a log that were moved by hand.
+//! Transmissions of a log that were moved manually.
 
 use crate::safe::{Clause, frame_at};
 use air_log::SentEntry;
@@ -6,14 +6,14 @@ use lwb_base::{NodeId, Packet, Profile};
 use std::alloc::Global;
 use std::test::Fail;
 
-/// What is done to a sending.
+/// What is done to a transmission.
 #[derive(Clone, Copy)]
 pub enum Move {
-    /// It is so many ticks later.
+    /// It is this number of ticks later.
     Later(u64),
-    /// It is so many ticks earlier.
+    /// It is this number of ticks earlier.
     Earlier(u64),
-    /// It ends so many ticks later.
+    /// It ends this number of ticks later.
     Longer(u64),
     /// The byte of its packet at this place is another one.
     Byte(usize, u8),
@@ -21,7 +21,7 @@ pub enum Move {
     By(u8),
 }
 
-/// A sending by its node, the frame of its start, and the slot and counter of its packet; what is done to it, and the
+/// A transmission by its node, the frame of its start, and the slot and counter of its packet; what is done to it, and the
 /// clause that this breaks.
 pub struct MovedEntry {
     pub frame: u64,
@@ -33,7 +33,7 @@ pub struct MovedEntry {
 }
 
 impl MovedEntry {
-    /// Whether the sending is the one that is moved.
+    /// Whether the transmission is the one that is moved.
     pub fn is(&self, p: &Profile, x: &SentEntry) -> bool {
         x.node.number() == self.node
             && x.packet.slot() == self.slot
@@ -42,7 +42,7 @@ impl MovedEntry {
     }
 }
 
-/// The same sending once more.
+/// The same transmission once more.
 pub fn copied(x: &SentEntry) -> SentEntry {
     SentEntry {
         rank: x.rank,
@@ -62,7 +62,7 @@ fn with_byte(packet: &Packet, place: usize, byte: u8) -> Option<Packet> {
     Packet::new(room)
 }
 
-/// The sending after the move.
+/// The transmission after the move.
 pub fn after(x: &SentEntry, done: Move) -> Option<SentEntry> {
     let mut moved = copied(x);
     match done {
@@ -81,7 +81,7 @@ pub fn after(x: &SentEntry, done: Move) -> Option<SentEntry> {
     Some(moved)
 }
 
-/// All sendings with the one that is moved as it is then, and how many were moved.
+/// All transmissions with the one that is moved as it is then, and how many were moved.
 pub fn moved(
     alloc: Global,
     p: &Profile,

@@ -37,7 +37,7 @@ pub fn scenario(alloc: Global, parts: &[&str]) -> Result<Scenario, Fail> {
     scenario_between(alloc, "", parts, "")
 }
 
-/// The same with a line before its text and lines behind it.
+/// The same with a line before its text and lines after it.
 pub fn scenario_between(
     alloc: Global,
     first: &str,

@@ -1,4 +1,4 @@
-//! Which sendings are safe, tried plainly on each pair of them.
+//! Which transmissions are safe, tried plainly on each pair of them.
 
 use air_log::{HeardEntry, SentEntry};
 use lwb_base::Profile;
@@ -9,18 +9,18 @@ use schedule_codec::{Schedule, read};
 /// What a log has to keep.
 #[derive(Clone, Copy, Debug, PartialEq, Eq)]
 pub enum Clause {
-    /// A sending ends before the next frame starts.
+    /// A transmission ends before the next frame starts.
     WithinOneFrame,
     /// Two that meet on a channel are of one frame, slot and counter.
     NoOverlap,
     /// Two of one channel, frame and slot have equal bytes but for the counter, unless both are requests; with one
     /// counter they start together.
     SameButForCounter,
-    /// One sending begins the flood of a slot, unless it is a request.
+    /// One transmission begins the flood of a slot, unless it is a request.
     OneInitiator,
     /// A schedule is begun by the host of its channel.
     HostSchedules,
-    /// Who begins another flood is the host of its channel, or has heard a schedule that allows it and stayed on.
+    /// Who begins another flood is the host of its channel, or has received a schedule that allows it and stayed on.
     Silence,
 }
 
@@ -34,7 +34,7 @@ impl Clause {
         Clause::Silence,
     ];
 
-    /// Whether each sending, and each pair of them, keeps it.
+    /// Whether each transmission, and each pair of them, keeps it.
     pub fn holds(self, s: &Scenario, sent: &[SentEntry], heard: &[HeardEntry]) -> bool {
         let p = s.profile();
         for (i, x) in sent.iter().enumerate() {

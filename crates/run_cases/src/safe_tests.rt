@@ -1,4 +1,4 @@
-//! Logs of worked scenarios are safe, and some that were changed by hand are not.
+//! Logs of worked scenarios are safe, and some that were changed manually are not.
 
 use crate::moves::{Move, MovedEntry, copied, moved};
 use crate::runs::{Speeds, scenario, world_after};

@@ -23,7 +23,7 @@ const FOUR_PUTS: &str = "put 0 2 0 aa\nput 0 2 0 aa\nput 0 2 0 aa\nput 0 2 0 aa\
 
 pub const TWO_CONTENDERS: &[&str] = &[BASE, THIRD_NODE, "frames 18\n", THREE_ON, TWO_STREAMS];
 
-/// The scenario of two nodes and one packet, but for the frames that stand first, and for what a case adds.
+/// The scenario of two nodes and one packet, but for the frames, which come first, and for what a case adds.
 pub const ONE_PACKET: &[&str] = &[BASE, TWO_ON, ONE_STREAM];
 
 pub const BACKUP_HOST: &[&str] = &[

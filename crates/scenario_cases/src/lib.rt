@@ -1,5 +1,5 @@
 //! Tests of the texts of floods and scenarios. A crate with tests is proved once without them and once with them, so the tests
-//! of a large crate stand by themselves.
+//! of a large crate are a crate of their own.
 #![tactic(auto)]
 
 #[cfg(test)]

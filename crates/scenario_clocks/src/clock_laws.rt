@@ -5,8 +5,8 @@ ghost use Rattle.scenario_text.specs.ScenarioGrammar.{IsScenario};
 ghost use Rattle.scenario_text.specs.ScenarioParts.{ScenarioParts};
 ghost use Rattle.scenario_clocks.specs.StatedClocks.{scenario_clock};
 
-/// The clocks that a scenario states keep the drift law, so what is proved of lawful logs over such clocks holds of the
-/// log of a run over them.
+/// The clocks that a scenario states keep the drift law, so what is proved of valid (`Lawful`) logs over such clocks holds of
+/// the log of a run over them.
 pub fn scenario_clocks_keep_the_drift_law()
     ensures { (s : ScenarioParts) → IsScenario s → (v : ℕ) → knows s.nodes v ≡ true → IsClock (scenario_clock s v) }
 {}

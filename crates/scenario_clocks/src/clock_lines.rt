@@ -14,7 +14,7 @@ use tick_clock::{ClockFault, SegmentClock};
 /// Ids of nodes are below this number.
 const IDS: usize = 201;
 
-/// The clocks that these lines of a text state, one for each node by ascending ids. Err is want of memory.
+/// The clocks that these lines of a text state, one for each node by ascending ids. `Err` means out of memory.
 pub fn stated_clocks(
     alloc: Global,
     nodes: &[NodeLine],

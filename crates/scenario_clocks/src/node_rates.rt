@@ -27,7 +27,7 @@ impl NodeRates {
         }
     }
 
-    /// Adds a rate behind those that are there. After `Memory` they are as they were.
+    /// Adds a rate after those that are there. After `Memory` they are as they were.
     pub fn push(&mut self, from: u64, ppm: i8) -> Result<(), Memory>
         ensures added { OnOk result (self.new ≡ self.old ++ (from, ppm) ∷ []) }
         ensures kept { OnErr result (self.new ≡ self.old) }

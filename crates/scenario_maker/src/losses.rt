@@ -7,7 +7,7 @@ use crate::draws::Draws;
 use link_trace::{LoseLine, Trace};
 use lwb_base::Memory;
 
-/// Loses random links in random steps, in each frame half as many as there are nodes.
+/// Loses random links in random steps, in each frame half the number of nodes.
 pub fn add_losses(
     trace: &mut Trace,
     draws: &mut Draws,

@@ -9,7 +9,7 @@ use lwb_base::{Memory, Payload};
 use scenario_text::{Act, ScriptLine};
 use std::alloc::Global;
 
-/// What the nodes are told, by frame.
+/// The script lines of the nodes, by frame.
 pub fn script(
     alloc: Global,
     draws: &mut Draws,

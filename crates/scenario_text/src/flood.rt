@@ -7,8 +7,8 @@ use crate::{FaultKind, FloodText, ParseFault};
 use std::alloc::Global;
 use text_readers::read_lines;
 
-/// Reads a flood text of fewer than 2^31 bytes. `Line` names the first line that is refused and why, or, with the
-/// number of lines plus 1, what is missing at the end.
+/// Reads a flood text of fewer than 2^31 bytes. `Line` names the first line that is rejected and why, or, with the number of
+/// lines plus 1, what is missing at the end.
 pub fn parse_flood(alloc: Global, bytes: &[u8]) -> Result<FloodText, ParseFault>
     requires { length bytes.now < 2 ^ 31 }
     ensures { Gives result (flood_of bytes.now) }

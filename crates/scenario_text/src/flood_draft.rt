@@ -84,7 +84,7 @@ impl FloodDraft {
         Ok(())
     }
 
-    /// What the text says. None comes exactly where sendings, a second node or the start is missing.
+    /// What the text says. Returns `None` if and only if the number of transmissions, a second node or the start is missing.
     pub fn finish(self, alloc: Global) -> Result<Option<FloodText>, Memory>
         requires { IsFlood self }
         ensures { IfOk result (λ f. f ≡ parts_of (network_parts self.network self.network.sends) self.start) }

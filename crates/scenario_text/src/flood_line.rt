@@ -6,7 +6,7 @@ use crate::FaultKind;
 use crate::network_line::NetworkLine;
 use text_readers::{is, one_number, three_numbers, word};
 
-/// A line of a flood text, with its numbers as they stand there.
+/// A line of a flood text, with its numbers as written.
 #[derive(Clone, Copy, Debug, PartialEq, Eq)]
 pub enum FloodLine {
     /// A line that scenarios have too.

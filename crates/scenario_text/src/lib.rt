@@ -1,4 +1,4 @@
-//! Texts of floods and scenarios: what they say, and the first line that is refused.
+//! Texts of floods and scenarios: what they say, and the first line that is rejected.
 #![tactic(auto)]
 
 mod flood;

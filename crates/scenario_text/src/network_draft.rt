@@ -18,7 +18,7 @@ use std::alloc::Global;
 use std::marker::Model;
 use text_readers::{Refusal, refuse_unless};
 
-/// What the lines that both texts have say so far. The rates stand in the order of the text.
+/// What the lines that both texts have say so far. The rates are in the order of the text.
 #[derive(Drop)]
 pub struct NetworkDraft {
     sends: Option<u8>,
@@ -50,7 +50,7 @@ impl NetworkDraft {
         }
     }
 
-    /// Goes on by one line, unless it is refused. No tick may be above the last tick.
+    /// Goes on by one line, unless it is rejected. No tick may be above the last tick.
     pub fn add(&mut self, last_tick: u64, line: NetworkLine) -> Result<(), Refusal>
         ensures fault { Refuses result (network_fault last_tick self.old line) }
         ensures added { OnOk result (self.new ≡ with_line self.old line) }
@@ -69,8 +69,8 @@ impl NetworkDraft {
         }
     }
 
-    /// What the lines say: how often a node sends, the nodes by id, their rates by node and tick, and the trace. None
-    /// comes exactly where sendings or a second node is missing.
+    /// What the lines say: how often a node sends, the nodes by id, their rates by node and tick, and the trace. Returns `None`
+    /// if and only if the number of transmissions or a second node is missing.
     pub fn finish(self, alloc: Global) -> Result<Option<Network>, Memory>
         requires { IsNetwork self }
         ensures { IfOk result (λ p. p ≡ network_parts self self.sends) }
@@ -141,7 +141,7 @@ impl NetworkDraft {
         Ok(self.count_script_line()?)
     }
 
-    /// Goes on by a script line that names the sender that a node hears in one step where several meet.
+    /// Goes on by a script line that names the sender from which a node receives in one step where several meet.
     pub fn capture(
         &mut self,
         frame: u32,

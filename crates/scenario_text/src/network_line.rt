@@ -7,7 +7,7 @@ ghost use Rattle.scenario_text.specs.declared.network_line.NetworkLine.TheVarian
 use crate::FaultKind;
 use text_readers::{is, number, one_number, signed_number, two_numbers, word};
 
-/// A line that both texts have, with its numbers as they stand there.
+/// A line that both texts have, with its numbers as written.
 #[derive(Clone, Copy, Debug, PartialEq, Eq)]
 pub enum NetworkLine {
     /// How often a node sends at most.
@@ -19,7 +19,7 @@ pub enum NetworkLine {
         id: u64,
         offset: u64,
     },
-    /// From that tick on the node's clock is so many millionths fast, or slow.
+    /// From that tick on the node's clock is this number of millionths fast, or slow.
     Rate {
         id: u64,
         tick: u64,

@@ -8,8 +8,8 @@ use crate::scenario_draft::ScenarioDraft;
 use std::alloc::Global;
 use text_readers::read_lines;
 
-/// Reads the text of a scenario of fewer than 2^31 bytes. `Line` names the first line that is refused and why, or, with
-/// the number of lines plus 1, what is missing or too big at the end.
+/// Reads the text of a scenario of fewer than 2^31 bytes. `Line` names the first line that is rejected and why, or, with the
+/// number of lines plus 1, what is missing or too big at the end.
 pub fn parse(alloc: Global, bytes: &[u8]) -> Result<Scenario, ParseFault>
     requires { length bytes.now < 2 ^ 31 }
     ensures { Gives result (scenario_of bytes.now) }

@@ -6,7 +6,7 @@ use crate::{NodeLine, RateLine};
 use lwb_base::{Memory, NodeId};
 use std::alloc::Global;
 
-/// The rates of each node in turn, each node's in the order in which they stand here.
+/// The rates of each node in turn, each node's in the order in which they are here.
 pub fn by_node(
     alloc: Global,
     nodes: &[NodeLine],
@@ -48,7 +48,7 @@ pub fn is_later(rates: &[RateLine], node: NodeId, tick: u64) -> bool
     }
 }
 
-/// A rate of so many millionths, fast or slow.
+/// A rate of this number of millionths, fast or slow.
 pub fn ppm(slow: bool, parts: u8) -> i8
     requires { parts ≤ 20 }
     ensures { result ≡ ppm_of slow parts }

@@ -203,7 +203,7 @@ impl Scenario {
         &self.trace
     }
 
-    /// What the nodes are told to do, by frame, in the order of the text.
+    /// What the nodes have to do, by frame, in the order of the text.
     pub fn script(&self) -> &[ScriptLine]
         ensures value { result.now ≡ self.now.script }
         ensures said { IsScenario self.now }

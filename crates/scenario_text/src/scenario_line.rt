@@ -12,7 +12,7 @@ use text_readers::{
     word,
 };
 
-/// A line of a scenario, with its numbers as they stand there.
+/// A line of a scenario, with its numbers as written.
 #[derive(Drop)]
 pub enum ScenarioLine {
     /// A line that flood texts have too.
@@ -44,7 +44,7 @@ pub enum ScenarioLine {
         frame: u64,
         id: u64,
     },
-    /// From the frame on the node's stream has an interval of so many seconds.
+    /// From the frame on the node's stream has an interval of this number of seconds.
     Stream {
         frame: u64,
         id: u64,
@@ -79,7 +79,7 @@ pub enum ScenarioLine {
         step: u64,
         id: u64,
     },
-    /// The sender that the node hears in that step where several meet.
+    /// The sender from which the node receives in that step where several meet.
     Capture {
         frame: u64,
         slot: u64,

@@ -1,13 +1,13 @@
 use lwb_base::{NodeId, Payload};
 
-/// What a node is told to do.
+/// What a node has to do.
 #[derive(Drop)]
 pub enum Act {
     /// It boots, unless it is on already. A node boots at most 200 times.
     On,
     /// It is powered off.
     Off,
-    /// From now on the stream, 0 to 3, has an interval of so many seconds, 1 to 120.
+    /// From now on the stream, 0 to 3, has an interval of this number of seconds, 1 to 120.
     Declare(u8, u8),
     /// The stream, 0 to 3, ends.
     Leave(u8),
@@ -16,13 +16,13 @@ pub enum Act {
     Put(u8, Payload),
 }
 
-/// At the start of that frame the node is told to do this.
+/// At the start of that frame the node has to do this.
 #[derive(Drop)]
 pub struct ScriptLine {
     /// The frame, 0 to 4,095 and below the number of frames.
     pub frame: u32,
     /// The node, 1 to 200.
     pub node: NodeId,
-    /// What it is told.
+    /// What it has to do.
     pub act: Act,
 }

@@ -42,8 +42,8 @@ pub struct Acknowledged {
     pub acks: Acks,
 }
 
-/// The acknowledgements that these bytes spell in a schedule that begins with this byte. None exactly where they spell
-/// none.
+/// The acknowledgements that these bytes spell in a schedule that begins with this byte. Returns `None` if and only if they
+/// spell none.
 pub fn read_acks(kind: u8, bytes: &[u8]) -> Option<Acknowledged>
     ensures some { IfSome result (λ r. SpellsAcks kind bytes.now r.contend r.acks) }
     ensures all { (contend : ℕ) (acks : List Ask) → SpellsAcks kind bytes.now contend acks

@@ -97,7 +97,7 @@ impl Acks {
         }
     }
 
-    /// Adds one at the end. False, and nothing changes, exactly where 4 are there or its code is not above the last.
+    /// Adds one at the end. Returns `false`, and nothing changes, if and only if 4 are there or its code is not above the last.
     pub fn add(&mut self, a: Ack) -> bool
         ensures answer { result ≡ takes_ack self.old a }
         ensures list { self.new ≡ (if result then self.old ++ a ∷ [] else self.old) }
@@ -109,7 +109,7 @@ impl Acks {
         true
     }
 
-    /// The acknowledgement at this place, counted from 0. None exactly where it is not below the count.
+    /// The acknowledgement at this place, counted from 0. Returns `None` if and only if it is not below the count.
     pub fn at(&self, i: usize) -> Option<Ack>
         ensures { result ≡ slice_get self.now i }
     {

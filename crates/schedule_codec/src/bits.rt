@@ -37,7 +37,7 @@ impl BitWriter {
         }
     }
 
-    /// Writes a number of so many bits, at most 10. There is room for 392 bits in all.
+    /// Writes a number of `width` bits, at most 10. There is room for 392 bits in all.
     pub fn push(&mut self, value: u16, width: u8)
         requires narrow { width ≤ 10 }
         requires value { value < 2 ^ width }
@@ -102,7 +102,7 @@ impl<'a> BitReader<'a> {
         }
     }
 
-    /// Reads a number of so many bits, at most 10 and no more than are left.
+    /// Reads a number of `width` bits, at most 10 and no more than are left.
     pub fn take(&mut self, width: u8) -> u16
         requires narrow { width ≤ 10 }
         requires left { width ≤ self.old.count }

@@ -8,7 +8,7 @@ use crate::owner_bytes::read_owners;
 use crate::{Owners, Schedule};
 use lwb_base::{Packet, Rank, greatest_slot};
 
-/// The schedule that these bytes spell, in any slot and with any counter. None exactly where they spell none.
+/// The schedule that these bytes spell, in any slot and with any counter. Returns `None` if and only if they spell none.
 pub fn read(p: &Packet) -> Option<Schedule>
     ensures value { result ≡ schedule_of p.now }
     ensures some { IfSome result (λ s. spells p.now s ≡ true) }

@@ -8,8 +8,8 @@ use crate::owner_bytes::write_owners;
 use arrayvec::ArrayVec;
 use lwb_base::Packet;
 
-/// The one spelling of a schedule in this slot, with counter 0: 10 to 74 bytes. The slot is 0 for an opening, and 2 to 42
-/// for a closing, or 2 to 45 where the number of contention slots is named.
+/// The one spelling of a schedule in this slot, with counter 0: 10 to 74 bytes. The slot is 0 for an opening schedule, and 2 to
+/// 42 for a closing schedule, or 2 to 45 where the number of contention slots is named.
 pub fn write(s: &Schedule, slot: u8) -> Packet
     requires { IsWritable s.now slot }
     ensures value { result ≡ spelling s.now slot 0 }

@@ -43,7 +43,7 @@ fn write_codes(first: u16, rest: &[u16]) -> ArrayVec<u8, 51>
     bytes
 }
 
-/// The owners that these bytes spell, from the count on. None exactly where they spell none.
+/// The owners that these bytes spell, from the count on. Returns `None` if and only if they spell none.
 pub fn read_owners(bytes: &[u8]) -> Option<Owners>
     ensures some { IfSome result (λ cs. (are_owners cs ≡ true) × (owners_bytes cs ≡ bytes.now)) }
     ensures all { (cs : List ℕ) → are_owners cs ≡ true → owners_bytes cs ≡ bytes.now → result ≡ Some cs }

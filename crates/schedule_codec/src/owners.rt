@@ -6,8 +6,8 @@ use arrayvec::ArrayVec;
 use lwb_base::Owner;
 use std::marker::Model;
 
-/// The owners of the data slots of a round, at most 40 in ascending order; one may stand there more than once.
-/// Contracts see the list of their codes.
+/// The owners of the data slots of a round, at most 40 in ascending order; one may be there more than once. Contracts see the
+/// list of their codes.
 #[derive(Drop)]
 pub struct Owners {
     codes: ArrayVec<u16, 40>,
@@ -34,7 +34,7 @@ impl Owners {
         }
     }
 
-    /// Adds an owner at the end. False, and nothing changes, exactly where 40 are there or it is below the last.
+    /// Adds an owner at the end. Returns `false`, and nothing changes, if and only if 40 are there or it is below the last.
     pub fn add(&mut self, owner: Owner) -> bool
         ensures answer { result ≡ takes_owner self.old owner }
         ensures list { self.new ≡ (if result then self.old ++ owner ∷ [] else self.old) }
@@ -47,7 +47,7 @@ impl Owners {
         true
     }
 
-    /// The owner at this place, counted from 0. None exactly where it is not below the count.
+    /// The owner at this place, counted from 0. Returns `None` if and only if it is not below the count.
     pub fn at(&self, i: usize) -> Option<Owner>
         ensures { result ≡ slice_get self.now i }
     {

@@ -4,7 +4,7 @@ ghost use Rattle.schedule_codec.specs.Packing.{fit, packed, Packs};
 use crate::bits::{BitReader, BitWriter};
 use arrayvec::ArrayVec;
 
-/// Numbers of so many bits each, the highest bit first, without gaps and filled up with zero bits to a whole byte.
+/// Numbers of `width` bits each, the highest bit first, without gaps and filled up with zero bits to a whole byte.
 pub fn pack(numbers: &[u16], width: u8) -> ArrayVec<u8, 49>
     requires few { length numbers.now ≤ 39 }
     requires narrow { width ≤ 10 }
@@ -18,7 +18,7 @@ pub fn pack(numbers: &[u16], width: u8) -> ArrayVec<u8, 49>
     bits.finish()
 }
 
-/// The numbers of so many bits each that were packed into these bytes. None exactly where no such numbers were.
+/// The numbers of `width` bits each that were packed into these bytes. Returns `None` if and only if no such numbers were.
 pub fn unpack(bytes: &[u8], width: u8, count: u8) -> Option<ArrayVec<u16, 39>>
     requires few { count ≤ 39 }
     requires narrow { width ≤ 10 }

@@ -1,4 +1,4 @@
-//! The streams of a node: what it wishes, what is agreed with the host, and the packets that wait.
+//! The streams of a node: what it requests, what the host has granted, and the packets that wait.
 #![tactic(auto)]
 
 mod stream;

@@ -13,7 +13,7 @@ use std::marker::Model;
 // The most tries that are counted.
 const TRIES: u8 = 4;
 
-/// The four streams of a node, 0 to 3, with what it keeps for contention and of the host that it last heard.
+/// The four streams of a node, 0 to 3, with what it keeps for contention and of the host that it last received.
 #[derive(Drop)]
 pub struct Streams {
     streams: [Stream; 4],
@@ -61,7 +61,7 @@ impl Streams {
         self.host = None;
     }
 
-    /// Sets the interval that a stream, 0 to 3, wishes: 1 to 120 seconds.
+    /// Sets the interval that a stream, 0 to 3, requests: 1 to 120 seconds.
     pub fn declare(&mut self, stream: u8, interval: u8)
         requires stream { stream ≤ 3 }
         requires interval { (1 ≤ interval) × (interval ≤ 120) }
@@ -70,7 +70,7 @@ impl Streams {
         self.streams[usize::from(stream)].set_wish(interval);
     }
 
-    /// The stream wishes nothing more, and what waits in it is gone.
+    /// The stream requests nothing more, and what waits in it is gone.
     pub fn leave(&mut self, stream: u8)
         requires { stream ≤ 3 }
         ensures { self.new ≡ rule.left stream self.old }
@@ -78,7 +78,7 @@ impl Streams {
         self.streams[usize::from(stream)].leave();
     }
 
-    /// Puts a packet at the end of the stream's queue. `Dropped`, and nothing changes, exactly where the stream wishes
+    /// Puts a packet at the end of the stream's queue. Returns `Dropped`, and nothing changes, if and only if the stream requests
     /// nothing, 16 packets wait in it, or its 65,535 numbers are used.
     pub fn put(&mut self, stream: u8, payload: &Payload) -> Put
         requires { stream ≤ 3 }
@@ -88,7 +88,7 @@ impl Streams {
         self.streams[usize::from(stream)].put(payload)
     }
 
-    /// Takes the packet that waits longest in a stream, 0 to 3. None exactly where none waits.
+    /// Takes the packet that waits longest in a stream, 0 to 3. Returns `None` if and only if none waits.
     pub fn take(&mut self, stream: u8) -> Option<Waiting>
         requires { stream ≤ 3 }
         ensures answer { result ≡ rule.first_waiting self.old stream }
@@ -97,7 +97,8 @@ impl Streams {
         self.streams[usize::from(stream)].take()
     }
 
-    /// The interval that a stream wishes, in seconds and 0 for none, where a request of it is due. None exactly where none is.
+    /// The interval that a stream requests, in seconds and 0 for none, where a request of it is due. Returns `None` if and only
+    /// if none is.
     pub fn due_of(&self, stream: u8) -> Option<u8>
         requires { stream ≤ 3 }
         ensures value { result ≡ rule.due_of self.now stream }
@@ -111,7 +112,7 @@ impl Streams {
         }
     }
 
-    /// The least stream of which a request is due, with its wish. None exactly where none is due.
+    /// The least stream of which a request is due, with its requested interval. Returns `None` if and only if none is due.
     pub fn due(&self) -> Option<(u8, u8)>
         ensures least { result ≡ option_map (rule.with_wish self.now) (rule.due self.now) }
         ensures range { IfSome result (λ r. (r.0 ≤ 3) × (r.1 ≤ 120)) }
@@ -132,8 +133,8 @@ impl Streams {
         self.tries
     }
 
-    /// The node's own contention slot begins. The request that it sends, as a stream with its wish. None exactly where
-    /// none is due or slots are still to be skipped; then one skip less is left.
+    /// The node's own contention slot begins. Returns the request that it sends, as a stream with its requested interval.
+    /// Returns `None` if and only if none is due or slots are still to be skipped; then one skip less is left.
     pub fn request_now(&mut self, node: NodeId) -> Option<(u8, u8)>
         ensures answer { result ≡ option_map (rule.with_wish self.old) (rule.requested self.old) }
         ensures range { IfSome result (λ r. (r.0 ≤ 3) × (r.1 ≤ 120)) }

@@ -6,9 +6,9 @@ ghost use Rattle.stream_table.specs.CodeOrder.{Ascends, IsAt, IsGap, is_below, p
 
 use arrayvec::ArrayVec;
 
-/// What stands in a list by its code.
+/// An item of a list that is ordered by code.
 pub trait Coded: Drop {
-    /// The code by which it stands, a number of 16 bits.
+    /// The code by which it is ordered, a number of 16 bits.
     ghost code_of: { Self → ℕ };
 
     /// Its code.
@@ -21,14 +21,14 @@ pub trait Coded: Drop {
 pub enum Placement {
     /// It is new.
     Added,
-    /// It stands instead of the old one of its code.
+    /// It replaces the old one of its code.
     Replaced,
     /// The list is full of others, and nothing changed.
     Full,
 }
 
-/// The place of the item with this code, counted from 0. `Err` exactly where there is none, with the place at which it
-/// would stand.
+/// The place of the item with this code, counted from 0. Returns `Err` if and only if there is none, with the place at which it
+/// would be.
 pub fn search<T: Coded>(list: &[T], code: u16) -> Result<usize, usize>
     requires { Ascends T.code_of list.now }
     ensures found { IfOk result (IsAt T.code_of list.now code) }
@@ -61,8 +61,8 @@ fn place_of<T: Coded>(list: &[T], code: u16) -> usize
     low
 }
 
-/// Puts an item in its place by code, instead of the one that has its code, if there is one. `Full`, and nothing changes,
-/// exactly where there is none and the list is full.
+/// Puts an item in its place by code, instead of the one that has its code, if there is one. Returns `Full`, and nothing
+/// changes, if and only if there is none and the list is full.
 pub fn put<T: Coded, const N: usize>(list: &mut ArrayVec<T, N>, item: T) -> Placement
     requires { Ascends T.code_of list.old.items }
     ensures answer { result ≡ put_answer T.code_of N list.old.items (T.code_of item) }

@@ -70,7 +70,7 @@ impl Table {
         self.place = code;
     }
 
-    /// The owner at this place by ascending code, counted from 0. None exactly where there are no more.
+    /// The owner at this place by ascending code, counted from 0. Returns `None` if and only if there are no more.
     pub fn owner_at(&self, i: usize) -> Option<Owner>
         ensures { result ≡ slice_get (map rule.code_in self.now.entries) i }
     {
@@ -78,8 +78,8 @@ impl Table {
         Some(entry.owner())
     }
 
-    /// What a stream asks for in a request, put to the table in this frame. `Removed` exactly where its interval is 0,
-    /// and `Full` exactly where it is not, the stream is not there and 32 others are.
+    /// What a stream asks for in a request, put to the table in this frame. Returns `Removed` if and only if its interval is 0,
+    /// and `Full` if and only if it is not, the stream is not there and 32 others are.
     pub fn request(&mut self, ask: &Request, frame: u32) -> Answer
         requires { InRange ask.now }
         ensures answer { result ≡ answer_to (ask_of ask.now) self.old }
@@ -98,7 +98,7 @@ impl Table {
         }
     }
 
-    /// Removes the entry of this owner. False exactly where there is none.
+    /// Removes the entry of this owner. Returns `false` if and only if there is none.
     pub fn leave(&mut self, owner: Owner) -> bool
         ensures answer { result ≡ is_some (rule.entry_of self.old.entries owner) }
         ensures after { self.new ≡ rule.removed owner self.old }
@@ -113,7 +113,7 @@ impl Table {
         places::hear(&mut self.entries, owner.code());
     }
 
-    /// It did neither. True exactly where this was the sixteenth time in a row, and the entry is gone.
+    /// It did neither. Returns `true` if and only if this was the sixteenth time in a row, and the entry is gone.
     pub fn unheard(&mut self, owner: Owner) -> bool
         ensures answer { result ≡ rule.goes owner self.old }
         ensures after { self.new ≡ rule.unheard_owner owner self.old }

@@ -7,8 +7,8 @@ use lwb_base::Memory;
 use std::alloc::AllocFailed;
 use std::fmt;
 
-/// Why a line of a text is refused. Where several hold of a line, the first of this list is named. Its text is the
-/// name of the variant.
+/// Why a line of a text is rejected. Where several hold of a line, the first of this list is named. Its text is the name of the
+/// variant.
 #[derive(Clone, Copy, Debug, PartialEq, Eq)]
 pub enum FaultKind {
     /// The line is not UTF-8.
@@ -23,8 +23,8 @@ pub enum FaultKind {
     Range,
     /// No line above has the node.
     UnknownNode,
-    /// The line may not stand here: `profile` or `contend` is not at the top, frames are not given yet, a rate is not
-    /// later than the one before, a host's rank leaves one out, or the frame is below that of the script so far.
+    /// The line is not allowed here: `profile` or `contend` is not at the top, frames are not given yet, a rate is not later
+    /// than the one before, a host's rank leaves one out, or the frame is below that of the script so far.
     Order,
     /// A line above says this already.
     Twice,
@@ -59,14 +59,14 @@ impl fmt::Display for FaultKind {
 /// Why a text is not read.
 #[derive(Clone, Copy, Debug, PartialEq, Eq)]
 pub enum ParseFault {
-    /// The first line that is refused, counted from 1, and why. What is missed at the end of the text is missed in
-    /// the line after the last.
+    /// The first line that is rejected, counted from 1, and why. What is missed at the end of the text is missed in the line
+    /// after the last.
     Line(u32, FaultKind),
     /// There was too little memory. It comes at no other time, and says nothing of the text.
     Memory,
 }
 
-/// Why a draft doesn't go on by a line: the fault of the line, or want of memory.
+/// Why a draft doesn't go on by a line: the fault of the line, or out of memory.
 #[derive(Clone, Copy, Debug, PartialEq, Eq)]
 pub enum Refusal {
     /// The line has this fault.
@@ -100,7 +100,7 @@ impl<T: Drop> From<AllocFailed<T>> for Refusal {
 }
 
 impl Refusal {
-    /// The answer to a text whose line of that number is refused.
+    /// The answer to a text whose line of that number is rejected.
     pub fn in_line(self, line: u32) -> ParseFault
         ensures { result ≡ at_line line self }
     {

@@ -1,4 +1,4 @@
-//! Texts that are read line by line: their words and numbers, and the first line that is refused.
+//! Texts that are read line by line: their words and numbers, and the first line that is rejected.
 #![tactic(auto)]
 
 mod draft;

@@ -59,7 +59,7 @@ fn magnitude(word: &[u8]) -> &[u8]
     if has_minus(word) { &word[1..] } else { word }
 }
 
-/// Whether the word has a `-`, and the number behind that, which is not 0 then. `BadNumber` where it is no such word.
+/// Whether the word has a `-`, and the number after that, which is not 0 then. `BadNumber` where it is no such word.
 pub fn signed_number(word: &[u8]) -> Result<(bool, u64), FaultKind>
     ensures { result ≡ (if is_signed_of word.now then Ok (has_minus_of word.now, number_of (magnitude_of word.now)) else Err BadNumber) }
 {
@@ -69,8 +69,7 @@ pub fn signed_number(word: &[u8]) -> Result<(bool, u64), FaultKind>
     Ok((minus, size))
 }
 
-/// The number behind the first word. `BadWord` unless it is the only word there, and else `BadNumber` where it is
-/// misspelled.
+/// The number after the first word. `BadWord` unless it is the only word there, and else `BadNumber` where it is misspelled.
 pub fn one_number(words: &[&[u8]]) -> Result<u64, FaultKind>
     ensures { let ws = map (λ w. w.now) words.now in
         result ≡ spelled (counted 2 ws (number_at ws 1)) (λ _. list_all is_number_of (drop 1 ws)) }
@@ -81,7 +80,7 @@ pub fn one_number(words: &[&[u8]]) -> Result<u64, FaultKind>
     number(a)
 }
 
-/// The two numbers behind the first word, with the faults of `one_number`.
+/// The two numbers after the first word, with the faults of `one_number`.
 pub fn two_numbers(words: &[&[u8]]) -> Result<(u64, u64), FaultKind>
     ensures { let ws = map (λ w. w.now) words.now in
         result ≡ spelled (counted 3 ws (number_at ws 1, number_at ws 2)) (λ _. list_all is_number_of (drop 1 ws)) }
@@ -92,7 +91,7 @@ pub fn two_numbers(words: &[&[u8]]) -> Result<(u64, u64), FaultKind>
     Ok((number(a)?, number(b)?))
 }
 
-/// The three numbers behind the first word, with the faults of `one_number`.
+/// The three numbers after the first word, with the faults of `one_number`.
 pub fn three_numbers(words: &[&[u8]]) -> Result<(u64, u64, u64), FaultKind>
     ensures { let ws = map (λ w. w.now) words.now in
         result ≡ spelled (counted 4 ws (number_at ws 1, number_at ws 2, number_at ws 3)) (λ _. list_all is_number_of (drop 1 ws)) }
@@ -103,7 +102,7 @@ pub fn three_numbers(words: &[&[u8]]) -> Result<(u64, u64, u64), FaultKind>
     Ok((number(a)?, number(b)?, number(c)?))
 }
 
-/// The four numbers behind the first word, with the faults of `one_number`.
+/// The four numbers after the first word, with the faults of `one_number`.
 pub fn four_numbers(words: &[&[u8]]) -> Result<(u64, u64, u64, u64), FaultKind>
     ensures { let ws = map (λ w. w.now) words.now in
         result ≡ spelled (counted 5 ws (number_at ws 1, number_at ws 2, number_at ws 3, number_at ws 4)) (λ _. list_all is_number_of (drop 1 ws)) }
@@ -114,7 +113,7 @@ pub fn four_numbers(words: &[&[u8]]) -> Result<(u64, u64, u64, u64), FaultKind>
     Ok((number(a)?, number(b)?, number(c)?, number(d)?))
 }
 
-/// The five numbers behind the first word, with the faults of `one_number`.
+/// The five numbers after the first word, with the faults of `one_number`.
 pub fn five_numbers(words: &[&[u8]]) -> Result<(u64, u64, u64, u64, u64), FaultKind>
     ensures { let ws = map (λ w. w.now) words.now in
         result ≡ spelled (counted 6 ws (number_at ws 1, number_at ws 2, number_at ws 3, number_at ws 4, number_at ws 5))

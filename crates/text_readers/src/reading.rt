@@ -9,8 +9,8 @@ use crate::words::{first_line, is_skipped, is_text, words};
 use crate::{FaultKind, ParseFault};
 use std::alloc::Global;
 
-/// Goes on from a draft by all lines of a text of fewer than 2^31 bytes. The draft behind them comes with their number,
-/// and `Line` names the first line that is refused and why.
+/// Goes on from a draft by all lines of a text of fewer than 2^31 bytes. The draft after them comes with their number, and
+/// `Line` names the first line that is rejected and why.
 pub fn read_lines<D: Draft>(alloc: Global, draft: D, bytes: &[u8]) -> Result<(D, u32), ParseFault>
     requires { length bytes.now < 2 ^ 31 }
     ensures draft { Drafts result (after_lines (after_line D.after) 1 draft (lines bytes.now)) }

@@ -6,7 +6,7 @@ use crate::numbers::write_numbers;
 use itoa::Integer;
 use std::alloc::AllocError;
 
-/// Writes a word and numbers behind it, with one space between each two of them.
+/// Writes a word and numbers after it, with one space between each two of them.
 pub fn write_words<I: Integer>(
     text: &mut String,
     word: &str,

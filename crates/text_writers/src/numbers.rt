@@ -12,7 +12,7 @@ pub fn write_number<I: Integer>(text: &mut String, number: I) -> Result<(), Allo
     text.push_str(digits.format(number))
 }
 
-/// Writes numbers, each behind a space.
+/// Writes numbers, each after a space.
 pub fn write_numbers<I: Integer>(text: &mut String, numbers: &[I]) -> Result<(), AllocError>
     ensures { OnOk result (string_bytes text.new ≡ string_bytes text.old ++ flat_map (λ n. 32 ∷ I.text n) numbers.now) }
 {

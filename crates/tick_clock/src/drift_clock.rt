@@ -22,10 +22,10 @@ pub trait DriftClock: Drop {
     ghost keeps_drift_law: { (c : Self) → IsClock (readings c) };
 }
 
-/// The turnaround, 192 µs in ticks: from the end of a hearing to the start of its relay.
+/// The turnaround, 192 µs in ticks: from the end of a reception to the start of its relay.
 const TURN: u64 = 12_288;
 
-/// The tick at which a relay starts whose hearing ended at the tick `end`: a turnaround later by this clock.
+/// The tick at which a relay starts whose reception ended at the tick `end`: a turnaround later by this clock.
 pub fn turn_bounds<C: DriftClock>(clock: &C, end: u64) -> u64
     requires { end ≤ 2 ^ 45 }
     ensures value { result ≡ due_tick (C.readings clock.now) (C.readings clock.now end + 12288) }

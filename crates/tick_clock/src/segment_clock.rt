@@ -30,7 +30,7 @@ pub enum ClockFault {
     Rate(usize),
     /// Where each rate is within -20 to 20, the first entry whose start is not above the one before.
     Order(usize),
-    /// Want of memory.
+    /// Out of memory.
     Memory,
 }
 

@@ -9,26 +9,26 @@ ghost use Rattle.time_reference.specs.Floods.{Overlap, Relayed};
 ghost use Rattle.time_reference.specs.Reference.{heard_zero};
 ghost use Rattle.time_reference.specs.Zeros.{starting, point, round_drift, started, Ref};
 
-/// A relay starts a turnaround after the end of the hearing, but for one tick.
+/// A relay starts a turnaround after the end of the reception, but for one tick.
 pub fn turnaround()
     ensures { (own : ℕ → ℕ) (turn e : ℕ) → IsClock own → 2 ≤ turn → turn ≤ 49998 → e ≤ 2 ^ 45
         → Near (due own (own e + turn)) (e + turn) 1 }
 {}
 
-/// A sending with counter k starts within k ticks of k steps after its initiator's start.
+/// A transmission with counter k starts within k ticks of k steps after its initiator's start.
 pub fn steps_follow()
     ensures { (p : Numbers) (n k s next origin : ℕ) → Near s (origin + k * step p n) k
         → Near next (s + airtime p n + p.turn) 1 → Near next (origin + (k + 1) * step p n) (k + 1) }
 {}
 
-/// Two sendings of one step and origin start within the greatest displacement.
+/// Two transmissions of one step and origin start within the greatest displacement.
 pub fn one_step_starts_together()
     ensures { (p : Numbers) (b : Budget) → Fits p b → (n k s t origin : ℕ) → k ≤ 11
         → Near s (origin + k * step p n) k → Near t (origin + k * step p n) k
         → Near s t (2 * k) × (2 * k ≤ p.delta) }
 {}
 
-/// A sending ends within the span of twelve steps and 11 ticks, and starts no earlier than its initiator.
+/// A transmission ends within the span of twelve steps and 11 ticks, and starts no earlier than its initiator.
 pub fn flood_ends()
     ensures { (p : Numbers) (n k s origin : ℕ) → 1 ≤ step p n → k ≤ 11 → Near s (origin + k * step p n) k
         → (s + airtime p n ≤ origin + span p n + 11) × (origin ≤ s) }
@@ -64,8 +64,8 @@ pub fn heard_zeros_err_little()
         × Near (heard_zero p start k n j + j * p.slot + p.listen) (own origin) bound }
 {}
 
-/// A schedule that the host of the round starts, and whose length allows an error of at most 55 ticks, gives a
-/// reference to whoever hears it.
+/// A schedule that the host of the round starts, and whose length allows an error of at most 55 ticks, gives a reference to
+/// whoever receives it.
 pub fn heard_schedules_give_zeros()
     ensures { (p : Numbers) (b : Budget) → Fits p b → (host own : ℕ → ℕ) (c j n k s start : ℕ) → IsClock host
         → IsClock own → 1 ≤ c → c ≤ 4095 → j ≤ b.last → k ≤ 11 → Near s (started p host c j + k * step p n) k
@@ -74,13 +74,13 @@ pub fn heard_schedules_give_zeros()
         × Ref p b host own (heard_zero p start k n j) c c j }
 {}
 
-/// A sending of an earlier step ends before one of a later step starts, also of another initiator.
+/// A transmission of an earlier step ends before one of a later step starts, also of another initiator.
 pub fn steps_are_apart()
     ensures { (p : Numbers) (n i k q x y origin other : ℕ) → q + 23 < p.turn → i < k → k ≤ 11 → Near origin other q
         → Near x (origin + i * step p n) i → Near y (other + k * step p n) k → x + airtime p n < y }
 {}
 
-/// Sendings of one step overlap, also of different initiators.
+/// Transmissions of one step overlap, also of different initiators.
 pub fn one_step_overlaps()
     ensures { (p : Numbers) (n k q x y origin other : ℕ) → q + 22 < airtime p n → k ≤ 11 → Near origin other q
         → Near x (origin + k * step p n) k → Near y (other + k * step p n) k

@@ -8,8 +8,8 @@ use std::marker::Model;
 
 /// When the slots of a round begin, by a node's own clock.
 ///
-/// Times are local ticks of 1/64 µs. Every zero and every start of a slot stops at 2^47 - 1. Contracts see the zero
-/// beside the lengths of a slot and of a frame.
+/// Times are local ticks of 1/64 µs. Every zero and every start of a slot stops at 2^47 - 1. Contracts see the zero next to the
+/// lengths of a slot and of a frame.
 #[derive(Clone, Copy, Debug, PartialEq, Eq)]
 pub struct Reference {
     zero: u64,
@@ -42,8 +42,8 @@ pub fn stopped(time: u64) -> u64
 }
 
 impl Reference {
-    /// From a schedule of a slot that was heard with this counter and length. Its start is the local time at which the
-    /// hearing ended, less the packet's airtime. The zero is not below 0.
+    /// From a schedule of a slot that was received with this counter and length. Its start is the local time at which the
+    /// reception ended, less the packet's airtime. The zero is not below 0.
     ///
     /// Where the schedule was relayed `counter` times, it errs by at most 48 ticks against the clock's own reading at
     /// the initiator's start if it has at most 61 bytes, and by at most 55 if it has at most 74.
@@ -124,7 +124,7 @@ impl Reference {
         stopped(self.zero + u64::from(slot) * self.slot)
     }
 
-    /// The reference for the round that is so many frames later.
+    /// The reference for the round that is `gap` frames later.
     pub fn next_round(&self, gap: u8) -> Reference
         ensures { result ≡ record self.now { zero = stopped (self.now.zero + gap * self.now.frame) } }
     {

@@ -157,7 +157,7 @@ pub fn lateness_is_bounded()
         → own (point own y p.close) + p.slot ≤ z + opening p 1 + p.close + apart b + 3 + drift (apart b) }
 {}
 
-/// A schedule that is heard gives a reference for its frame, and for the frames up to four later.
+/// A received schedule gives a reference for its frame, and for the frames up to four later.
 pub fn heard_schedules_give_references()
     ensures now { (p : Numbers) (b : Budget) → Fits p b → (host own : ℕ → ℕ) (z c j y : ℕ) → 1 ≤ c → c ≤ 4095
         → j ≤ b.last → Near y (own (started p host c j)) 55 → y ≡ z + j * p.slot + p.listen

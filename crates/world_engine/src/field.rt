@@ -1,4 +1,4 @@
-//! The devices of a run on the air that they share: what is told to one of them, and what it orders.
+//! The devices of a run on the medium that they share: which events one of them receives, and what it orders.
 
 ghost use Rattle.std.specs.Prelude.{◌≡◌, ◌≤◌, ◌<◌, ◌^◌, ℕ, List, [], ◌++◌, true, false, Option, Some, None};
 ghost use Rattle.std.specs.Prelude.{OnOk, IfOk, length, option_to_list, All, fold, option_copied};

@@ -1,4 +1,4 @@
-//! The ends of sendings in a run, with those who hear them.
+//! The ends of transmissions in a run, with those who receive them.
 
 ghost use Rattle.std.specs.Prelude.{◌≡◌, ◌≤◌, ◌<◌, ◌^◌, ℕ, List, [], ◌∷◌, OnOk, length, map, All, AllPairs, Contains};
 ghost use Rattle.lwb_base.specs.declared.event.Event.TheVariants.{Heard as HeardOf};

@@ -1,4 +1,4 @@
-//! The lines of a scenario that its script is of: nodes that are switched on and off, and what they are told.
+//! The script lines of a scenario: which nodes are powered on and off, and what they have to do.
 
 ghost use Rattle.std.specs.Prelude.{◌≡◌, ◌&&◌, ◌||◌, [], ◌∷◌, true, IfOk, OnOk, nat_lt, nat_le};
 ghost use Rattle.std.specs.Option.{option_map_or};
