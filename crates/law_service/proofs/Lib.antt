@@ -18,6 +18,7 @@ mod DeliveredData
 mod TiedNodes
 mod Collisions
 mod WorkedReach
+mod MetPremises
 mod WorkedSchedules
 mod WorkedRequests
 mod WorkedGrants
