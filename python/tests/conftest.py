@@ -1,6 +1,7 @@
 """What all tests share: the program, and programs that are broken.
 
-The program is that of the environment variable FOLDCAIRN, or the one that the repository has built.
+The program is that of the environment variable FOLDCAIRN, else the one that the repository has built, else the one that it has
+stored.
 """
 
 from __future__ import annotations
@@ -16,11 +17,12 @@ from hypothesis import HealthCheck, settings
 REPOSITORY = Path(__file__).resolve().parents[2]
 EXAMPLES = REPOSITORY / "examples"
 
-_built = REPOSITORY / "crates" / "foldcairn" / "out" / "foldcairn"
+_PROGRAMS = [REPOSITORY / "crates" / "foldcairn" / "out" / "foldcairn", REPOSITORY / "bin" / "foldcairn-x86_64-linux"]
 if not os.environ.get("FOLDCAIRN"):
-    if not _built.is_file():
-        pytest.exit("the program is not built: run ./foldcairn once, or set the environment variable FOLDCAIRN to a program", 2)
-    os.environ["FOLDCAIRN"] = str(_built)
+    _present = [path for path in _PROGRAMS if path.is_file()]
+    if not _present:
+        pytest.exit("there is no program: run ./foldcairn once, or set the environment variable FOLDCAIRN to a program", 2)
+    os.environ["FOLDCAIRN"] = str(_present[0])
 
 # A run takes some milliseconds, and the machine may be busy: so there is no deadline, and the same examples come each time.
 settings.register_profile("foldcairn", deadline=None, derandomize=True, suppress_health_check=[HealthCheck.too_slow])

@@ -1,3 +1,5 @@
+//! What the windows of one node count in a run.
+
 /// What the listening of a node comes to in a run.
 #[derive(Clone, Copy, Debug, PartialEq, Eq)]
 pub struct NodeCharge {

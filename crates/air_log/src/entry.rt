@@ -1,3 +1,5 @@
+//! The entries of a log: transmissions, receptions and tunings.
+
 use lwb_base::{NodeId, Packet, Rank};
 
 /// One entry of a log. Its times are true ticks of 1/64 µs; it contains its start and not its end.

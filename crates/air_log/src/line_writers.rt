@@ -1,3 +1,5 @@
+//! Writes log entries as lines of text.
+
 ghost use Rattle.std.specs.Prelude.{◌≡◌, ◌++◌, ◌∷◌, [], OnOk, string_bytes};
 ghost use Rattle.text_writers.specs.HexWords.{hex_word};
 ghost use Rattle.air_log.specs.LogText.{entry_line, sent_line, heard_line, tuned_line};

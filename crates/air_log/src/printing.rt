@@ -1,3 +1,5 @@
+//! Writes a whole log as text.
+
 ghost use Rattle.std.specs.Prelude.{◌≡◌, ◌++◌, map, flat_map, IfOk, OnOk, string_bytes};
 ghost use Rattle.air_log.specs.Entries.{node_of};
 ghost use Rattle.air_log.specs.LogText.{entry_line, log_text, in_order, is_before, start_of, kind_of};

@@ -1,3 +1,5 @@
+//! The run of a whole scenario on the ideal single-hop bus.
+
 ghost use Rattle.std.specs.Prelude.{◌≡◌, IfOk, Some, None, if◌then◌else◌};
 ghost use Rattle.bus_model.specs.Bus.{bus_cost};
 ghost use Rattle.scenario_text.specs.FloodParts.{knows};

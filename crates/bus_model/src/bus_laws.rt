@@ -1,3 +1,5 @@
+//! The order of deliveries on the bus: one law, as the contract of a function that does nothing.
+
 ghost use Rattle.scenario_text.specs.ScenarioGrammar.{IsScenario};
 ghost use Rattle.scenario_text.specs.ScenarioParts.{ScenarioParts};
 ghost use Rattle.bus_model.specs.Bus.{Ordered, bus_deliveries};

@@ -1,3 +1,5 @@
+//! Who accepts in a flood by steps, each law a function that does nothing and has the law as its contract.
+
 ghost use Rattle.std.specs.Prelude.{◌≡◌, [], ◌∷◌, ℕ, suc, Bool, true, Some, ◌↔◌, ◌<◌, ◌≤◌};
 ghost use Rattle.bus_model.specs.Distances.{IsDistance};
 ghost use Rattle.bus_model.specs.Flooding.{Setting, Hears, Accepts, has, accepted, STEPS};

@@ -1,3 +1,5 @@
+//! Who delivers in a data slot: one law, as the contract of a function that does nothing.
+
 ghost use Rattle.std.specs.Prelude.{◌≡◌, ℕ};
 ghost use Rattle.lwb_base.specs.Messages.{Plan};
 ghost use Rattle.scenario_text.specs.ScenarioGrammar.{IsScenario};

@@ -1,3 +1,5 @@
+//! Delivered packets, and packets that were lost before they were queued.
+
 use lwb_base::{NodeId, Payload, Rank};
 
 /// A data packet that a node accepted.

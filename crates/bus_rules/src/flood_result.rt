@@ -1,3 +1,5 @@
+//! The result of one flood.
+
 ghost use Rattle.std.specs.Prelude.{◌≡◌};
 
 use lwb_base::NodeId;

@@ -1,3 +1,5 @@
+//! What the slots of a round are for.
+
 ghost use Rattle.std.specs.Prelude.{◌≡◌};
 ghost use Rattle.bus_rules.specs.Slots.{is_schedule_part};
 

@@ -1,3 +1,5 @@
+//! The numbers of slots of a round.
+
 ghost use Rattle.std.specs.Prelude.{◌≡◌, ◌≤◌};
 ghost use Rattle.bus_rules.specs.Plans.{last_with, slots_named};
 

@@ -1,3 +1,5 @@
+//! The number of slots that are owed to a stream.
+
 ghost use Rattle.std.specs.Prelude.{◌≡◌, ◌<◌, ◌≤◌};
 ghost use Rattle.bus_rules.specs.Granting.{owed};
 

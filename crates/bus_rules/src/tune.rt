@@ -1,3 +1,5 @@
+//! What a node listens to, and how that changes at the end of a frame.
+
 ghost use Rattle.std.specs.Prelude.{◌≡◌, ◌≤◌, ◌+◌, ◌%◌};
 ghost use Rattle.bus_rules.specs.Tuning.{next_tune, HasWaited};
 

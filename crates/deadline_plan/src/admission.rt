@@ -1,3 +1,5 @@
+//! Admission of streams to a plan with deadlines.
+
 ghost use Rattle.std.specs.Prelude.{◌≡◌, ◌≤◌, [], IfOk};
 ghost use Rattle.std.specs.List.{list_any};
 ghost use Rattle.deadline_plan.specs.Admission.{Plan, has, after_admit, Answers, rounds_of, grants_of, with_last};

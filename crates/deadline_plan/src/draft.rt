@@ -1,3 +1,5 @@
+//! What the lines of a plan's text say so far.
+
 ghost use Rattle.std.specs.Prelude.{◌≡◌, OnOk};
 ghost use Rattle.text_readers.specs.Faults.{Refuses, RefusesBy};
 ghost use Rattle.deadline_plan.specs.DeadlineText.{no_lines, rule_fault, with_line, after_words};

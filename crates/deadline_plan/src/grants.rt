@@ -1,3 +1,5 @@
+//! Which frame grants which job its slot.
+
 ghost use Rattle.std.specs.Prelude.{◌≡◌, ◌<◌, ◌≤◌, ◌++◌, [], ◌∷◌, ◌&&◌, nat_le, nat_lt, if◌then◌else◌, length, map, IfOk, All};
 ghost use Rattle.deadline_plan.specs.Grants.{comes_by, granted as granted_of, left as left_of, grants_from, round as round_of};
 ghost use Rattle.deadline_plan.specs.Jobs.{IsStream, job as job_of, jobs_of, jobs as all_jobs};

@@ -1,3 +1,5 @@
+//! The jobs of streams with deadlines.
+
 use lwb_base::Owner;
 
 /// A slot that a stream needs: one in a frame from `release` to `end - 1`. Jobs are ordered by end, then owner, then

@@ -1,3 +1,5 @@
+//! The lines of a plan's text.
+
 ghost use Rattle.std.specs.Prelude.{◌≡◌, map, drop};
 ghost use Rattle.std.specs.List.{list_all};
 ghost use Rattle.text_readers.specs.Faults.{spelled};

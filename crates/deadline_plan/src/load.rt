@@ -1,3 +1,5 @@
+//! Pairs of frames between which more slots are needed than there are.
+
 ghost use Rattle.std.specs.Prelude.{◌≡◌, ◌<◌, ◌≤◌, ◌+◌, ◌-◌, ◌*◌, ℕ, length, count_by, slice_index, IfOk, IfSome, IfNone, All};
 ghost use Rattle.deadline_plan.specs.Jobs.{IsStream, jobs, load, NothingOver, IsFirstOver};
 ghost use Rattle.deadline_plan.specs.Load.{has_job, is_at, span, IsLatestOver};

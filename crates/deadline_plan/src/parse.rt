@@ -1,3 +1,5 @@
+//! Reads the text of a plan.
+
 ghost use Rattle.std.specs.Prelude.{◌<◌, ◌^◌, length};
 ghost use Rattle.text_readers.specs.Faults.{Gives};
 ghost use Rattle.deadline_plan.specs.DeadlineText.{plan_of};

@@ -1,3 +1,5 @@
+//! Streams with deadlines.
+
 use lwb_base::{NodeId, Owner};
 
 /// A stream with deadlines, in frames. It has a job for each m from 0: its release is `start + m * period`, and its end

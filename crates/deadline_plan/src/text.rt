@@ -1,3 +1,5 @@
+//! What the text of a plan says.
+
 ghost use Rattle.std.specs.Prelude.{◌≡◌, ◌≤◌, ◌<◌, length, All};
 ghost use Rattle.deadline_plan.specs.Admission.{Plan};
 ghost use Rattle.deadline_plan.specs.DeadlineText.{IsText};

@@ -1,3 +1,5 @@
+//! The energy of all nodes of a run.
+
 ghost use Rattle.std.specs.Prelude.{◌≡◌, ◌<◌, IfOk, true, length, get_or};
 ghost use Rattle.scenario_text.specs.FloodParts.{knows};
 ghost use Rattle.scenario_text.specs.ScenarioGrammar.{IsScenario};

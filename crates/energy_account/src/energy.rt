@@ -1,3 +1,5 @@
+//! The energy of one node, from its trace.
+
 ghost use Rattle.std.specs.Prelude.{◌≡◌, reverse, sum_by};
 ghost use Rattle.energy_account.specs.Apart.{AreApart};
 ghost use Rattle.energy_account.specs.ToldEnergies.{SendingsApart, TuningsApart, told_energy, sent_span, tuned_span};

@@ -1,3 +1,5 @@
+//! The calendar: orders in a sorted queue for each class.
+
 ghost use Rattle.std.specs.Prelude.{◌≡◌, ◌<◌, ◌≤◌, IfOk, IfSome, length, replicate, Some, None};
 ghost use Rattle.event_calendar.specs.Orders.{nothing_due, changed, IsNext};
 

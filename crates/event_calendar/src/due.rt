@@ -1,3 +1,5 @@
+//! The orders at one place.
+
 ghost use Rattle.std.specs.Prelude.{◌≡◌};
 ghost use Rattle.event_calendar.specs.Orders.{nothing_due, tick_of, with_tick};
 

@@ -1,3 +1,5 @@
+//! An order in the queue of its class.
+
 ghost use Rattle.std.specs.Prelude.{◌≡◌};
 ghost use Rattle.event_calendar.specs.Waiting.{is_before};
 

@@ -1,3 +1,5 @@
+//! Laws of orders as a finite map, each a function that does nothing and has the law as its contract.
+
 ghost use Rattle.std.specs.Prelude.{◌≡◌, ◌≢◌, ◌<◌, ◌⊎◌, ℕ, List, Option, None, length, replicate};
 ghost use Rattle.event_calendar.specs.declared.class.Class.{Class};
 ghost use Rattle.event_calendar.specs.Orders.{Due, Order, IsNext, at, changed, nothing_due};

@@ -1,3 +1,5 @@
+//! Orders as a finite map, as a trait.
+
 ghost use Rattle.std.specs.Prelude.{◌≡◌, ◌<◌, List, IfSome, Some, None, length};
 ghost use Rattle.event_calendar.specs.Orders.{Due, changed, IsNext};
 

@@ -1,3 +1,5 @@
+//! A sorted queue of the orders of one class.
+
 ghost use Rattle.std.specs.Prelude.{◌≡◌, ◌<◌, ◌≤◌, ℕ, List, [], Contains, length, slice_get, slice_index_or, IfOk};
 ghost use Rattle.event_calendar.specs.declared.entry.Entry.{Entry as EntryOf};
 ghost use Rattle.event_calendar.specs.Waiting.{IsBefore, IsInOrder, IsAdded, IsRemoved};

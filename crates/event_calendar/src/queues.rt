@@ -1,3 +1,5 @@
+//! The queues of all classes.
+
 ghost use Rattle.std.specs.Prelude.{◌≡◌, ◌<◌, ◌≤◌, ℕ, List, [], Contains, length, IfOk};
 ghost use Rattle.std.specs.declared.option.Option.{Option as OptionOf};
 ghost use Rattle.event_calendar.specs.Orders.{Order};

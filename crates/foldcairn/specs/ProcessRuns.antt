@@ -40,5 +40,5 @@ pub record IsTopCall (words : List (List ℕ)) (source sink : Stream) (status : 
 abbrev pub IsProcess : Result (IntoIter (String Global) Global) Error → Stream → Stream → ℕ → Type 0
 IsProcess answer source sink status =
     ((words : Vec (String Global) Global) × (air : List Entry) × IsWords answer (Ok words)
-        × IsTopCall (map string_bytes words.items) source sink status air)
+    × IsTopCall (map string_bytes words.items) source sink status air)
     ⊎ (IsWords answer (Err status) × IsUntouched source × IsUntouched sink)

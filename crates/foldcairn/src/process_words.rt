@@ -1,3 +1,5 @@
+//! The words of the command line, from what the process was given.
+
 ghost use Rattle.std.specs.Prelude.{◌≡◌, drop};
 ghost use Rattle.foldcairn.specs.ProcessWords.{IsWords};
 

@@ -1,3 +1,5 @@
+//! Laws of floods at one node, each a function that does nothing and has the law as its contract.
+
 ghost use Rattle.std.specs.Prelude.{◌≡◌, ℕ, ◌+◌, ◌≤◌, ◌<◌, ◌↔◌, ◌++◌, ◌∷◌, List, Contains, true, None, slice_set};
 ghost use Rattle.std.specs.Option.{option_map};
 ghost use Rattle.lwb_packets.specs.declared.kind.Kind.{Kind};

@@ -1,3 +1,5 @@
+//! The tune of one node, and what changes it.
+
 ghost use Rattle.std.specs.Prelude.{◌≡◌, ◌≤◌, ◌<◌, true, IfSome};
 ghost use Rattle.bus_rules.specs.declared.tune.Tune.TheVariants.{Hold};
 ghost use Rattle.bus_rules.specs.Tuning.{booted, after_frame, hosts, with_due};

@@ -1,3 +1,5 @@
+//! The slots that are owed to each owner.
+
 ghost use Rattle.std.specs.Prelude.{◌≡◌, ◌+◌, ◌≤◌, ◌++◌, All, length, replicate, sum_by};
 ghost use Rattle.bus_rules.specs.Granting.{owed_to};
 ghost use Rattle.bus_rules.specs.Tables.{AreEntries};

@@ -1,3 +1,5 @@
+//! The plan that a host makes for its next round.
+
 ghost use Rattle.std.specs.Prelude.{◌≡◌, ◌+◌, ◌≤◌, All, length};
 ghost use Rattle.std.specs.List.Sorted.{IsPermutation, IsNonDecreasing};
 ghost use Rattle.bus_rules.specs.Granting.{gap_of, last_code, owed_to, plan_round as planned};

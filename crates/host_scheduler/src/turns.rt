@@ -1,3 +1,5 @@
+//! The slots of a round where more are owed than it has.
+
 ghost use Rattle.std.specs.Prelude.{◌≡◌, ◌+◌, ◌<◌, ◌≤◌, [], ◌∷◌, ◌++◌, true, if◌then◌else◌, length, map, take};
 ghost use Rattle.host_scheduler.specs.Debts.{in_line, late, early, turns_of, beyond, code_of};
 

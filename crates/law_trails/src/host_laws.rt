@@ -1,3 +1,5 @@
+//! The schedules and plans of a host over its life, the laws as the contract of a function that does nothing.
+
 ghost use Rattle.law_trails.specs.Lives.{HostsAreQuiet, OnePlan, QuietPeriod};
 
 /// Whatever comes in the life of a host, powered on and off at any frames: each closing schedule is over before its next one

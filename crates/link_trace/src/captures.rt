@@ -1,3 +1,5 @@
+//! Capture lines, in the order of their keys.
+
 ghost use Rattle.std.specs.Prelude.{◌≡◌, ℕ, Ok, true, false, IfOk, IfErr, OnErr};
 ghost use Rattle.std.specs.List.{list_any, find};
 ghost use Rattle.std.specs.Option.{option_map};

@@ -1,3 +1,5 @@
+//! Lines that are kept in ascending order.
+
 ghost use Rattle.std.specs.Prelude.{◌≡◌, Ok, true, false, IfOk, IfErr, OnErr};
 ghost use Rattle.std.specs.List.{list_any};
 ghost use Rattle.std.specs.Ordering.{is_eq};

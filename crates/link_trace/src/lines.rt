@@ -1,3 +1,5 @@
+//! The lines of a recorded trace.
+
 use lwb_base::NodeId;
 
 /// The link from one node to another, in that direction alone.

@@ -1,3 +1,5 @@
+//! What a medium asks of a trace, as a trait.
+
 ghost use Rattle.std.specs.Prelude.{◌≡◌, ℕ, List, ◌<◌, length, slice_index};
 ghost use Rattle.link_trace.specs.Masks.{IsMask};
 ghost use Rattle.link_trace.specs.Passes.{Lines, passes, captured as captured_by};

@@ -1,3 +1,5 @@
+//! The links of each node, as masks of nodes.
+
 ghost use Rattle.std.specs.Prelude.{[], ◌≡◌, ◌≤◌, ◌<◌, ◌==◌, ◌&&◌, length, slice_index, IfOk};
 ghost use Rattle.std.specs.List.{list_any, AllPairs};
 ghost use Rattle.link_trace.specs.Order.{Ascends, by_link};

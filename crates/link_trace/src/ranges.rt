@@ -1,3 +1,5 @@
+//! The lose and cut lines that matter in one slot and step.
+
 ghost use Rattle.std.specs.Prelude.{[], true, ◌≡◌, ◌==◌};
 ghost use Rattle.std.specs.List.{filter, list_any};
 ghost use Rattle.link_trace.specs.Order.{Ascends, by_cut};

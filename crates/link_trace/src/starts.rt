@@ -1,3 +1,5 @@
+//! Where the lines of each slot of each frame start.
+
 ghost use Rattle.std.specs.Prelude.{◌≡◌, ◌≤◌, ◌<◌, ℕ, length, IfOk};
 ghost use Rattle.std.specs.List.{AllPairs, AllWithin};
 ghost use Rattle.std.specs.List.Sorted.{IsPartitionPoint};

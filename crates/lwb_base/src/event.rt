@@ -1,3 +1,5 @@
+//! What happens at a node.
+
 use crate::Packet;
 
 /// What happens at a node.

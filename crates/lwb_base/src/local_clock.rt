@@ -1,3 +1,5 @@
+//! The clock that a node reads, as a trait.
+
 ghost use Rattle.std.specs.Prelude.{◌≡◌, ℕ, ◌^◌, ◌<◌};
 
 /// A clock as a node sees it: what it reads now, in local ticks of 1/64 µs.

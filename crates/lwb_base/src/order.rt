@@ -1,3 +1,5 @@
+//! What a node orders of its radio and its alarm.
+
 use crate::{Packet, Rank};
 
 /// What a node orders of its radio and of its alarm. Times are local ticks of 1/64 µs.

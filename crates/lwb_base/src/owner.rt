@@ -1,3 +1,5 @@
+//! Owners of data slots.
+
 ghost use Rattle.std.specs.Prelude.{◌≡◌, ◌≤◌, SomeIff};
 ghost use Rattle.lwb_base.specs.Messages.{code as code_of, node_of, stream_of};
 

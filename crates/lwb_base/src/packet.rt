@@ -1,3 +1,5 @@
+//! The bytes of a packet.
+
 ghost use Rattle.std.specs.Prelude.{◌≡◌, ℕ, ◌≤◌, ◌<◌, List, length, slice_index};
 ghost use Rattle.std.specs.Option.{SomeIff};
 

@@ -1,3 +1,5 @@
+//! The payload of a data packet.
+
 ghost use Rattle.std.specs.Prelude.{◌≡◌, ℕ, ◌≤◌, List, length};
 ghost use Rattle.std.specs.Option.{SomeIff};
 

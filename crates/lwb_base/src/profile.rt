@@ -1,3 +1,5 @@
+//! The times and lengths by which a network runs.
+
 ghost use Rattle.std.specs.Prelude.{◌≡◌, ◌≤◌};
 
 use std::marker::Model;

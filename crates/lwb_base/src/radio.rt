@@ -1,3 +1,5 @@
+//! The radio and the alarm of a node, as a trait.
+
 ghost use Rattle.std.specs.Prelude.{◌≤◌, ◌∷◌, []};
 ghost use Rattle.lwb_base.specs.Orders.{Told, Gives};
 ghost use Rattle.lwb_base.specs.declared.order.Order.TheVariants.{Listen, Off, SendAt, Alarm};

@@ -1,3 +1,5 @@
+//! Ranks of hosts, which are the numbers of their channels.
+
 ghost use Rattle.std.specs.Prelude.{◌≡◌, ℕ, ◌≤◌, SomeIff};
 
 use std::marker::Model;

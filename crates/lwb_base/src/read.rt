@@ -1,3 +1,5 @@
+//! Reads a source to its end.
+
 ghost use Rattle.std.specs.Prelude.{◌≡◌, ℕ, ◌≤◌, length, IsErrOf};
 ghost use Rattle.lwb_base.specs.Causes.{Rose};
 ghost use Rattle.lwb_base.specs.Reading.{ReadsAll, ReadsPiece};

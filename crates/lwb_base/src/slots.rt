@@ -1,3 +1,5 @@
+//! The greatest slot of a round.
+
 ghost use Rattle.std.specs.Prelude.{◌≡◌, ◌≤◌};
 ghost use Rattle.lwb_base.specs.Messages.{greatest_slot};
 

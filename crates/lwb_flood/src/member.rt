@@ -1,3 +1,5 @@
+//! One node of a flood.
+
 ghost use Rattle.std.specs.Prelude.{◌≡◌};
 ghost use Rattle.lwb_flood.specs.FloodWorlds.{is_off as off};
 

@@ -1,3 +1,5 @@
+//! The result of one flood over clocks that drift.
+
 ghost use Rattle.std.specs.Prelude.{◌≡◌, IfOk, length};
 ghost use Rattle.bus_model.specs.FloodOfText.{outcome};
 

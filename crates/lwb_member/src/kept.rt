@@ -1,3 +1,5 @@
+//! A request that a host keeps until it plans.
+
 ghost use Rattle.lwb_base.specs.Messages.{code_of};
 
 use lwb_base::NodeId;

@@ -1,3 +1,5 @@
+//! A node as a member of its rounds.
+
 ghost use Rattle.std.specs.Prelude.{◌≡◌, ◌≤◌, ◌<◌, Some, None, IfOk, IfSome, length, is_some, [], if◌then◌else◌};
 ghost use Rattle.bus_rules.specs.Plans.{last_slot as last_slot_of};
 ghost use Rattle.bus_rules.specs.Tuning.{rank_of};

@@ -1,3 +1,5 @@
+//! What a packet says, by its bytes.
+
 ghost use Rattle.std.specs.Prelude.{◌≡◌, IfSome};
 ghost use Rattle.std.specs.Option.{option_map};
 ghost use Rattle.glossy_relay.specs.Relaying.{slot_of};

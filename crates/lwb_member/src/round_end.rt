@@ -1,3 +1,5 @@
+//! The last slot of a round, by its schedule.
+
 ghost use Rattle.std.specs.Prelude.{◌≡◌, ◌≤◌, length};
 ghost use Rattle.bus_rules.specs.Plans.{last_slot as last_slot_of};
 

@@ -1,3 +1,5 @@
+//! Packets that differ only by the relay counter.
+
 ghost use Rattle.std.specs.Prelude.{◌≡◌, slice_set};
 ghost use Rattle.std.specs.Str.{bytes_eq};
 ghost use Rattle.lwb_packets.specs.Body.{body};

@@ -1,3 +1,5 @@
+//! Data packets and their bytes.
+
 ghost use Rattle.std.specs.Prelude.{◌≡◌, IfSome, is_some, Some};
 ghost use Rattle.lwb_packets.specs.DataPackets.{InRange, SpellsData, spelling, is_data};
 ghost use Rattle.lwb_packets.specs.declared.data_packet.DataPacket.{DataPacket};

@@ -1,3 +1,5 @@
+//! The kinds of packets.
+
 ghost use Rattle.std.specs.Prelude.{◌≡◌};
 ghost use Rattle.lwb_packets.specs.Kinds.{kind_in};
 

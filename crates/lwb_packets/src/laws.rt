@@ -1,3 +1,5 @@
+//! Numbers of two bytes: one law, as the contract of a function that does nothing.
+
 ghost use Rattle.std.specs.Prelude.{◌≡◌, ◌<◌, ◌/◌, ◌%◌, ℕ, [], ◌∷◌};
 ghost use Rattle.lwb_packets.specs.TwoBytes.{two_bytes, number_of_two};
 

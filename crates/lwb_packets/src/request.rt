@@ -1,3 +1,5 @@
+//! Requests and their bytes.
+
 ghost use Rattle.std.specs.Prelude.{◌≡◌, IfSome, is_some, Some};
 ghost use Rattle.lwb_packets.specs.Requests.{InRange, SpellsRequest, spelling, is_request};
 ghost use Rattle.lwb_packets.specs.declared.request.Request.{Request};

@@ -1,3 +1,5 @@
+//! Tests of floods by steps.
+
 use plain_bus::accepts;
 use scenario_text::parse_flood;
 use std::test::Fail;

@@ -1,3 +1,5 @@
+//! Tests of calendars.
+
 ghost use Rattle.std.specs.Prelude.{◌≡◌, ◌<◌, length};
 
 use event_calendar::Class::{Alarm, SendingEnd, SendingStart};

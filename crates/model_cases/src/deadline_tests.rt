@@ -1,3 +1,5 @@
+//! Tests of plans with deadlines.
+
 ghost use Rattle.std.specs.Prelude.{◌<◌, ◌^◌, IfSome, length};
 ghost use Rattle.deadline_plan.specs.Jobs.{IsStream};
 

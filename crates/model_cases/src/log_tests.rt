@@ -1,3 +1,5 @@
+//! Tests of logs.
+
 use air_log::{Air, Entry, HeardEntry, SentEntry, TunedEntry, text};
 use lwb_base::{NodeId, Packet, Rank};
 use std::test::Fail;

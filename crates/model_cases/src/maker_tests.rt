@@ -1,3 +1,5 @@
+//! Tests of made scenarios.
+
 use crate::seven::SEVEN;
 use scenario_maker::made;
 use scenario_text::print;

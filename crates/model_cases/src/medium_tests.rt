@@ -1,3 +1,5 @@
+//! Tests of the medium.
+
 ghost use Rattle.std.specs.Prelude.{◌≡◌, IfOk};
 
 use lwb_base::{NodeId, Profile};

@@ -1,3 +1,5 @@
+//! The calls that a test makes to a node.
+
 ghost use Rattle.std.specs.Prelude.{◌≡◌, ◌<◌, ◌^◌};
 
 use lwb_base::{Event, LocalClock, Payload};

@@ -1,3 +1,5 @@
+//! Tests of hosts that fail and come back.
+
 use bus_rules::Tune;
 use host_failover::Tuner;
 use lwb_base::Rank;

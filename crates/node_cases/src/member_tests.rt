@@ -1,3 +1,5 @@
+//! Tests of members.
+
 use bus_rules::{Part, Tune};
 use lwb_base::{NodeId, Packet, Payload, Profile, Rank};
 use lwb_member::{Member, message_in};

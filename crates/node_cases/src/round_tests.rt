@@ -1,3 +1,5 @@
+//! Tests of rounds.
+
 use lwb_base::Profile;
 use lwb_packets::Kind;
 use round_runner::{Round, Window};

@@ -1,3 +1,5 @@
+//! Tests of the rules of the bus.
+
 use bus_rules::{Tune, next_tune, owed};
 use lwb_base::Rank;
 use std::alloc::Global;

@@ -1,3 +1,5 @@
+//! Tests of the host's scheduler.
+
 ghost use Rattle.std.specs.Prelude.{◌≤◌, All};
 
 use host_scheduler::plan_round;

@@ -1,3 +1,5 @@
+//! Tests of streams.
+
 use lwb_base::{NodeId, Payload, Rank};
 use schedule_codec::{Ack, Acks, Owners, Schedule};
 use std::test::Fail;

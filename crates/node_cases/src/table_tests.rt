@@ -1,3 +1,5 @@
+//! Tests of the host's table.
+
 ghost use Rattle.std.specs.Prelude.{◌≤◌, IfSome};
 ghost use Rattle.lwb_packets.specs.Requests.{InRange};
 

@@ -1,3 +1,5 @@
+//! The core of one node: from events to orders.
+
 ghost use Rattle.std.specs.Prelude.{◌≡◌, ◌≤◌, ◌<◌, Some, None, IfOk, IfSome, if◌then◌else◌, length};
 ghost use Rattle.bus_rules.specs.Cores.{own_rank};
 ghost use Rattle.bus_rules.specs.declared.tune.Tune.TheVariants.{Scan};

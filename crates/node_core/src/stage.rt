@@ -1,3 +1,5 @@
+//! The place of a node in its frame.
+
 use crate::window::Window;
 
 // The place of a node in its frame, with its window where it is in one.

@@ -1,3 +1,5 @@
+//! Alarms, frames and references, by a node's own clock.
+
 ghost use Rattle.std.specs.Prelude.{◌≡◌, ◌≤◌, ◌<◌, ◌^◌, ◌+◌, ◌/◌};
 ghost use Rattle.time_reference.specs.Reference.{times_of};
 ghost use Rattle.node_core.specs.Nodes.{frame_alarm as alarm_of_frame, zero_from, closes_at as closing_of_slot, stopped_frame};

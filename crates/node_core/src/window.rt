@@ -1,3 +1,5 @@
+//! The window of a slot, while it is open.
+
 ghost use Rattle.std.specs.Prelude.{◌≡◌, ◌≤◌, ◌<◌, ◌^◌, true, false, Some, None, IfSome, if◌then◌else◌, not};
 ghost use Rattle.lwb_packets.specs.declared.kind.Kind as Kind;
 ghost use Rattle.glossy_relay.specs.FloodState.{listening};

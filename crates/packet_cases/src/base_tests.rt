@@ -1,3 +1,5 @@
+//! Tests of profiles, sources, sinks and the recording radio.
+
 use lwb_base::{
     MemorySink, MemorySource, Order, Packet, Profile, Radio, Rank, ReadStop, ReaderSource,
     RecordingRadio, WriteFault, WriterSink, read_all, write_all,

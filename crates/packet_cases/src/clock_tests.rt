@@ -1,3 +1,5 @@
+//! Tests of clocks.
+
 ghost use Rattle.std.specs.Prelude.{◌^◌, ◌<◌, IfOk, All};
 
 use lwb_base::LocalClock;

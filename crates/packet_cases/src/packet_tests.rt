@@ -1,3 +1,5 @@
+//! Tests of packets and their bytes.
+
 use lwb_base::{NodeId, Packet, Payload};
 use lwb_packets::{
     DataPacket, Request, decode_payload, decode_request, encode_payload, encode_request, kind_of,

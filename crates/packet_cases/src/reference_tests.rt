@@ -1,3 +1,5 @@
+//! Tests of time references.
+
 use lwb_base::Profile;
 use time_reference::Reference;
 

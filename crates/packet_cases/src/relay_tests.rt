@@ -1,3 +1,5 @@
+//! Tests of floods at one node.
+
 use glossy_relay::{After, Flood, Reply};
 use lwb_base::Packet;
 use lwb_packets::{Kind, decode_payload, same_body};

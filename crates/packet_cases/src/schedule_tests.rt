@@ -1,3 +1,5 @@
+//! Tests of schedules and their bytes.
+
 use lwb_base::{NodeId, Owner, Packet, Rank};
 use lwb_packets::with_counter;
 use schedule_codec::{Ack, Acks, Owners, Schedule, read, write};

@@ -1,3 +1,5 @@
+//! Tests of recorded traces.
+
 ghost use Rattle.std.specs.Prelude.{◌≡◌, IfOk, length};
 
 use link_trace::{CutLine, LinkLine, Links, LoseLine, Trace};

@@ -1,3 +1,5 @@
+//! Masks of places, one bit for each.
+
 ghost use Rattle.std.specs.Prelude.{◌≡◌, ◌≢◌, ℕ, ◌<◌, ◌≤◌, ◌-◌, ◌==◌, min};
 ghost use Rattle.std.specs.Int.{bit_at};
 

@@ -1,3 +1,5 @@
+//! What rivals of a transmission bring to which nodes.
+
 ghost use Rattle.std.specs.Prelude.{◌≡◌, ◌≤◌, ◌^◌, if◌then◌else◌, option_to_list};
 ghost use Rattle.radio_model.specs.Ages.{ByEnd};
 ghost use Rattle.radio_model.specs.Meetings.{rival_to as rival_by, rivals_in, IsPlaced, IsBrought, nothing, both_brought, brought_by};

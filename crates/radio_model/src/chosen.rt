@@ -1,3 +1,5 @@
+//! Captures: the sender that the trace names for a node where several meet.
+
 ghost use Rattle.std.specs.Prelude.{◌≡◌, ◌≤◌, ◌<◌, ◌^◌, length, All, true};
 ghost use Rattle.std.specs.List.{list_any};
 ghost use Rattle.link_trace.specs.Passes.{captured};

@@ -1,3 +1,5 @@
+//! What keeps a transmission from being received.
+
 ghost use Rattle.std.specs.Prelude.{◌≡◌, ◌≤◌, ◌<◌, ◌^◌, ℕ, length, All, IfSome, IfNone, slice_index, slice_index_or, true, not};
 ghost use Rattle.std.specs.List.{list_any};
 ghost use Rattle.std.specs.Int.{bit_at};

@@ -1,3 +1,5 @@
+//! The receivers of one transmission.
+
 ghost use Rattle.std.specs.Prelude.{◌≡◌, ◌+◌, ◌≤◌, ◌<◌, ◌^◌, ℕ, List, [], ◌∷◌, ◌++◌, length, slice_get};
 
 use arrayvec::ArrayVec;

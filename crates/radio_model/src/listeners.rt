@@ -1,3 +1,5 @@
+//! Finds who receives a transmission at its end.
+
 ghost use Rattle.std.specs.Prelude.{◌≡◌, ◌≤◌, ◌<◌, ◌^◌, All, length, map, ◌||◌, ◌==◌, not, ℕ, slice_index_or};
 ghost use Rattle.std.specs.List.{list_any};
 ghost use Rattle.radio_model.specs.Stations.{node_of, on_air, overlaps};

@@ -1,3 +1,5 @@
+//! The transmissions of one node in short.
+
 ghost use Rattle.std.specs.Int.{bit_at};
 ghost use Rattle.std.specs.Prelude.{ℕ, ◌≡◌, ◌≤◌, ◌<◌, ◌^◌, if◌then◌else◌, length, slice_index_or, slice_set};
 ghost use Rattle.radio_model.specs.Marks.{no_mark, next_mark, next_marks, comes_close, comes_early, is_aside, is_same, comes_along, IsOrigin};

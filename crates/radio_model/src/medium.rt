@@ -1,3 +1,5 @@
+//! The radio medium that all nodes share.
+
 ghost use Rattle.std.specs.Prelude.{◌≡◌, ◌≤◌, ◌<◌, ◌^◌, ◌∷◌, [], ℕ, IfOk, IfSome, IsSomeAnd, All, AllPairs, Contains, ◌↔◌};
 ghost use Rattle.std.specs.Prelude.{length, map, List, slice_index, slice_index_or, slice_set, Some, if◌then◌else◌};
 ghost use Rattle.std.specs.List.{HoldsAt};

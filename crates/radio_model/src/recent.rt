@@ -1,3 +1,5 @@
+//! The nodes whose transmissions can still matter.
+
 ghost use Rattle.std.specs.Prelude.{◌≡◌, ◌<◌, true, false};
 ghost use Rattle.radio_model.specs.Recent.{no_recent, IsNext};
 

@@ -1,3 +1,5 @@
+//! Transmissions that overlap another one on its channel.
+
 ghost use Rattle.std.specs.Prelude.{◌≡◌, ◌≤◌, ◌/◌, ◌<◌, ◌^◌, length, All, slice_index, slice_index_or, take};
 ghost use Rattle.link_trace.specs.Masks.{IsMask};
 ghost use Rattle.radio_model.specs.Ages.{ByEnd};

@@ -1,3 +1,5 @@
+//! A packet on the air.
+
 use lwb_base::{NodeId, Packet, Rank};
 
 /// A packet on the air, on the channel of a rank, from its start to its end in ticks of 1/64 µs.

@@ -1,3 +1,5 @@
+//! What the medium keeps of one node.
+
 ghost use Rattle.std.specs.Prelude.{◌≡◌, ◌≤◌, ◌+◌, ◌<◌, ◌^◌, [], ◌&&◌, not, IfOk, length, is_some, is_none, None};
 ghost use Rattle.std.specs.List.{list_any};
 ghost use Rattle.circular_buffer.specs.Buffer.{buffer};

@@ -1,3 +1,5 @@
+//! What a command answers.
+
 ghost use Rattle.std.specs.Prelude.{◌≡◌, ℕ, List, IfOk, string_bytes};
 ghost use Rattle.replay_tool.specs.Answers.{Answers};
 ghost use Rattle.replay_tool.specs.CommandLine.{fault_line as fault_line_of};

@@ -1,3 +1,5 @@
+//! The commands, by the words that ask for them.
+
 ghost use Rattle.std.specs.Prelude.{◌≡◌, ◌<◌, ◌^◌, ◌↔◌, IsTrue, List, ℕ, Some, SomeIff, false, codes, decimal, map, string_bytes, ◌∷◌, []};
 ghost use Rattle.scenario_maker.specs.Made.{IsSize};
 ghost use Rattle.replay_tool.specs.Commands.{Asks, reads as reads_of};

@@ -1,3 +1,5 @@
+//! The `cost` lines of a bus report.
+
 ghost use Rattle.std.specs.Prelude.{◌≡◌, ◌++◌, OnOk, true, string_bytes};
 ghost use Rattle.bus_frames.specs.BusRuns.{IsBusRun};
 ghost use Rattle.scenario_text.specs.FloodParts.{knows};

@@ -1,3 +1,5 @@
+//! The answer to the text of a plan with deadlines.
+
 ghost use Rattle.std.specs.Prelude.{◌≡◌, ◌<◌, ◌^◌, [], IfOk, length, map};
 ghost use Rattle.replay_tool.specs.Answers.{Answers};
 ghost use Rattle.replay_tool.specs.DeadlineReport.{Decided, Differ, no_streams, stream_of_answer};

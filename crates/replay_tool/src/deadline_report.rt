@@ -1,3 +1,5 @@
+//! The report of a plan with deadlines.
+
 ghost use Rattle.std.specs.Prelude.{◌≡◌, ◌<◌, ◌++◌, IfOk, OnOk, flat_map, length, slice_index, string_bytes};
 ghost use Rattle.std.specs.List.{enumerate_from};
 ghost use Rattle.replay_tool.specs.DeadlineReport.{answer_line, owners_line, round_line, deadline_lines};

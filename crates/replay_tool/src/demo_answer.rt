@@ -1,3 +1,5 @@
+//! The answer to the command `demo`.
+
 ghost use Rattle.std.specs.Prelude.{ℕ, List, IfOk};
 ghost use Rattle.scenario_maker.specs.Made.{IsSize};
 ghost use Rattle.replay_tool.specs.Answers.{Answers};

@@ -1,3 +1,5 @@
+//! The `energy` lines of a report.
+
 ghost use Rattle.std.specs.Prelude.{◌≡◌, ℕ, ◌++◌, Contains, OnOk, Some, flat_map, string_bytes};
 ghost use Rattle.scenario_text.specs.declared.lines.NodeLine.{NodeLine as NodeLineOf};
 ghost use Rattle.scenario_clocks.specs.StatedClocks.{scenario_clock};

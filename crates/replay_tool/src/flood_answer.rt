@@ -1,3 +1,5 @@
+//! The answer to the text of a flood.
+
 ghost use Rattle.std.specs.Prelude.{◌≡◌, ◌<◌, ◌^◌, IfOk, length};
 ghost use Rattle.scenario_clocks.specs.StatedClocks.{stated_clock};
 ghost use Rattle.air_log.specs.FloodLaw.{FloodLaw};

@@ -1,3 +1,5 @@
+//! Numbers on the command line.
+
 ghost use Rattle.std.specs.Prelude.{◌≡◌, ◌<◌, ◌^◌, ◌↔◌, ◌||◌, [], ◌∷◌, ℕ, Some, decimal, nat_lt, slice_index};
 ghost use Rattle.std.specs.Str.{bytes_eq};
 

@@ -1,3 +1,5 @@
+//! The report of a flood.
+
 ghost use Rattle.std.specs.Prelude.{◌≡◌, ◌++◌, IfOk, OnOk, flat_map, string_bytes};
 ghost use Rattle.replay_tool.specs.FloodReport.{accept_line, flood_report as report_of};
 

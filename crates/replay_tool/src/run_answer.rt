@@ -1,3 +1,5 @@
+//! The answers to the commands `run` and `log`.
+
 ghost use Rattle.std.specs.Prelude.{◌≡◌, ◌<◌, ◌^◌, ℕ, IfOk, length};
 ghost use Rattle.tick_clock.specs.ClockReadings.{segment_clock_reads};
 ghost use Rattle.scenario_clocks.specs.ClockLists.{clocks_by};

@@ -1,3 +1,5 @@
+//! The report of a run.
+
 ghost use Rattle.std.specs.Prelude.{◌≡◌, [], ◌∷◌, ◌++◌, IfOk, OnOk, flat_map, string_bytes};
 ghost use Rattle.text_writers.specs.HexWords.{payload_word};
 ghost use Rattle.replay_tool.specs.RunReport.{delivery_line, drop_line, report_lines};

@@ -1,3 +1,5 @@
+//! The summary of a run.
+
 ghost use Rattle.std.specs.Prelude.{◌≡◌, ◌<◌, IfOk, get_or, length, string_bytes, sum_by};
 ghost use Rattle.replay_tool.specs.Summary.{summary_lines, sent_ticks as sent_ticks_of, on_ticks as on_ticks_of};
 

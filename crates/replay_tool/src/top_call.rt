@@ -1,3 +1,5 @@
+//! The call `top`: from words and input to the text that is written.
+
 ghost use Rattle.std.specs.Prelude.{◌≡◌, ◌≢◌, ◌⊎◌, ◌≤◌, ◌<◌, ◌^◌, ℕ, List, [], Option, Some, length, take, IfOk, IsErrOf, false, map, string_bytes};
 ghost use Rattle.std.specs.Io.KnownBytes.{Appends};
 ghost use Rattle.lwb_base.specs.Causes.{Rose};

@@ -1,3 +1,5 @@
+//! One round as a node runs it.
+
 ghost use Rattle.std.specs.Prelude.{◌≡◌, ◌≤◌};
 ghost use Rattle.lwb_base.specs.Profile.{IsProfile};
 ghost use Rattle.round_runner.specs.Rounds.{round_of, window_of, last_of, kind_of_slot};

@@ -1,3 +1,5 @@
+//! The window of one slot.
+
 ghost use Rattle.std.specs.Prelude.{◌≡◌, ◌<◌, ◌^◌};
 ghost use Rattle.round_runner.specs.Rounds.{window_at};
 

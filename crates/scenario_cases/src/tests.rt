@@ -1,3 +1,5 @@
+//! Tests of texts, and of the first faults in them.
+
 ghost use Rattle.std.specs.Prelude.{◌≡◌, ◌<◌, IfOk, [], ◌∷◌};
 ghost use Rattle.link_trace.specs.Sealed.{no_lines};
 

@@ -1,3 +1,5 @@
+//! The clocks of a scenario: one law, as the contract of a function that does nothing.
+
 ghost use Rattle.std.specs.Prelude.{◌≡◌, ℕ, true};
 ghost use Rattle.tick_clock.specs.Clocks.{IsClock};
 ghost use Rattle.scenario_text.specs.FloodParts.{knows};

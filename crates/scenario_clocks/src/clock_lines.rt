@@ -1,3 +1,5 @@
+//! Makes the clocks that the lines of a text state.
+
 ghost use Rattle.std.specs.Prelude.{◌≡◌, ℕ, ◌^◌, ◌≤◌, ◌<◌, ◌++◌, ◌∷◌, [], IfOk, OnOk, All, get_or, length, set};
 ghost use Rattle.tick_clock.specs.ClockReadings.{segment_clock_reads};
 ghost use Rattle.tick_clock.specs.Rates.{segment_reading, unordered_at, wild_at};

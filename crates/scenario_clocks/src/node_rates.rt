@@ -1,3 +1,5 @@
+//! The rates of the clock of one node.
+
 ghost use Rattle.std.specs.Prelude.{◌≡◌, ◌++◌, ◌∷◌, [], OnErr, OnOk};
 
 use lwb_base::Memory;

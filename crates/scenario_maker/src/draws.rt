@@ -1,3 +1,5 @@
+//! Random draws from a seeded generator.
+
 ghost use Rattle.std.specs.Prelude.{◌≡◌, ◌+◌, ◌%◌, ◌<◌, ◌≤◌};
 ghost use Rattle.scenario_maker.specs.Drawn.{seeded, later, word};
 

@@ -1,3 +1,5 @@
+//! The links of a made scenario: a tree and random pairs.
+
 ghost use Rattle.std.specs.Prelude.{◌≡◌, ◌+◌, ◌-◌, ◌*◌, ◌≤◌, OnOk};
 ghost use Rattle.scenario_maker.specs.Drawn.{later};
 ghost use Rattle.scenario_maker.specs.Made.{with_pair, with_pairs, tree_pairs, random_pairs};

@@ -1,3 +1,5 @@
+//! Random losses.
+
 ghost use Rattle.std.specs.Prelude.{◌≡◌, ◌+◌, ◌*◌, ◌/◌, ◌≤◌, [], OnOk};
 ghost use Rattle.std.specs.List.{fold};
 ghost use Rattle.scenario_maker.specs.Drawn.{later};

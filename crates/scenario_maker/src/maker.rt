@@ -1,3 +1,5 @@
+//! Makes a scenario from a seed.
+
 ghost use Rattle.std.specs.Prelude.{◌≡◌, ◌≤◌, [], ◌∷◌, IfOk};
 ghost use Rattle.scenario_maker.specs.Made.{IsSize, all_nodes, made as made_scenario};
 

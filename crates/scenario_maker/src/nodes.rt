@@ -1,3 +1,5 @@
+//! Nodes with random clocks.
+
 ghost use Rattle.std.specs.Prelude.{◌≡◌, ◌+◌, ◌-ℤ◌, ◌*◌, ◌%◌, ◌≤◌, IfOk, OnOk, map, pos};
 ghost use Rattle.scenario_maker.specs.Drawn.{later, word};
 ghost use Rattle.scenario_maker.specs.Made.{all_nodes, node_line, rate_line};

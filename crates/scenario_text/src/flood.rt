@@ -1,3 +1,5 @@
+//! Reads the text of a flood.
+
 ghost use Rattle.std.specs.Prelude.{◌<◌, ◌^◌, length};
 ghost use Rattle.scenario_text.specs.FloodGrammar.{flood_of};
 ghost use Rattle.text_readers.specs.Faults.{Gives};

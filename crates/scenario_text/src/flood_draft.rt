@@ -1,3 +1,5 @@
+//! What the lines of a flood text say so far.
+
 ghost use Rattle.std.specs.Prelude.{◌≡◌, IfOk, OnOk};
 ghost use Rattle.text_readers.specs.Faults.{Refuses, RefusesBy};
 ghost use Rattle.scenario_text.specs.FloodGrammar.{no_flood, rule_fault, with_flood_line, after_words, parts_of};

@@ -1,3 +1,5 @@
+//! The lines of a flood text.
+
 ghost use Rattle.std.specs.Prelude.{◌≡◌, map};
 ghost use Rattle.text_readers.specs.Faults.{spelled};
 ghost use Rattle.scenario_text.specs.FloodGrammar.{flood_line as flood_line_of, flood_numbers};

@@ -1,3 +1,5 @@
+//! A flood as its text states it.
+
 ghost use Rattle.std.specs.Prelude.{◌≡◌};
 ghost use Rattle.scenario_text.specs.FloodParts.{IsSound, IsSealed};
 

@@ -1,3 +1,5 @@
+//! Writes single lines of a scenario.
+
 ghost use Rattle.std.specs.Prelude.{◌≡◌, ◌++◌, OnOk, string_bytes, codes, [], ◌∷◌};
 ghost use Rattle.text_writers.specs.Lines.{line_text, numbered};
 ghost use Rattle.scenario_text.specs.Canonical.{node_words, rate_words, link_words, loss_words, cut_words, capture_words};

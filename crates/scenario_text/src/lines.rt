@@ -1,3 +1,5 @@
+//! Nodes and rates as a text states them.
+
 use lwb_base::NodeId;
 
 /// A node, and what its clock reads at tick 0: 0 to 256,000 ticks of 1/64 µs.

@@ -1,3 +1,5 @@
+//! Writes the lists of lines of a scenario.
+
 ghost use Rattle.std.specs.Prelude.{◌≡◌, ◌++◌, OnOk, string_bytes, flat_map};
 ghost use Rattle.text_writers.specs.Lines.{line_text, render};
 ghost use Rattle.scenario_text.specs.Canonical.{node_words, rate_words, host_lines, link_words, script_words, loss_words, cut_words, capture_words};

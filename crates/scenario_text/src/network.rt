@@ -1,3 +1,5 @@
+//! What floods and scenarios have in common.
+
 use crate::{NodeLine, RateLine};
 use link_trace::Trace;
 use std::marker::Model;

@@ -1,3 +1,5 @@
+//! What the lines that floods and scenarios have in common say so far.
+
 ghost use Rattle.std.specs.Prelude.{◌≡◌, ◌≢◌, ◌&&◌, not, if◌then◌else◌, [], ◌∷◌, Ok, Some, None, true, IfOk, OnOk};
 ghost use Rattle.scenario_text.specs.FloodDrafts.{IsNetwork};
 ghost use Rattle.scenario_text.specs.FloodParts.{knows as knows_of};

@@ -1,3 +1,5 @@
+//! The lines that floods and scenarios have in common.
+
 ghost use Rattle.std.specs.Prelude.{◌≡◌, map};
 ghost use Rattle.text_readers.specs.Faults.{spelled};
 ghost use Rattle.scenario_text.specs.Network.{network_line as network_line_of, network_numbers};

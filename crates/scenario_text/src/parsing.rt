@@ -1,3 +1,5 @@
+//! Reads the text of a scenario.
+
 ghost use Rattle.std.specs.Prelude.{◌<◌, ◌^◌, length};
 ghost use Rattle.text_readers.specs.Faults.{Gives};
 ghost use Rattle.scenario_text.specs.ScenarioGrammar.{scenario_of};

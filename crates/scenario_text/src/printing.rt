@@ -1,3 +1,5 @@
+//! Writes the canonical text of a scenario.
+
 ghost use Rattle.std.specs.Prelude.{◌≡◌, ◌++◌, Ok, IfOk, OnOk, string_bytes, codes, [], ◌∷◌};
 ghost use Rattle.text_writers.specs.Lines.{line_text, render, numbered};
 ghost use Rattle.scenario_text.specs.ScenarioGrammar.{scenario_of, IsScenario};

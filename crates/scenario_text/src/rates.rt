@@ -1,3 +1,5 @@
+//! The order of the rates of clocks.
+
 ghost use Rattle.std.specs.Prelude.{◌≡◌, ◌≤◌, ◌==◌, ◌++◌, nat_lt, true, IfOk, OnOk, filter};
 ghost use Rattle.std.specs.Option.{option_copied, option_map_or};
 ghost use Rattle.scenario_text.specs.Network.{rates_by_node, last_rate as last_rate_of, ppm as ppm_of};

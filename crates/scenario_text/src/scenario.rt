@@ -1,3 +1,5 @@
+//! A scenario and its parts.
+
 ghost use Rattle.std.specs.Prelude.{◌≡◌};
 ghost use Rattle.scenario_text.specs.Canonical.{IsSaid};
 ghost use Rattle.scenario_text.specs.FloodParts.{IsSealed};

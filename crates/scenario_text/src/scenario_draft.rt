@@ -1,3 +1,5 @@
+//! What the lines of a scenario say so far.
+
 ghost use Rattle.std.specs.Prelude.{◌≡◌, ◌==◌, if◌then◌else◌, Ok, Some, None, OnOk};
 ghost use Rattle.std.specs.List.{list_any};
 ghost use Rattle.text_readers.specs.Faults.{Refuses, RefusesBy, Finishes};

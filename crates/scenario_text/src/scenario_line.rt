@@ -1,3 +1,5 @@
+//! The lines of a scenario.
+
 ghost use Rattle.std.specs.Prelude.{◌≡◌, map};
 ghost use Rattle.text_readers.specs.Faults.{spelled};
 ghost use Rattle.scenario_text.specs.ScenarioGrammar.{scenario_line as scenario_line_of, script_line as script_line_of};

@@ -1,3 +1,5 @@
+//! The script of a scenario.
+
 use lwb_base::{NodeId, Payload};
 
 /// What a node has to do.

@@ -1,3 +1,5 @@
+//! Writes the lines of a script.
+
 ghost use Rattle.std.specs.Prelude.{◌≡◌, ◌++◌, OnOk, string_bytes, codes, [], ◌∷◌};
 ghost use Rattle.text_writers.specs.Lines.{line_text};
 ghost use Rattle.scenario_text.specs.Canonical.{script_words, act_words};

@@ -1,3 +1,5 @@
+//! The acknowledgements of a schedule as bytes.
+
 ghost use Rattle.std.specs.Prelude.{◌≡◌, ◌≤◌, ◌*◌, ℕ, List, length, true, flat_map, IfSome, Some};
 ghost use Rattle.std.specs.List.{list_all};
 ghost use Rattle.lwb_base.specs.Messages.{Ask};

@@ -1,3 +1,5 @@
+//! The acknowledgements of a schedule.
+
 ghost use Rattle.std.specs.Prelude.{◌≡◌, ◌≤◌, ◌++◌, ◌∷◌, [], length, true, if◌then◌else◌, slice_get};
 ghost use Rattle.lwb_base.specs.Messages.{code_of};
 ghost use Rattle.schedule_codec.specs.AckLists.{are_acks, takes_ack, may_follow};

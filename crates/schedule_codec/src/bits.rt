@@ -1,3 +1,5 @@
+//! Numbers of a few bits each, written and read one after another.
+
 ghost use Rattle.std.specs.Prelude.{◌≡◌, ℕ, ◌+◌, ◌*◌, ◌^◌, ◌<◌, ◌≤◌, ◌==◌, length};
 ghost use Rattle.schedule_codec.specs.Packing.{digits, number, bytes_for, fill};
 

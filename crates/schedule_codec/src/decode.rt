@@ -1,3 +1,5 @@
+//! From bytes to a schedule.
+
 ghost use Rattle.std.specs.Prelude.{◌≡◌, ◌++◌, ◌≤◌, ℕ, List, length, true, IfSome, Some, slice_index, slice_set};
 ghost use Rattle.lwb_base.specs.Messages.{Ask, Schedule as Said};
 ghost use Rattle.schedule_codec.specs.Spelling.{acks_bytes, SpellsAcks, SpellsBody, IsWritable, slot_fits as fits, spelling, spells};

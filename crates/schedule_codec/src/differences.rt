@@ -1,3 +1,5 @@
+//! The differences of successive owner codes.
+
 ghost use Rattle.std.specs.Prelude.{◌≡◌, ◌≤◌, ◌<◌, ◌==◌, ◌∷◌, length, true};
 ghost use Rattle.schedule_codec.specs.Packing.{fit};
 ghost use Rattle.schedule_codec.specs.OwnerLists.{are_owners, differences as differences_of, width_of};

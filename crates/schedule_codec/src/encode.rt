@@ -1,3 +1,5 @@
+//! From a schedule to bytes.
+
 ghost use Rattle.std.specs.Prelude.{◌≡◌, length, Some, true};
 ghost use Rattle.schedule_codec.specs.Spelling.{IsWritable, spelling, in_range, length_of};
 ghost use Rattle.schedule_codec.specs.Reading.{schedule_of};

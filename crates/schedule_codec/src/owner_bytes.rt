@@ -1,3 +1,5 @@
+//! The owners of a schedule as bytes.
+
 ghost use Rattle.std.specs.Prelude.{◌≡◌, ◌<◌, ◌≤◌, ℕ, List, ◌∷◌, true, length, IfSome, SomeIff, Some};
 ghost use Rattle.std.specs.List.{list_all};
 ghost use Rattle.lwb_packets.specs.Ranges.{between};

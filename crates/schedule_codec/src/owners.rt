@@ -1,3 +1,5 @@
+//! The owners of the data slots of a round.
+
 ghost use Rattle.std.specs.Prelude.{◌≡◌, ◌++◌, ◌∷◌, [], length, true, if◌then◌else◌, slice_get};
 ghost use Rattle.schedule_codec.specs.OwnerLists.{are_owners, takes_owner, may_follow};
 ghost use Rattle.std.specs.Option.{option_copied};

@@ -1,3 +1,5 @@
+//! Numbers of a few bits each, packed into bytes.
+
 ghost use Rattle.std.specs.Prelude.{◌≡◌, ℕ, ◌≤◌, List, length, IfSome, Some, true};
 ghost use Rattle.schedule_codec.specs.Packing.{fit, packed, Packs};
 

@@ -1,3 +1,5 @@
+//! What a host says of one round.
+
 use crate::{Acks, Owners};
 use lwb_base::Rank;
 use std::marker::Model;

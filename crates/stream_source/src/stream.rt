@@ -1,3 +1,5 @@
+//! One stream of a node, and the packets that wait in it.
+
 ghost use Rattle.std.specs.Prelude.{◌≡◌, ◌==◌, ◌<◌, ◌≤◌, IfOk, if◌then◌else◌, length};
 ghost use Rattle.std.specs.List.{slice_get};
 ghost use Rattle.bus_rules.specs.Streams as rule;

@@ -1,3 +1,5 @@
+//! The four streams of a node.
+
 ghost use Rattle.std.specs.Prelude.{◌≡◌, ◌≤◌, ◌==◌, true, IfOk, IfSome, if◌then◌else◌, fold, map, length, replicate, option_map};
 ghost use Rattle.std.specs.List.{list_all};
 ghost use Rattle.bus_rules.specs.Streams as rule;

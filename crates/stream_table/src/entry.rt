@@ -1,3 +1,5 @@
+//! The entry of one stream in a host's table.
+
 ghost use Rattle.std.specs.Prelude.{◌≡◌, ◌-◌, ◌≤◌, ◌<◌, ◌^◌};
 ghost use Rattle.bus_rules.specs.Tables.{seen, missed, code_in, interval_in};
 ghost use Rattle.bus_rules.specs.Granting.{owed_to};

@@ -1,3 +1,5 @@
+//! The entries of a host's table, by owner code.
+
 ghost use Rattle.std.specs.Prelude.{◌≡◌, ◌-◌, ◌<◌, ◌^◌, IfOk, IfErr, IfSome, length, is_some, if◌then◌else◌, map, filter_map, slice_set};
 ghost use Rattle.stream_table.specs.CodeOrder.{IsAt, IsGap, put_answer};
 ghost use Rattle.bus_rules.specs.Tables.{AreEntries, Ascends, code_in, entry_of, with_entry, without, seen, missed};

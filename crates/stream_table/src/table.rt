@@ -1,3 +1,5 @@
+//! The table of the streams that a host accepted.
+
 ghost use Rattle.std.specs.Prelude.{◌≡◌, ◌-◌, ◌≤◌, ◌<◌, ◌^◌, All, IfSome, IsSome, is_some, slice_get, map};
 ghost use Rattle.lwb_packets.specs.Requests.{InRange};
 ghost use Rattle.bus_rules.specs.Tables as rule;

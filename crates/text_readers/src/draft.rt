@@ -1,3 +1,5 @@
+//! What the lines of a text say so far, as a trait.
+
 ghost use Rattle.std.specs.Prelude.{◌≡◌, ℕ, List, Result, map};
 ghost use Rattle.text_readers.specs.Reading.{Reads};
 ghost use Rattle.text_readers.specs.declared.fault.FaultKind.{FaultKind as KindOf};

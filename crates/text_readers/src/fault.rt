@@ -1,3 +1,5 @@
+//! Why a text is rejected.
+
 ghost use Rattle.std.specs.Prelude.{◌≡◌, Some, true, false, MatchResult};
 ghost use Rattle.text_readers.specs.FaultNames.{kind_name};
 ghost use Rattle.text_readers.specs.Faults.{at_line};

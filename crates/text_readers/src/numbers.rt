@@ -1,3 +1,5 @@
+//! Numbers as words of a text.
+
 ghost use Rattle.std.specs.Prelude.{◌≡◌, ◌≤◌, ℕ, Ok, Err, if◌then◌else◌, length, map, drop, All};
 ghost use Rattle.std.specs.Char.{is_ascii_digit};
 ghost use Rattle.std.specs.List.{list_all};

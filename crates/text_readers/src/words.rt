@@ -1,3 +1,5 @@
+//! The lines of a text, and the words of a line.
+
 ghost use Rattle.std.specs.Prelude.{◌≡◌, ◌<◌, ◌==◌, ℕ, ◌∷◌, IfOk, position, length, map};
 ghost use Rattle.std.specs.Str.{bytes_eq, is_utf8 as is_utf8_of};
 ghost use Rattle.std.specs.Str.Lines.{lines, strip_carriage_return};

@@ -1,3 +1,5 @@
+//! Writes bytes in hexadecimal digits.
+
 ghost use Rattle.std.specs.Prelude.{◌≡◌, ◌++◌, ◌∷◌, ◌<◌, OnOk, false, string_bytes};
 ghost use Rattle.std.specs.Fmt.{digit_glyph};
 ghost use Rattle.text_writers.specs.HexWords.{hex_word, payload_word};

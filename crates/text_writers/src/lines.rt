@@ -1,3 +1,5 @@
+//! Writes lines of words and numbers.
+
 ghost use Rattle.std.specs.Prelude.{◌≡◌, ℕ, List, [], ◌++◌, ◌∷◌, OnOk, flat_map, map, string_bytes};
 ghost use Rattle.std.specs.List.{enumerate_from, join_with_byte};
 ghost use Rattle.text_writers.specs.Lines.{line_text, WritesEach, TakesPlaces, WritesPlaces};

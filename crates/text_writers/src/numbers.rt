@@ -1,3 +1,5 @@
+//! Writes numbers in decimal digits.
+
 ghost use Rattle.std.specs.Prelude.{◌≡◌, ◌++◌, ◌∷◌, OnOk, flat_map, string_bytes};
 
 use itoa::{Buffer, Integer};

@@ -1,3 +1,5 @@
+//! A clock at one tick, as a node sees it.
+
 ghost use Rattle.std.specs.Prelude.{◌≡◌, ℕ, ◌^◌, ◌≤◌};
 
 use crate::DriftClock;

@@ -1,3 +1,5 @@
+//! Clocks within 20 parts per million, as a trait.
+
 ghost use Rattle.std.specs.Prelude.{◌≡◌, ℕ, ◌+◌, ◌^◌, ◌≤◌};
 ghost use Rattle.tick_clock.specs.Clocks.{IsClock, due as due_tick};
 

@@ -1,3 +1,5 @@
+//! A clock that drifts as far as it may, as early as it may.
+
 ghost use Rattle.std.specs.Prelude.{◌≡◌, ℕ, ◌^◌, ◌<◌, ◌≤◌, true, false};
 ghost use Rattle.tick_clock.specs.Jumps.{jump_reading};
 ghost use Rattle.tick_clock.specs.JumpLaw.{jump_law};

@@ -1,3 +1,5 @@
+//! Faults in the rates of a clock.
+
 ghost use Rattle.std.specs.Prelude.{◌≡◌, ◌<◌, IfSome, position, length};
 ghost use Rattle.std.specs.List.{zip};
 ghost use Rattle.tick_clock.specs.Rates.{is_late, unordered_at, wild_at};

@@ -1,3 +1,5 @@
+//! The segments of a clock, each with one rate.
+
 ghost use Rattle.std.specs.Prelude.{◌≡◌, ℕ, ◌*◌, ◌^◌, ◌≤◌, ◌<◌, IfOk, All, length, map};
 ghost use Rattle.std.specs.Int.{div_ceil};
 ghost use Rattle.std.specs.Int.RustNames.{unsigned_abs};

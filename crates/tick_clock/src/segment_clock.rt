@@ -1,3 +1,5 @@
+//! A clock that runs at one rate after another.
+
 ghost use Rattle.std.specs.Prelude.{◌≡◌, ℕ, ◌*◌, ◌/◌, ◌^◌, ◌≤◌, ◌<◌, ◌↔◌, IsErrOf, IfOk, All};
 ghost use Rattle.tick_clock.specs.Rates.{wild_at, unordered_at, segment_reading};
 ghost use Rattle.tick_clock.specs.Segments.{AreKept, AreKept-prop, first_segment};

@@ -1,3 +1,5 @@
+//! When the slots of a round begin, by a node's own clock.
+
 ghost use Rattle.std.specs.Prelude.{◌≡◌, ℕ, ◌+◌, ◌*◌, ◌^◌, ◌<◌, ◌≤◌};
 ghost use Rattle.lwb_base.specs.Profile.{IsProfile};
 ghost use Rattle.tick_clock.specs.Clocks.{Near};
