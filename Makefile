@@ -1,25 +1,66 @@
-# What is done often. Each target is one command; CRATE names a crate, as in 'make check CRATE=link_trace'.
-.PHONY: check gate store pages pictures calls bench
+# The recipes of CONTRIBUTING.md. CRATE names a crate and FUNCTION a function of it by its modules, as in
+# 'make only CRATE=event_calendar FUNCTION=queue::Queue::add'. PROGRAM is the program that is tried, the stored one if none is named.
+PROGRAM = bin/foldcairn-x86_64-linux
+IN_CRATE = cd crates/$(or $(CRATE),$(error name a crate: make $@ CRATE=link_trace)) &&
+
+.PHONY: help check only try tests format edits crate gate store program python pages words pictures crates calls costs bench
+
+help: # lists the targets
+	@grep -E '^[a-z]+:' Makefile
 
 check: # proves one crate over what is kept, and those below it that changed
-	cd crates/$(CRATE) && rt check
+	$(IN_CRATE) rt check
 
-gate: # all that has to hold of a change, from nothing: an hour on four cores
+only: # proves one function and what it calls
+	$(IN_CRATE) rt check --only $(or $(FUNCTION),$(error name a function: make only CRATE=.. FUNCTION=module::name))
+
+try: # runs a program before any proof, with the words WORDS, as in 'make try CRATE=foldcairn WORDS=run < FILE'
+	$(IN_CRATE) rt try $(if $(WORDS),-- $(WORDS))
+
+tests: # runs the tests of a crate of tests before any proof
+	$(IN_CRATE) rt try --test
+
+format: # lays out the files of one crate
+	$(IN_CRATE) rt fmt
+
+edits: # tries the edits of one crate that must fail
+	rt must-fail $(or $(CRATE),$(error name a crate: make edits CRATE=link_trace))
+
+crate: # the gate of one crate: it, those below it and its tests from nothing, then its edits
+	$(IN_CRATE) rt verdict
+	rt must-fail $(CRATE)
+
+gate: # all that must hold of a change, from nothing
 	.ci/run
 
 store: # proves and builds the program, and stores it in bin/: the last step of a change of crates/
 	tools/store.sh
 
-pages: # runs the commands of all pages
-	tests/documents.sh bin/foldcairn-x86_64-linux
+program: # runs the program on the examples, on invalid inputs and on streams that fail
+	tests/program.sh $(PROGRAM)
+
+python: # runs the tests of the Python package
+	tests/python.sh $(PROGRAM)
+
+pages: # runs the commands of all pages, follows their links, and compares what scripts write in docs/
+	tests/documents.sh $(PROGRAM)
+
+words: # counts the words of the pages that an engineer would not expect
+	tools/words.py
 
 pictures: # draws the pictures of docs/ again
-	tools/pictures.py bin/foldcairn-x86_64-linux docs/pictures
+	tools/pictures.py $(PROGRAM) docs/pictures
+
+crates: # lists the crates in docs/internals/ARCHITECTURE.md again
+	tools/crates.py > docs/internals/page && mv docs/internals/page docs/internals/ARCHITECTURE.md
 
 calls: # lists all public calls with their contracts again
 	tools/calls.py > docs/internals/CALLS.md
 
-bench: # times runs and floods
-	bench/run.sh bin/foldcairn-x86_64-linux
-	bench/bus.sh bin/foldcairn-x86_64-linux
-	bench/flood.sh bin/foldcairn-x86_64-linux
+costs: # runs the proofs, tests and edits of all crates from nothing, and writes what they cost in docs/internals/PROOFS.md
+	tools/gate_costs.py --table docs/internals/PROOFS.md rt ci
+
+bench: # times runs, the bus and floods
+	bench/run.sh $(PROGRAM)
+	bench/bus.sh $(PROGRAM)
+	bench/flood.sh $(PROGRAM)
