@@ -198,7 +198,7 @@ def test_more_losses_than_lines():
     assert f"used up in frame {raised.value.frame}" in str(raised.value)
     for _ in range(100):
         scenario.on(1, frame=59)
-    with pytest.raises(losses.TooManyLosses):
+    with pytest.raises((losses.TooManyLosses, program.Refused)):
         losses.draw(scenario, 1)
 
 
