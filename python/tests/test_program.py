@@ -78,6 +78,19 @@ def test_each_status_is_an_exception(status, fake):
     assert "because" in str(raised.value)
 
 
+@pytest.mark.parametrize(
+    ("ends", "kind"), [("< /", program.InputUnreadable), ("> /dev/full", program.OutputUnwritable)], ids=["folder", "full"]
+)
+def test_streams_that_fail(ends, kind, fake):
+    with pytest.raises(kind):
+        program.execute(["run"], SCENARIO.read_bytes(), program=fake(f"exec {os.environ['FOLDCAIRN']} \"$@\" {ends}"))
+
+
+def test_words_that_are_not_utf_8():
+    with pytest.raises(program.BadWords):
+        program.execute(["run", "\udcff"])
+
+
 def test_an_unknown_status(fake):
     with pytest.raises(program.ProgramError, match="unknown exit status 77"):
         program.execute(["run"], b"", program=fake("exit 77"))
