@@ -40,15 +40,12 @@ complete() {
     return 1
 }
 
-# Runs a command as root, or fails where that is not allowed.
+# Runs a command as root, where that is allowed.
 as_root() {
     if [ "$(id -u)" -eq 0 ]; then
         "$@"
-    elif command -v sudo >/dev/null 2>&1 && sudo -n true 2>/dev/null; then
-        sudo -n "$@"
     else
-        say "this user may not install packages"
-        return 1
+        sudo -n "$@"
     fi
 }
 
@@ -56,6 +53,10 @@ as_root() {
 install_packages() {
     if ! command -v apt-get >/dev/null 2>&1; then
         say "there is no apt-get on this system"
+        return 1
+    fi
+    if [ "$(id -u)" -ne 0 ] && ! sudo -n true >/dev/null 2>&1; then
+        say "this user may not install packages"
         return 1
     fi
     as_root env DEBIAN_FRONTEND=noninteractive apt-get -q update >&2 || say "the package lists could not be updated"

@@ -3,6 +3,10 @@
 from __future__ import annotations
 
 import io
+import re
+import subprocess
+import sys
+from pathlib import Path
 
 import pandas
 import pytest
@@ -31,6 +35,15 @@ def test_help(capsys):
     with pytest.raises(SystemExit) as ended:
         main([])
     assert ended.value.code == 2
+
+
+def test_a_python_without_the_packages():
+    """Without its site packages, as another Python on the PATH may be."""
+    source = Path(program.__file__).parents[1]
+    code = f"import runpy, sys; sys.path.insert(0, {str(source)!r}); runpy.run_module('foldcairn', run_name='__main__')"
+    ended = subprocess.run([sys.executable, "-S", "-I", "-c", code], capture_output=True, text=True)
+    assert ended.returncode == 1
+    assert re.fullmatch(r"foldcairn: .* lacks the module \w+; tools/setup-python.sh installs what is needed\n", ended.stderr)
 
 
 def test_draw(capsys, ratios):

@@ -139,6 +139,25 @@ def test_each_drawn_loss_is_needed(seed):
         assert receptions(fewer) != received
 
 
+def test_drawn_losses_make_the_run_of_all_losses_in_a_grid_of_25():
+    """Rounds are in frames 5 and 9, so the losses of these two are all that can matter; those of more don't fit a text."""
+    scenario = Scenario.from_graph(grid(5, 5, diagonals=True), 10, hosts=[3], profile=2, contend=4)
+    chance = random.Random(1)
+    for link in sorted(scenario.links):
+        scenario.link(*link, prr=chance.uniform(0.7, 1))
+    for node in (1, 8, 15, 22, 25):
+        scenario.stream(node, 12).put(node, bytes([node])).put(node, bytes([node, 2]))
+    everything = scenario.copy()
+    everything.losses = [loss for loss in losses.every_loss(scenario, 4, slots=SLOTS) if loss.frame in (5, 9)]
+    drawn = losses.draw(scenario, 4)
+    received = receptions(everything)
+    assert {frame for frame, *_ in received} == {5, 9}
+    assert all(int(packet[2:4], 16) < SLOTS for *_, packet in received)
+    assert receptions(drawn) == received
+    assert 0 < len(drawn.losses) < len(everything.losses) / 50
+    assert program.execute(["bus"], drawn.text(warn=False)) == program.execute(["bus"], everything.text(warn=False))
+
+
 @pytest.mark.parametrize("of_host", [0.5, 0.9])
 @pytest.mark.parametrize("seed", range(12))
 def test_losses_at_captures_and_cuts(seed, of_host):
@@ -198,7 +217,7 @@ def test_more_losses_than_lines():
     assert f"used up in frame {raised.value.frame}" in str(raised.value)
     for _ in range(100):
         scenario.on(1, frame=59)
-    with pytest.raises(losses.TooManyLosses):
+    with pytest.raises((losses.TooManyLosses, program.Refused)):
         losses.draw(scenario, 1)
 
 

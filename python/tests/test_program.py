@@ -5,6 +5,7 @@ from __future__ import annotations
 import os
 import pickle
 import signal
+import time
 from pathlib import Path
 
 import pytest
@@ -77,6 +78,19 @@ def test_each_status_is_an_exception(status, fake):
     assert "because" in str(raised.value)
 
 
+@pytest.mark.parametrize(
+    ("ends", "kind"), [("< /", program.InputUnreadable), ("> /dev/full", program.OutputUnwritable)], ids=["folder", "full"]
+)
+def test_streams_that_fail(ends, kind, fake):
+    with pytest.raises(kind):
+        program.execute(["run"], SCENARIO.read_bytes(), program=fake(f"exec {os.environ['FOLDCAIRN']} \"$@\" {ends}"))
+
+
+def test_words_that_are_not_utf_8():
+    with pytest.raises(program.BadWords):
+        program.execute(["run", "\udcff"])
+
+
 def test_an_unknown_status(fake):
     with pytest.raises(program.ProgramError, match="unknown exit status 77"):
         program.execute(["run"], b"", program=fake("exit 77"))
@@ -102,9 +116,12 @@ def test_a_killed_program(kill, fake):
     assert raised.value.signal == signal.SIGKILL
 
 
-def test_a_program_that_takes_too_long(fake):
+@pytest.mark.parametrize("script", ["exec sleep 60", "sleep 6; exit 0"], ids=["itself", "below a shell"])
+def test_a_program_that_takes_too_long(script, fake):
+    begun = time.monotonic()
     with pytest.raises(program.Killed, match="longer than 0.2 seconds"):
-        program.execute(["run"], b"", program=fake("exec sleep 60"), timeout=0.2)
+        program.execute(["run"], b"", program=fake(script), timeout=0.2)
+    assert time.monotonic() - begun < 5
 
 
 def test_the_script_of_a_repository_shows_how_far_it_is(tmp_path, capfd):

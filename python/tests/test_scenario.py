@@ -50,6 +50,29 @@ def test_the_program_accepts_what_text_writes_and_read_gives_it_back(scenario):
     assert [event for event in again.script if event.frame == 0] == [event for event in scenario.script if event.frame == 0]
 
 
+def test_how_a_text_is_cut():
+    """Line ends of Windows, tabs, comments with any bytes, and no line feed at the end are read as the program reads them."""
+    given = GIVEN.replace("\n", "\r\n").replace(" ", " \t ").encode() + b"  # \xff\n\n\t\n" + b"off 1 2"
+    assert Scenario.read(given).text() == CANONICAL + "off 1 2\n"
+    assert program.execute(["run"], given) == program.execute(["run"], CANONICAL + "off 1 2\n")
+    for text in (GIVEN + "off 1 2\r", "\ufeff" + GIVEN, GIVEN + "node 3 \udcff"):
+        data = text.encode("utf-8", "surrogateescape")
+        with pytest.raises(program.Refused) as refused:
+            program.execute(["run"], data)
+        with pytest.raises(ScenarioError) as raised:
+            Scenario.read(data)
+        assert str(raised.value) == refused.value.explanation
+
+
+@pytest.mark.parametrize("text", ["sends 2\nprofile 2\n", "profile 1\ncontend 2\n", "profile 2\nsends 2\ncontend 2\n", "on 0 1\n"])
+def test_lines_that_are_misplaced(text):
+    with pytest.raises(program.Refused) as refused:
+        program.execute(["run"], text)
+    with pytest.raises(ScenarioError) as raised:
+        Scenario.read(text)
+    assert str(raised.value) == refused.value.explanation
+
+
 def test_each_line_by_its_method():
     made = (
         Scenario(frames=12, sends=3, profile=2, contend=2)
@@ -75,6 +98,7 @@ def test_periodic_packets():
     assert made.script[2:] == [Stream(0, 2, 0, 7), Put(0, 2, 0, b"\2\0\0"), Put(3, 2, 0, b"\2\0\1"), Put(5, 2, 0, b"\2\0\2")]
     puts = [event.payload for event in two(3).every(5, 1, lambda number: bytes([number] * number)).script]
     assert puts == [b"", b"\1", b"\2\2"]
+    assert [event.frame for event in two(4).every(4, 2, until=1000).script] == [0, 1, 2, 3]
     assert [event.frame for event in two(4, profile=2).every(5, 1, b"x", stream=2).script] == [0, 1, 2, 3]
 
 
@@ -150,6 +174,7 @@ def test_from_a_graph_and_back():
     back = made.graph()
     assert dict(back.nodes(data=True)) == {4: {"offset": 100, "ppm": -7, "host": 0}, 5: {"offset": 0, "ppm": 0, "host": 1}}
     assert dict(back.edges) == {(4, 5): {"prr": 0.8}, (5, 4): {"prr": 1.0}}
+    assert made.rate(4, 9, tick=5).graph().nodes[4]["ppm"] == -7
     both = Scenario.from_graph(line(3), 30, hosts=[2, 1], on=False)
     assert (both.hosts, both.links, both.script) == ({0: 2, 1: 1}, {(1, 2), (2, 1), (2, 3), (3, 2)}, [])
     with pytest.raises(ScenarioError, match="is from 1 to 200"):
@@ -263,6 +288,18 @@ def test_ids_that_part():
     made = contenders((7, 55), contend=3)
     assert deliveries(made) == 0
     assert "7 and 55 are equal modulo 48" in warned(made)[0]
+
+
+def test_who_asks_in_the_first_round():
+    """All that ask before it ask in it; a host asks nobody."""
+    made = two(40).node(18).pair(1, 18).on()
+    for node, frame in ((2, 0), (18, 5)):
+        made.stream(node, 4, frame=frame).put(node, frame=frame)
+    assert deliveries(made) == 0
+    assert "2 and 18" in warned(made)[0]
+    host = two(40).node(17).pair(1, 17).on().stream(1, 4).put(1).stream(17, 4).put(17)
+    assert deliveries(host) > 0
+    assert warned(host) == []
 
 
 def test_after_a_failover_all_ask_together():

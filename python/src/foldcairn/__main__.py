@@ -9,8 +9,11 @@ from collections.abc import Callable, Sequence
 from pathlib import Path
 from typing import TypeAlias
 
-from . import program, report
-from .scenario import Scenario, ScenarioError, ScenarioWarning
+try:
+    from . import program, report
+    from .scenario import Scenario, ScenarioError, ScenarioWarning
+except ModuleNotFoundError as error:
+    sys.exit(f"foldcairn: {sys.executable} lacks the module {error.name}; tools/setup-python.sh installs what is needed")
 
 # The type has no public name.
 Commands: TypeAlias = "argparse._SubParsersAction[argparse.ArgumentParser]"
@@ -96,7 +99,8 @@ def _add_sweep(commands: Commands) -> None:
     parser = _command(
         commands, "sweep", _sweep,
         "Runs many scenarios and writes one table as CSV: of each file of a folder, or of one file with losses drawn by each "
-        "seed. A sweep that was stopped goes on where it was if it is given the same folder of results.",
+        "seed. A sweep that was stopped goes on where it was if it is given the same folder of results; files that changed need "
+        "another one.",
     )  # fmt: skip
     parser.add_argument("path", metavar="PATH", help="a folder with files *.scenario, or a scenario with --ratios")
     parser.add_argument("--results", metavar="FOLDER", help="where results are kept as they come")

@@ -20,10 +20,11 @@ import pandas
 from numpy.typing import NDArray
 
 from . import columns, lines, program as programs, tables
-from .events import Loss
+from .events import Capture, Cut, Loss, ScriptLine
 from .scenario import Scenario, ScenarioError
 
 AnyScenario = TypeVar("AnyScenario", bound=Scenario)
+AnyEvent = TypeVar("AnyEvent", ScriptLine, Loss, Cut, Capture)
 Array = NDArray[Any]
 
 _GOLDEN = 0x9E3779B97F4A7C15
@@ -71,6 +72,10 @@ def pack(frame: Array, slot: Array, step: Array, sender: Array, receiver: Array)
 def unpack(keys: Array) -> tuple[Array, Array, Array, Array, Array]:
     """Frame, slot, step, sender and receiver of each number of `pack`."""
     return keys >> 26, (keys >> 20) & 63, (keys >> 16) & 15, (keys >> 8) & 255, keys & 255
+
+
+def _frame_of(key: int) -> int:
+    return int(key) >> 26
 
 
 def coin(seed: int, keys: Array) -> Array:
@@ -257,26 +262,45 @@ def draw(scenario: AnyScenario, seed: int, *, program: Path | None = None) -> An
     earliest is received that is not lost. Raises `TooManyLosses`, with the frame, where 20,000 script lines don't suffice,
     and what `program.execute` raises.
     """
-    head = scenario.text(warn=False)
     links = _Links(scenario)
     used_up = len(scenario.rates) + len(scenario.script) + len(scenario.losses) + len(scenario.cuts) + len(scenario.captures)
-    free = lines.SCRIPT_LINES_MOST - used_up
-    if free < 0:
-        raise TooManyLosses(0, 0)
-    drawn = numpy.empty(0, numpy.int64)
+    free = max(0, lines.SCRIPT_LINES_MOST - used_up)
+    frames, drawn = scenario.frames, numpy.empty(0, numpy.int64)
     while True:
-        text = head + "".join(loss.text() + "\n" for loss in _losses_of(drawn))
-        log = _read_log(programs.execute(["log"], text, program=program), lines.frame_ticks(scenario.profile))
-        needed = _needed(log, links, seed)
+        needed = _needed(_log(_beginning(scenario, frames), drawn, program), links, seed)
+        over = _frame_of(needed[free]) if len(needed) > free else None
         # Up to the first difference all is final, and each run settles at least one step more: so this ends.
-        if numpy.array_equal(needed[:free], drawn):
+        if not numpy.array_equal(needed[:free], drawn):
+            drawn = needed[:free]
+            # What comes long after the lines are used up need not be run: it changes nothing before.
+            frames = frames if over is None else min(frames, 2 * (over + 1))
+        elif over is not None:
+            raise TooManyLosses(over, free)
+        elif frames == scenario.frames:
             break
-        drawn = needed[:free]
-    if len(needed) > free:
-        raise TooManyLosses(int(unpack(needed[free : free + 1])[0][0]), free)
+        else:
+            frames = min(scenario.frames, 2 * frames)
     made = scenario.copy()
     made.losses.extend(_losses_of(drawn))
     return made
+
+
+def _log(scenario: Scenario, drawn: Array, program: Path | None) -> _Log:
+    """The log of a run with these further losses."""
+    text = scenario.text(warn=False) + "".join(loss.text() + "\n" for loss in _losses_of(drawn))
+    return _read_log(programs.execute(["log"], text, program=program), lines.frame_ticks(scenario.profile))
+
+
+def _beginning(scenario: AnyScenario, frames: int) -> AnyScenario:
+    """The scenario without what comes after that many frames."""
+
+    def before(events: list[AnyEvent]) -> list[AnyEvent]:
+        return [event for event in events if event.frame < frames]
+
+    return replace(
+        scenario, frames=frames, script=before(scenario.script), losses=before(scenario.losses), cuts=before(scenario.cuts),
+        captures=before(scenario.captures),
+    )  # fmt: skip
 
 
 def every_loss(scenario: Scenario, seed: int, *, slots: int = 46, steps: int = lines.STEPS) -> list[Loss]:

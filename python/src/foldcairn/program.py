@@ -255,11 +255,12 @@ def _talk(process: subprocess.Popen[bytes], data: bytes, words: Sequence[str], t
 def _end(process: subprocess.Popen[bytes]) -> None:
     """Ends a process, which may first stop what it started."""
     process.terminate()
+    # Its output is not waited for: what it started may hold the pipes open.
     try:
-        process.communicate(timeout=_GRACE_SECONDS)
+        process.wait(_GRACE_SECONDS)
     except subprocess.TimeoutExpired:
         process.kill()
-        process.communicate()
+        process.wait()
 
 
 def _raise_unless_done(words: Sequence[str], status: int, data: bytes, output: bytes, stderr: str) -> None:

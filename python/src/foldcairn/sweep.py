@@ -46,7 +46,10 @@ def grid(**values: Iterable[Any]) -> list[dict[str, Any]]:
 
 
 def files(folder: str | os.PathLike[str], pattern: str = "*.scenario") -> list[dict[str, str]]:
-    """A case `{"file": path}` for each file of the folder that fits the pattern, by name; `from_file` builds these."""
+    """A case `{"file": path}` for each file of the folder that fits the pattern, by name; `from_file` builds these.
+
+    A result is kept by the name of its file: where files change, give `sweep` another folder of results.
+    """
     return [{"file": str(path)} for path in sorted(Path(folder).glob(pattern))]
 
 
