@@ -236,7 +236,7 @@ words() {
 
 cd "$top" || exit 1
 if [ $# -eq 0 ]; then
-    set -- README.md docs/*.md docs/internals/*.md
+    set -- README.md CONTRIBUTING.md docs/*.md docs/internals/*.md docs/internals/proofs/*.md
     pictures
     listed
     calls
