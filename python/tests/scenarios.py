@@ -1,10 +1,33 @@
-"""Scenarios for tests by hypothesis: any that the program accepts, but small."""
+"""Scenarios for tests: any that the program accepts, but small, by hypothesis; and one as a planner would build it."""
 
 from __future__ import annotations
 
+import random
+
 from hypothesis import strategies as st
 
-from foldcairn.scenario import Capture, Cut, Leave, Loss, Off, On, Put, Rate, Scenario, Stream
+from foldcairn.scenario import Capture, Cut, Leave, Loss, Off, On, Put, Rate, Scenario, Stream, grid
+
+
+def planned_grid() -> Scenario:
+    """25 nodes in a grid with a ratio for each link, 20 streams with a packet every 8 to 60 s, half an hour, and a host that fails
+    after 15 minutes."""
+    chance = random.Random(1)
+    graph = grid(5, 5, diagonals=True).to_directed()
+    for sender, receiver in sorted(graph.edges):
+        straight = abs(sender - receiver) in (1, 5)
+        graph.edges[sender, receiver]["prr"] = round(chance.uniform(0.85, 1) if straight else chance.uniform(0.6, 0.9), 2)
+    for node in sorted(graph):
+        graph.nodes[node]["ppm"] = chance.randint(-20, 20)
+    for node in sorted(graph):
+        graph.nodes[node]["offset"] = chance.randint(0, 256_000)
+    scenario = Scenario.from_graph(graph, frames=360, hosts=[3, 13], profile=2, contend=4)
+    sources = chance.sample([node for node in sorted(graph) if node != 3], 20)
+    interval = {node: chance.randint(8, 60) for node in sources}
+    phase = {node: chance.random() * interval[node] for node in sources}
+    for node in sources:
+        scenario.stream(node, interval[node]).every(interval[node], node, start=phase[node])
+    return scenario.off(3, seconds=900)
 
 
 @st.composite

@@ -3,6 +3,7 @@
 from __future__ import annotations
 
 import io
+import os
 import random
 from collections import Counter
 
@@ -16,6 +17,7 @@ from hypothesis import strategies as st
 from conftest import EXAMPLES
 from foldcairn import losses, program
 from foldcairn.scenario import Loss, Scenario, ScenarioError, grid, line
+from scenarios import planned_grid
 
 # The first outputs of SplitMix64 from the state 1234567, as its reference implementation has them.
 SPLITMIX64 = [6457827717110365317, 3203168211198807973, 9817491932198370423, 4593380528125082431, 16408922859458223821]
@@ -156,6 +158,17 @@ def test_drawn_losses_make_the_run_of_all_losses_in_a_grid_of_25():
     assert receptions(drawn) == received
     assert 0 < len(drawn.losses) < len(everything.losses) / 50
     assert program.execute(["bus"], drawn.text(warn=False)) == program.execute(["bus"], everything.text(warn=False))
+
+
+def test_the_losses_of_half_an_hour_are_drawn_in_30_seconds():
+    begun = os.times()
+    drawn = losses.draw(planned_grid(), 7)
+    spent = sum(now - then for now, then in zip(os.times()[:4], begun[:4]))
+    assert spent < 30
+    assert 1_000 < len(drawn.losses) < 10_000
+    report = program.execute(["run"], drawn.text(warn=False))
+    # 1,497 packets at 24 receivers each are 35,928 deliveries at most.
+    assert 20_000 < report.count(b"deliver ") < 35_928
 
 
 @pytest.mark.parametrize("of_host", [0.5, 0.9])

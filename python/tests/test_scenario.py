@@ -15,7 +15,7 @@ from foldcairn.scenario import (
     Capture, Cut, Leave, Loss, Off, On, Put, Rate, Scenario, ScenarioError, ScenarioWarning, Stream, grid, line, random_geometric,
     star,
 )  # fmt: skip
-from scenarios import scenarios
+from scenarios import planned_grid, scenarios
 
 # The text and its canonical text of docs/SCENARIO.md.
 GIVEN = "sends 2\nnode 2 0\nnode 1 0\nhost 0 1\npair 1 2\nframes 6\non 0 1\non 0 2\n"
@@ -216,6 +216,12 @@ def warned(scenario: Scenario) -> list[str]:
         scenario.text()
     assert all(issubclass(each.category, ScenarioWarning) for each in caught)
     return [str(each.message) for each in caught]
+
+
+def test_the_warnings_of_a_planned_network():
+    contend, slack = warned(planned_grid())
+    assert contend.startswith("the ids of nodes 1 and 17, 2 and 18, 4 and 20, 8 and 24 are equal modulo 16")
+    assert "and 12 more" in slack
 
 
 def test_nothing_to_warn_of():
