@@ -196,7 +196,7 @@ def main():
         if only_open:
             lines += rows
         else:
-            lines += [f"## {crate}", "", "| call | needs | other answers | returns, and refuses | leaves |", "|---|---|---|---|---|", *rows, ""]
+            lines += [f"## {crate}", "", "| call | needs | other answers | returns, and rejects | leaves |", "|---|---|---|---|---|", *rows, ""]
     if only_open:
         print("\n".join(lines))
         print(f"{total} calls, {without} with something unsaid by shape", file=sys.stderr)

@@ -131,6 +131,8 @@ class _Streams:
             )
 
     def contend_for_ever(self) -> Iterator[str]:
+        # That two such nodes tie again after each collision is proved of the rules, for slots without losses and captures and
+        # nodes with the same neighbours (docs/GUARANTEES.md, "Where nothing is lost").
         slots = self.scenario.contention_slots
         period = math.lcm(16, slots)
         together = [

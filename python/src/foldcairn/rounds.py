@@ -50,7 +50,8 @@ def rounds(log: Log) -> pd.DataFrame:
 
 def joins(log: Log) -> pd.DataFrame:
     """When each node joined each term of a host: a row for each node, boot and term, and one with no term for a boot that
-    never joined.
+    never joined. Where a closing slot loses nothing, every node within 12 hops that takes part receives it: that is proved of
+    the rules (docs/GUARANTEES.md, "Where nothing is lost").
 
     node, boot           the node and which of its boots
     on_seconds           when that boot began
@@ -93,6 +94,8 @@ def streams(log: Log) -> pd.DataFrame:
     accepted_seconds         when the host first acknowledged one; for a stream of the host itself, when it first planned a slot
     first_slot_seconds       when the stream's first data slot in the term started by plan
     slots, packets           how many data slots it had in the term, and in how many of them a packet was sent
+    A lone request in a slot without losses within 12 hops of the host is acknowledged in the same round unless the host's table
+    is full: that is proved of the rules (docs/GUARANTEES.md, "Where nothing is lost").
     Times are missing where it never came to it. After a restart of its node a stream may still own slots that its earlier boot
     was granted; they count for the boot that has power then.
     """
