@@ -21,6 +21,8 @@ def add_commands(commands: Commands) -> None:
     """Adds the commands to those of `python3 -m foldcairn`."""
     _add_timeline(commands)
     _add_topology(commands)
+    _add_pcap(commands)
+    _add_trace(commands)
 
 
 def _command(commands: Commands, name: str, output: str, about: str) -> argparse.ArgumentParser:
@@ -80,4 +82,40 @@ def _topology(chosen: argparse.Namespace) -> int:
         tables.set_ratios(scenario, chosen.ratios)
     positions = tables.positions(chosen.places) if chosen.places else None
     plot.save(plot.topology(scenario, positions=positions, at_seconds=chosen.at), chosen.output)
+    return 0
+
+
+def _add_pcap(commands: Commands) -> None:
+    parser = _command(
+        commands, "pcap", "run.pcap",
+        "Writes each transmission of a run into a capture for Wireshark and tshark, with times in nanoseconds. It prints the "
+        "command that reads it, with the Lua script that decodes its packets.",
+    )  # fmt: skip
+    _window(parser)
+    parser.set_defaults(run=_pcap)
+
+
+def _pcap(chosen: argparse.Namespace) -> int:
+    from . import export
+
+    count = export.pcap(results.log(_read(chosen.file)), chosen.output, start_seconds=chosen.start, end_seconds=chosen.end)
+    print(f"{chosen.output}: {count} packets; read it by tshark -X lua_script:{export.dissector()} -r {chosen.output}")
+    return 0
+
+
+def _add_trace(commands: Commands) -> None:
+    parser = _command(
+        commands, "trace", "trace.json.gz",
+        "Writes a run as Chrome trace events, a track for each node, for ui.perfetto.dev or chrome://tracing. A file that ends "
+        "with .gz is compressed.",
+    )  # fmt: skip
+    _window(parser)
+    parser.set_defaults(run=_trace)
+
+
+def _trace(chosen: argparse.Namespace) -> int:
+    from . import export
+
+    count = export.trace(results.log(_read(chosen.file)), chosen.output, start_seconds=chosen.start, end_seconds=chosen.end)
+    print(f"{chosen.output}: {count} events")
     return 0
