@@ -38,7 +38,8 @@ def delivery(pairs: pd.DataFrame, *, column: str = "ratio_of_put", title: str | 
         if table.shape[1] <= _LABELS_MOST:
             for (row, place), ratio in np.ndenumerate(ratios):
                 if not np.isnan(ratio):
-                    drawn.text(place, row, _percent(ratio), ha="center", va="center", fontsize=7, color="#1f2329")
+                    ink = style.ON_LIGHT if 0.1 < ratio < 0.9 else style.ON_DARK
+                    drawn.text(place, row, _percent(ratio), ha="center", va="center", fontsize=7, color=ink)
         bar = figure.colorbar(image, ax=drawn, fraction=0.03, pad=0.01)
         bar.ax.yaxis.set_major_formatter(PercentFormatter(1))
         bar.outline.set_visible(False)

@@ -196,7 +196,7 @@ def _draw_nodes(
             x, y, "s" if node in ranks else "o", color=colour, markersize=size, markeredgewidth=2.2 if node in ranks else 0.8,
             markeredgecolor=style.PALE if node in down else style.TRANSMITS if node in ranks else _HOPS[0], zorder=3,
         )  # fmt: skip
-        ink = style.PALE if node in down else "white" if distance is not None and distance < 2 else "#1f2329"
+        ink = style.PALE if node in down else style.ON_DARK if distance is not None and distance < 2 else style.ON_LIGHT
         drawn.text(x, y, str(node), color=ink, ha="center", va="center", fontsize=0.45 * size, zorder=4)
     for rank, node in sorted(scenario.hosts.items()):
         words = f"host of rank {rank}" + (", no power" if node in down else "")

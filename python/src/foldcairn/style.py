@@ -20,6 +20,8 @@ TRANSMITS, RECEIVES, LISTENS = "#c9374c", "#2478b5", "#e3b341"
 RANKS = (LISTENS, "#3d9a6d", "#b0713c", "#7f8fa6")
 DELIVERY = "#7d4fc4"
 INK, PALE, GROUND, FAINT, OFF = "#1f2328", "#57606a", "#ffffff", "#c8ced6", "#eceff3"
+# Letters on a shape, which are the same on dark pages.
+ON_DARK, ON_LIGHT = "#fefefe", "#1f2329"
 # Purposes of radio time (`radio.PURPOSES`), in their order.
 PURPOSES = ("#c9374c", "#2478b5", "#9ec5e8", "#e08a2e", "#7d4fc4", LISTENS)
 

@@ -154,7 +154,7 @@ def _steps(drawn: Axes, table: pd.DataFrame, row: dict[int, int], point: float) 
     """The relay counter of each packet in its bar, where it has room."""
     for one in table[table["end_seconds"] - table["start_seconds"] > 9 * point].itertuples():
         middle = (one.start_seconds + one.end_seconds) / 2
-        drawn.text(middle, row[one.node], str(one.step), color="white", fontsize=7, ha="center", va="center", zorder=5)
+        drawn.text(middle, row[one.node], str(one.step), color=style.ON_DARK, fontsize=7, ha="center", va="center", zorder=5)
 
 
 def _slot_lines(drawn: Axes, log: Log, rows: int, start: float, end: float) -> float:
