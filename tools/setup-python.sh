@@ -109,6 +109,6 @@ if [ -n "$missing" ] && [ "$mode" = --optional ]; then
     missing=$(missing_programs)
 fi
 if [ -n "$missing" ]; then
-    say "optional, and missing: $missing(apt-get install $missing); tests that need them are skipped"
+    say "optional, and missing: ${missing% } (apt-get install ${missing% }); tests that need them are skipped"
     [ "$mode" != --optional ] || exit 1
 fi
