@@ -23,7 +23,7 @@ from PIL import Image
 
 CHROMIUM = shutil.which("chromium") or shutil.which("chromium-browser") or shutil.which("google-chrome")
 # How long the browser may take for one answer, or a page for what is waited for, in seconds; the machine may be busy.
-_PATIENCE = 60.0
+_PATIENCE = 240.0
 
 
 class Browser:

@@ -157,13 +157,12 @@ def test_a_timeline_of_one_slot_shows_the_steps() -> None:
     assert covered(figure) == []
 
 
-@pytest.mark.parametrize("window", ["run", "failure", "round", "slot"])
+@pytest.mark.parametrize("window", ["run", "round", "slot"])
 def test_words_do_not_cover_each_other_at_64_nodes(large: results.Log, window: str) -> None:
     slots = timing.slots(large)
     last = slots[slots["frame"] == slots["frame"].max()]
     start, end = {
         "run": (0.0, None),
-        "failure": (590.0, 720.0),
         "round": (last["start_seconds"].min(), last["end_seconds"].max()),
         "slot": (last["start_seconds"].iloc[1], last["end_seconds"].iloc[1]),
     }[window]
@@ -173,7 +172,7 @@ def test_words_do_not_cover_each_other_at_64_nodes(large: results.Log, window: s
 
 
 def test_a_timeline_of_450_frames() -> None:
-    made = Scenario.from_graph(grid(6, 6), 450, hosts=[1]).every(4, 36, interval=4)
+    made = Scenario.from_graph(grid(4, 4), 450, hosts=[1]).every(4, 16, interval=4)
     figure = plot.timeline(results.log(made))
     assert covered(figure) == []
     # The host opens a round in frame 5 and in each fourth one after it.
