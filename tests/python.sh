@@ -1,6 +1,6 @@
 #!/bin/sh
 # Runs the tests of the Python package with the program, and installs what they need where that is allowed. pytest writes how
-# many passed.
+# many passed, and which tests were skipped because a program is missing.
 # Usage: tests/python.sh PROGRAM [pytest's words ..]
 set -eu
 top=$(cd "$(dirname "$0")/.." && pwd)
@@ -11,4 +11,4 @@ shift
 "$top/tools/setup-python.sh"
 python=$("$top/tools/setup-python.sh" --print)
 cd "$top/python"
-exec "$python" -m pytest -q -p no:cacheprovider tests "$@"
+exec "$python" -m pytest -q -rs -p no:cacheprovider tests "$@"

@@ -1,16 +1,19 @@
 #!/bin/sh
 # Installs what the Python package in python/ needs: Debian's packages of pandas, networkx, matplotlib, plotly, pytest and
-# hypothesis, for Debian's /usr/bin/python3.
+# hypothesis, for Debian's /usr/bin/python3. With --optional it also installs chromium and tshark, which open the pages and the
+# captures that the package writes; tests that need one of them are skipped where it is missing, and say so.
 #
-# Usage: tools/setup-python.sh [--check | --print]
+# Usage: tools/setup-python.sh [--check | --print | --optional]
 #
 # Without a word it installs what is missing, by apt-get, as root or by sudo where sudo asks for no password. With --check it
-# installs nothing. With --print it writes the path of the first Python that has all of them (/usr/bin/python3 is tried first)
+# installs nothing, and says what is missing, also of the optional programs. With --print it writes the path of the first Python that has all of them (/usr/bin/python3 is tried first)
 # and nothing else. Status 0 if all is there at the end; 1 if something is missing, and then the missing modules and the
 # command that installs them are named on standard error; 2 for other words. Tested, not proved.
 set -u
 
 modules='pandas networkx matplotlib plotly pytest hypothesis'
+# Programs that only tests use, each the name of its Debian package too.
+programs='chromium tshark'
 debian=/usr/bin/python3
 
 say() {
@@ -40,6 +43,13 @@ complete() {
     return 1
 }
 
+# The optional programs that are not there.
+missing_programs() {
+    for program in $programs; do
+        command -v "$program" >/dev/null 2>&1 || printf '%s ' "$program"
+    done
+}
+
 # Runs a command as root, where that is allowed.
 as_root() {
     if [ "$(id -u)" -eq 0 ]; then
@@ -66,14 +76,14 @@ install_packages() {
 mode=${1:-}
 [ $# -le 1 ] || mode=unknown
 case $mode in
-    '' | --check | --print) ;;
+    '' | --check | --print | --optional) ;;
     *)
-        say "usage: tools/setup-python.sh [--check | --print]"
+        say "usage: tools/setup-python.sh [--check | --print | --optional]"
         exit 2
         ;;
 esac
 
-if ! python=$(complete) && [ -z "$mode" ]; then
+if ! python=$(complete) && { [ -z "$mode" ] || [ "$mode" = --optional ]; }; then
     packages=$(for module in $(missing_of "$debian"); do echo "python3-$module"; done)
     # The names have no spaces, and each is a word of its own.
     # shellcheck disable=SC2086
@@ -89,6 +99,17 @@ if [ -z "$python" ]; then
 fi
 if [ "$mode" = --print ]; then
     echo "$python"
-else
-    say "$python has what the package needs"
+    exit 0
+fi
+say "$python has what the package needs"
+missing=$(missing_programs)
+if [ -n "$missing" ] && [ "$mode" = --optional ]; then
+    # The names have no spaces, and each is a word of its own.
+    # shellcheck disable=SC2086
+    install_packages $missing
+    missing=$(missing_programs)
+fi
+if [ -n "$missing" ]; then
+    say "optional, and missing: ${missing% } (apt-get install ${missing% }); tests that need them are skipped"
+    [ "$mode" != --optional ] || exit 1
 fi

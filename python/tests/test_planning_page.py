@@ -2,25 +2,42 @@
 
 from __future__ import annotations
 
+import re
 import time
+from pathlib import Path
 
+import matplotlib
 import pages
 import pytest
 from conftest import REPOSITORY
 
-from foldcairn import planning
+from foldcairn import page as pages_of_runs, planning
 
 PAGE = REPOSITORY / "docs" / "PLANNING.md"
 
 
 @pytest.fixture(scope="module")
-def page() -> tuple[str, dict[str, object]]:
+def folder(tmp_path_factory: pytest.TempPathFactory) -> Path:
+    """Where the code of the page writes its pictures."""
+    return tmp_path_factory.mktemp("page")
+
+
+@pytest.fixture(scope="module")
+def page(folder: Path) -> tuple[str, dict[str, object]]:
     """The page with what its code prints now, and the names that the code makes."""
-    return pages.run(PAGE)
+    return pages.run(PAGE, folder)
 
 
 def test_the_page_shows_what_its_code_prints(page: tuple[str, dict[str, object]]) -> None:
     assert page[0].splitlines() == PAGE.read_text(encoding="utf-8").splitlines()
+
+
+def test_the_page_has_the_pictures_that_its_code_draws(page: tuple[str, dict[str, object]], folder: Path) -> None:
+    drawn = {path.name: path.read_bytes() for path in folder.iterdir()}
+    kept = {path.name: path.read_bytes() for path in pages.PICTURES.iterdir()}
+    assert set(drawn) == set(kept) == set(re.findall(r"\]\(pictures/planning/([^)]*)\)", page[0]))
+    # Other versions of matplotlib write other bytes for the same picture.
+    assert drawn == kept or not matplotlib.__version__.startswith("3.6.")
 
 
 def test_all_code_of_the_page_is_run() -> None:
@@ -39,3 +56,7 @@ def test_all_tables_of_the_network_take_at_most_5_seconds(page: tuple[str, dict[
     begun = time.process_time()
     planning.tables(page[1]["log"])
     assert time.process_time() - begun < 5
+
+
+def test_the_page_of_the_network_takes_at_most_10_megabytes(page: tuple[str, dict[str, object]]) -> None:
+    assert len(pages_of_runs.text(page[1]["log"])) < 10_000_000

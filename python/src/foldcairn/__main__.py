@@ -10,7 +10,7 @@ from pathlib import Path
 from typing import TypeAlias
 
 try:
-    from . import program, report
+    from . import outputs, program, report
     from .scenario import Scenario, ScenarioError, ScenarioWarning
 except ModuleNotFoundError as error:
     sys.exit(f"foldcairn: {sys.executable} lacks the module {error.name}; tools/setup-python.sh installs what is needed")
@@ -38,6 +38,8 @@ def main(arguments: Sequence[str] | None = None) -> int:
     try:
         status: int = chosen.run(chosen)
         return status
+    except ModuleNotFoundError as error:
+        print(f"foldcairn: the Python module {error.name} is missing; tools/setup-python.sh installs what is needed", file=sys.stderr)
     except (program.ProgramError, ScenarioError, OSError, ValueError) as error:
         print(f"foldcairn: {error}", file=sys.stderr)
     except KeyboardInterrupt:
@@ -64,13 +66,7 @@ def _with_ratios(path: str, table: str) -> Scenario:
     """The scenario of a file with the reception ratios of a table."""
     from . import tables
 
-    scenario = Scenario.read(_read(path))
-    for where, row in tables.rows(tables.table(table, "links", ("from", "to", "prr")), "links"):
-        link = tables.whole(row, "from"), tables.whole(row, "to")
-        if link not in scenario.links:
-            raise ScenarioError(f"{where}: the scenario has no link from {link[0]} to {link[1]}")
-        scenario.link(*link, float(row["prr"]))
-    return scenario
+    return tables.set_ratios(Scenario.read(_read(path)), table)
 
 
 def _add_draw(commands: Commands) -> None:
@@ -163,7 +159,7 @@ def _explain(chosen: argparse.Namespace) -> int:
     return 0
 
 
-_COMMANDS = (report.add_command, _add_draw, _add_sweep, _add_explain)
+_COMMANDS = (report.add_command, outputs.add_commands, _add_draw, _add_sweep, _add_explain)
 
 if __name__ == "__main__":
     sys.exit(main())

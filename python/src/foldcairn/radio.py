@@ -31,12 +31,12 @@ def tunings(log: Log) -> pd.DataFrame:
     frame_ticks, slot_ticks = lines.frame_ticks(log.scenario.profile), lines.slot_ticks(log.scenario.profile)
     frame, within = np.divmod(table["start_ticks"].to_numpy(), frame_ticks)
     searching = (within == 0) | (within >= _ALARM_TICKS[log.scenario.profile])
-    plans = _plans(log).reindex(pd.MultiIndex.from_arrays([frame, table["rank"]]))
+    planned = plans(log).reindex(pd.MultiIndex.from_arrays([frame, table["rank"]]))
     # Without a host the round starts with the node's own first window.
     first = table["start_ticks"].where(~searching).groupby([frame, table["node"]]).transform("min").to_numpy()
-    start = plans["start_ticks"].to_numpy()
+    start = planned["start_ticks"].to_numpy()
     slot = np.rint((table["start_ticks"].to_numpy() - np.where(np.isnan(start), first, start)) / slot_ticks)
-    owners, contending = plans["data_slots"].to_numpy(), plans["contention_slots"].to_numpy()
+    owners, contending = planned["data_slots"].to_numpy(), planned["contention_slots"].to_numpy()
     used = _used(log, frame_ticks)
     place = pd.MultiIndex.from_arrays([frame, table["rank"], slot])
     purpose = np.select(
@@ -47,9 +47,10 @@ def tunings(log: Log) -> pd.DataFrame:
     return table.assign(purpose=pd.Categorical.from_codes(purpose, categories=PURPOSES))
 
 
-def _plans(log: Log) -> pd.DataFrame:
+def plans(log: Log) -> pd.DataFrame:
     """The plan of each round by frame and rank, with its start in ticks by the host's clock: that of its opening, or, where
-    its host is gone, that of the closing that announced it, without a start."""
+    its host is gone, that of the closing that announced it, without a start: `start_ticks`, `data_slots`, `owners` (of the data
+    slots, as `packets.Schedule` has them) and `contention_slots`."""
     schedules = log.initiations[log.initiations["kind"].isin(["opening", "closing"])]
     table = pd.DataFrame(
         {
@@ -57,6 +58,7 @@ def _plans(log: Log) -> pd.DataFrame:
             "rank": schedules["rank"],
             "start_ticks": (schedules["start_ticks"] - GUARD_TICKS).where(schedules["kind"] == "opening"),
             "data_slots": [len(one.owners) for one in schedules["decoded"]],
+            "owners": [one.owners for one in schedules["decoded"]],
             "contention_slots": schedules["contention_slots"].astype("int64"),
         }
     )

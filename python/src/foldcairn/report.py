@@ -1,4 +1,4 @@
-"""The command `python3 -m foldcairn report`: all planning tables of one scenario, as text or as CSV files.
+"""The command `python3 -m foldcairn report`: all planning tables of one scenario, as text, as CSV files or as a page.
 
 Tested, not proved.
 """
@@ -13,8 +13,8 @@ import pandas as pd
 
 from . import planning, results
 
-# The tables that are shown as text: the others have a row for each packet, pair or slot.
-_SHOWN = {
+# The tables that are shown as text and on pages: the others have a row for each packet, pair or slot.
+SHOWN = {
     "hosts": "Which host serves when",
     "delivery-by-stream": "Delivery ratio by stream",
     "delivery-by-node": "Delivery ratio by receiving node",
@@ -45,24 +45,41 @@ def add_command(commands: argparse._SubParsersAction[argparse.ArgumentParser]) -
     parser.add_argument(
         "--csv", metavar="FOLDER", help="write all tables as CSV files into this folder instead, also those with a row a packet"
     )
+    parser.add_argument(
+        "--html", metavar="FILE", help="write one HTML file instead, with a timeline to zoom, pictures and the tables; it stands alone"
+    )
+    parser.add_argument("--title", default="", help="the title of the page; the name of the scenario without it")
+    parser.add_argument("--ratios", metavar="CSV", help="a table of links: from, to, prr (0 to 1), for the map of the page alone")
+    parser.add_argument("--places", metavar="CSV", help="a table of nodes: id, x, y (upwards), for the map of the page")
     parser.set_defaults(run=main)
 
 
 def main(chosen: argparse.Namespace) -> int:
     """Writes the report; gives the exit status 0. Raises what `results.log` raises, and `OSError`."""
     text = sys.stdin.buffer.read() if chosen.file == "-" else Path(chosen.file).read_bytes()
-    tables = planning.tables(results.log(text))
+    log = results.log(text)
+    if chosen.html:
+        _write_page(log, chosen)
     if chosen.csv:
-        write(tables, Path(chosen.csv))
-    else:
-        sys.stdout.write(shown(tables))
+        write(planning.tables(log), Path(chosen.csv))
+    if not chosen.csv and not chosen.html:
+        sys.stdout.write(shown(planning.tables(log)))
     return 0
+
+
+def _write_page(log: results.Log, chosen: argparse.Namespace) -> None:
+    from . import page, tables
+
+    if chosen.ratios:
+        tables.set_ratios(log.scenario, chosen.ratios)
+    positions = tables.positions(chosen.places) if chosen.places else None
+    page.write(log, chosen.html, title=chosen.title or Path(chosen.file).stem, positions=positions)
 
 
 def shown(tables: dict[str, pd.DataFrame]) -> str:
     """The tables as text, each below its title."""
     pieces = []
-    for name, title in _SHOWN.items():
+    for name, title in SHOWN.items():
         table = tables[name]
         lines = table.to_string(index=False, float_format=lambda number: f"{number:.3f}", na_rep="-") if len(table) else "none"
         pieces.append(f"{title}\n\n{lines}\n")

@@ -80,3 +80,27 @@ def _add_stream(scenario: Scenario, row: Mapping[str, Any]) -> None:
     scenario.stream(node, whole(row, "interval"), stream=stream, seconds=start)
     if "every" in row:
         scenario.every(float(row["every"]), node, stream=stream, start=start, until=row.get("until"))
+
+
+def set_ratios(scenario: AnyScenario, links: Any) -> AnyScenario:
+    """Gives the links of a scenario the ratios of a table (`from`, `to`, `prr`), a DataFrame or the path of a CSV file.
+
+    Raises `ScenarioError` where a column is missing, the scenario has no such link, or a ratio is not from 0 to 1.
+    """
+    from .scenario import ScenarioError
+
+    for where, row in rows(table(links, "links", ("from", "to", "prr")), "links"):
+        link = whole(row, "from"), whole(row, "to")
+        if link not in scenario.links:
+            raise ScenarioError(f"{where}: the scenario has no link from {link[0]} to {link[1]}")
+        scenario.link(*link, float(row["prr"]))
+    return scenario
+
+
+def positions(nodes: Any) -> dict[int, tuple[float, float]]:
+    """The places of nodes of a table (`id`, `x`, `y`), a DataFrame or the path of a CSV file.
+
+    Raises `ScenarioError` where a column is missing.
+    """
+    read = rows(table(nodes, "nodes", ("id", "x", "y")), "nodes")
+    return {whole(row, "id"): (float(row["x"]), float(row["y"])) for _, row in read}

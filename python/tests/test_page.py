@@ -1,0 +1,162 @@
+"""The page of a run: what is in it, and what a browser makes of it, where Chromium is there."""
+
+from __future__ import annotations
+
+import base64
+import gzip
+import json
+import re
+from collections.abc import Iterator
+from pathlib import Path
+
+import numpy as np
+import pytest
+from browser import CHROMIUM, Browser
+from networks import FAILOVER
+
+from foldcairn import page, results
+from foldcairn.__main__ import main
+from foldcairn.scenario import Scenario
+
+needs_chromium = pytest.mark.skipif(
+    CHROMIUM is None, reason="chromium is missing; tools/setup-python.sh --optional installs it (apt-get install chromium)"
+)
+
+
+@pytest.fixture(scope="module")
+def log() -> results.Log:
+    return results.log(FAILOVER)
+
+
+@pytest.fixture(scope="module")
+def text(log: results.Log) -> str:
+    return page.text(log, title="failover")
+
+
+def unpacked(text: str, name: str) -> str:
+    found = re.search(f'<script type="application/gzip" id="{name}">([^<]*)</script>', text)
+    assert found
+    return gzip.decompress(base64.b64decode(found[1])).decode()
+
+
+@pytest.fixture(scope="module")
+def browser(tmp_path_factory: pytest.TempPathFactory) -> Iterator[Browser]:
+    with Browser(tmp_path_factory.mktemp("chromium")) as started:
+        yield started
+
+
+@pytest.fixture(scope="module")
+def address(text: str, tmp_path_factory: pytest.TempPathFactory) -> str:
+    path = tmp_path_factory.mktemp("page") / "page.html"
+    path.write_text(text)
+    return path.as_uri()
+
+
+def message(browser: Browser) -> str:
+    """What the page says below the timeline."""
+    return str(browser.evaluate("document.getElementById('message').textContent"))
+
+
+def words(browser: Browser, kind: str) -> list[str]:
+    """The words of the timeline of one kind: the steps, or the names of slots."""
+    return list(browser.evaluate(f"[...document.querySelectorAll('#timeline {kind}')].map((one) => one.textContent)"))
+
+
+def near(picture: np.ndarray, colour: str) -> int:
+    """How many pixels have about this colour."""
+    wanted = [int(colour[at : at + 2], 16) for at in (1, 3, 5)]
+    return int((np.abs(picture - wanted).max(axis=2) < 6).sum())
+
+
+def test_a_page_stands_alone(log: results.Log, text: str) -> None:
+    assert "<h1>failover</h1>" in text
+    # Nothing is loaded: no address is in it.
+    visible = re.sub(r'<script type="application/gzip".*?</script>|src="data:[^"]*"', "", text, flags=re.DOTALL)
+    assert not re.findall(r"""(?:src|href)=["'](?!#)|url\(|@import|fetch\(|XMLHttpRequest|https?://""", visible)
+    assert text.count('id="plotly-script"') == 1 and len(text) < 5_000_000
+    assert unpacked(text, "scenario") == log.scenario.text(warn=False)
+
+
+def test_what_the_timeline_has(log: results.Log, text: str) -> None:
+    run = json.loads(unpacked(text, "run"))
+    assert run["nodes"] == [1, 2, 3] and run["seconds"] == 128
+    for name, table in (("transmissions", log.transmissions), ("receptions", log.receptions)):
+        bars = run[name]
+        assert np.cumsum(bars["start"]).tolist() == table["start_ticks"].tolist()
+        assert bars["length"] == (table["end_ticks"] - table["start_ticks"]).tolist()
+        assert [run["nodes"][place] for place in bars["node"]] == table["node"].tolist()
+        assert [run["steps"][packet] for packet in bars["packet"]] == table["step"].tolist()
+    first = run["packets"][run["transmissions"]["packet"][0]]
+    assert first == "opening, 0 data slots, 0 acknowledged, slot 0, step 0"
+    names = [trace["name"] for trace in json.loads(unpacked(text, "figure"))["data"]]
+    assert names == ["no power", "radio on, channel of rank 0", "radio on, channel of rank 1", "opens a round"]
+
+
+def test_a_run_with_nothing_to_show() -> None:
+    made = Scenario(8, nodes={1: 0, 2: 0}, hosts={0: 1})
+    told = page.text(results.log(made), title="<b>")
+    assert "the table has no rows" in told and "<h1>&lt;b&gt;</h1>" in told
+
+
+def test_the_command_writes_the_same_page_each_time(text: str, tmp_path: Path, capsys: pytest.CaptureFixture[str]) -> None:
+    path, written = tmp_path / "failover.scenario", tmp_path / "report.html"
+    path.write_text(FAILOVER)
+    assert main(["report", str(path), "--html", str(written), "--csv", str(tmp_path / "tables")]) == 0
+    assert capsys.readouterr().out == "" and written.read_text() == text
+    assert (tmp_path / "tables" / "packets.csv").is_file()
+
+
+STEPS = "4 transmissions, 3 receptions, 7 steps shown"
+
+
+@needs_chromium
+def test_a_browser_shows_the_whole_run(browser: Browser, address: str) -> None:
+    browser.open(address)
+    assert message(browser) == "From 0.0000 s to 128.0000 s, 3 nodes"
+    picture = browser.picture()
+    assert min(near(picture, colour) for colour in ("#e3b341", "#3d9a6d")) > 500 and near(picture, "#c9374c") > 20
+    # All pictures are there, and the scenario can be saved.
+    assert browser.evaluate("[...document.images].every((image) => image.complete && image.naturalWidth > 300)")
+    assert browser.evaluate("fetch(document.getElementById('save').href).then((answer) => answer.text())") == Scenario.read(
+        FAILOVER
+    ).text(warn=False)
+    assert browser.console == []
+
+
+@needs_chromium
+def test_zooming_to_one_slot_shows_the_steps(browser: Browser, address: str) -> None:
+    # Slot 1 of the round at 37 s, in which the host is gone: node 3 transmits in steps 0 and 2, node 2 in 1 and 3.
+    browser.open(address + "#from=37.033&to=37.041")
+    assert message(browser).endswith(STEPS)
+    assert sorted(words(browser, ".textpoint")) == ["0", "0", "1", "1", "2", "2", "3"]
+    assert "slot 1: data 3.0" in words(browser, ".annotation")
+    picture = browser.picture()
+    assert min(near(picture, colour) for colour in ("#e3b341", "#2478b5", "#c9374c")) > 500
+    assert browser.console == []
+
+
+@needs_chromium
+def test_zooming_with_the_mouse(browser: Browser, address: str) -> None:
+    browser.open(address)
+    area = "document.querySelector('#timeline .nsewdrag').getBoundingClientRect()"
+    left, top, width, height = browser.evaluate(f"(({{x, y, width, height}}) => [x, y, width, height])({area})")
+
+    def at(share: float) -> tuple[float, float]:
+        return left + share * width, top + height / 2
+
+    # From the run to 10 s around the round at 37 s, and from there to a part in which slot 1 is.
+    browser.drag(at(32 / 128), at(42 / 128))
+    browser.wait("document.getElementById('message').textContent.includes('transmissions')")
+    start, end = (float(number) for number in re.findall(r"[\d.]+(?= s)", message(browser))[:2])
+    assert start == pytest.approx(32, abs=0.3) and end == pytest.approx(42, abs=0.3)
+    browser.evaluate("Plotly.relayout('timeline', {'xaxis.range[0]': 37.033, 'xaxis.range[1]': 37.041}).then(() => 0)")
+    browser.wait(f"document.getElementById('message').textContent.endsWith({STEPS!r})")
+    assert browser.evaluate("location.hash") == "#from=37.033&to=37.041"
+    browser.evaluate("document.getElementById('slot-on').click()")
+    browser.wait("document.getElementById('message').textContent.startsWith('From 37.0320')")
+    browser.evaluate("document.getElementById('on').click()")
+    browser.wait("document.getElementById('message').textContent.startsWith('From 36.9990')")
+    browser.evaluate("document.getElementById('whole').click()")
+    browser.wait("document.getElementById('message').textContent.startsWith('From 0.0000 s to 128.0000 s')")
+    assert browser.console == []
+

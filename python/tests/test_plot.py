@@ -1,0 +1,274 @@
+"""Pictures: what they are drawn from by hand-worked runs, that their words do not cover each other, and their files.
+
+A picture is judged by eyes; these tests say that what is drawn is what it should be, and is where it can be read.
+"""
+
+from __future__ import annotations
+
+import math
+from itertools import combinations
+from pathlib import Path
+
+import numpy as np
+import pandas as pd
+import pytest
+from matplotlib.backends.backend_agg import FigureCanvasAgg
+from matplotlib.figure import Figure
+from matplotlib.text import Text
+from networks import CONTENDERS, FAILOVER, LINE
+from PIL import Image
+
+from conftest import EXAMPLES
+from foldcairn import planning, plot, results, timing
+from foldcairn.__main__ import main
+from foldcairn.scenario import Scenario, grid, random_geometric, star
+
+LEGEND = {"no power", "radio on, channel of rank 0", "radio on, channel of rank 1", "opens a round", "delivers packets"}
+
+
+@pytest.fixture(scope="module")
+def failover() -> results.Log:
+    return results.log(FAILOVER)
+
+
+@pytest.fixture(scope="module")
+def large() -> results.Log:
+    """64 nodes in 256 frames of profile 2, as many as a scenario may have; the host fails in the middle."""
+    made = Scenario.from_graph(grid(8, 8), 256, hosts=[1, 28], profile=2, contend=3).off(1, frame=120)
+    for node in (8, 57, 64):
+        made.every(20, node, start=30, interval=15)
+    return results.log(made)
+
+
+def words(figure: Figure) -> list[str]:
+    """All words of a picture that are seen; those of scales come with drawing."""
+    FigureCanvasAgg(figure).draw()
+    return [text.get_text() for text in figure.findobj(Text) if text.get_visible() and text.get_text()]
+
+
+def covered(figure: Figure) -> list[tuple[str, str]]:
+    """Which words of a picture cover others."""
+    FigureCanvasAgg(figure).draw()
+    texts = [text for text in figure.findobj(Text) if text.get_visible() and text.get_text()]
+    boxes = [(text.get_text(), text.get_window_extent()) for text in texts]
+    # Marks of an axis that lie beyond its limits are not drawn.
+    inside = [(word, box) for word, box in boxes if figure.bbox.overlaps(box)]
+    smaller = [(word, box.shrunk(0.98, 0.9)) for word, box in inside]
+    return [(one, other) for (one, box), (other, place) in combinations(smaller, 2) if box.overlaps(place)]
+
+
+def bars(figure: Figure) -> dict[str, np.ndarray]:
+    """The bars of a timeline by what they mean: a row for each with its start, its end and its row, rounded."""
+    drawn = figure.axes[0]
+    found = {}
+    for patch in drawn.patches:
+        corners = patch.get_path().vertices.reshape(-1, 6, 2)[:, :4]
+        ends = [corners[:, :, 0].min(1), corners[:, :, 0].max(1), corners[:, :, 1].mean(1)]
+        found[patch.get_label()] = np.stack(ends, axis=1)
+    return found
+
+
+# What pictures are drawn from.
+
+
+def test_slots_of_a_round_with_four_data_slots() -> None:
+    slots = timing.slots(results.log(LINE))
+    ours = slots[slots["frame"] == 9]
+    names = ["opening", "data 3.0", "data 3.0", "data 3.0", "data 3.0", "contention", "closing"]
+    assert ours["name"].tolist() == names
+    assert ours["start_seconds"].tolist() == pytest.approx([37 + 0.033 * slot for slot in range(7)])
+    assert ours["end_ticks"].tolist() == [37 * 64_000_000 + 2_112_000 * slot for slot in range(1, 8)]
+
+
+def test_slots_of_a_round_whose_host_has_failed(failover: results.Log) -> None:
+    slots = timing.slots(failover)
+    ours = slots[slots["frame"] == 9]
+    assert len(ours) == 7 and ours["start_seconds"].min() == 37.0 and ours["name"].tolist()[5:] == ["contention", "closing"]
+    # The round of the backup host, by its own plan, at the channel of rank 1.
+    assert set(slots.loc[slots["frame"] == 31, "rank"]) == {1}
+
+
+def test_rounds_and_searches_as_spells(failover: results.Log) -> None:
+    spells = timing.spells(failover)
+    host = spells[spells["node"] == 1]
+    # It searches in frames 0 to 4, up to its alarm, and opens the round of frame 5, until the window of its closing ends.
+    assert host["searching"].tolist() == [True, False]
+    assert host["start_seconds"].tolist() == [0.0, 21.0] and host["end_seconds"].iloc[1] == pytest.approx(21.066 + 0.0031, abs=0.001)
+    backup = spells[(spells["node"] == 2) & spells["searching"]]
+    assert set(backup["rank"]) == {0, 1}
+    assert (spells["end_seconds"] > spells["start_seconds"]).all()
+
+
+def test_times_without_power(failover: results.Log) -> None:
+    assert timing.pauses(failover).values.tolist() == [[1, 24.0, 128.0]]
+    made = Scenario(10, nodes={1: 0, 2: 0}, hosts={0: 1}).on(1).on(2, frame=3).off(2, frame=5).on(2, frame=6)
+    assert timing.pauses(results.log(made)).values.tolist() == [[2, 0.0, 12.0], [2, 20.0, 24.0]]
+
+
+def test_hops() -> None:
+    line = Scenario.read(LINE)
+    assert plot.hops(line) == {1: 0, 2: 1, 3: 2}
+    assert plot.hops(line, failed=[(2, 3)]) == {1: 0, 2: 1}
+    assert plot.hops(line.copy().link(1, 2, 0.0)) == {1: 0}
+    # Without node 1 the backup host counts, and the nodes that no host reaches are missing.
+    failed = Scenario.read(FAILOVER)
+    assert plot.hops(failed, at_seconds=23.9) == {1: 0, 2: 1, 3: 1}
+    assert plot.hops(failed, at_seconds=24.0) == {2: 0, 3: 1}
+    assert plot.hops(Scenario(4, nodes={1: 0, 2: 0})) == {}
+
+
+def test_places_are_apart_and_the_same_each_time() -> None:
+    for graph in (grid(5, 5, diagonals=True), star(40), random_geometric(64, 0.2, 3), grid(1, 2)):
+        made = Scenario.from_graph(graph, 10)
+        laid = plot.places(made)
+        assert set(laid) == set(graph) and laid == plot.places(made)
+        assert min(math.dist(one, other) for one, other in combinations(laid.values(), 2)) > 0.3
+        if len(graph) == 25:
+            # Corners of the grid are further from each other than their neighbours.
+            assert math.dist(laid[1], laid[25]) > 3 * math.dist(laid[1], laid[2])
+
+
+# Pictures of runs.
+
+
+def test_a_timeline_of_rounds(failover: results.Log) -> None:
+    figure = plot.timeline(failover)
+    assert LEGEND <= set(words(figure))
+    drawn = bars(figure)
+    assert drawn["no power"].tolist() == [[24.0, 128.0, 0.0]]
+    # Node 1 opens a round at 21 s, node 2, in the second row, three: at 109, and 125 s.
+    assert drawn["opens a round"][:, [0, 2]].tolist() == [[21.0, 0.0], [109.0, 1.0], [125.0, 1.0]]
+    first = drawn["radio on, channel of rank 0"]
+    assert {0.0, 21.0} <= set(first[first[:, 2] == 0][:, 0])
+    assert covered(figure) == []
+
+
+def test_a_timeline_of_one_slot_shows_the_steps() -> None:
+    log = results.log(LINE)
+    figure = plot.timeline(log, start_seconds=37.033, end_seconds=37.041, nodes=[1, 2, 3])
+    drawn = bars(figure)
+    # Node 3 transmits 1 ms into slot 1 of the round at 37 s, a packet of 9 bytes: 17 * 32 µs; node 2 receives that.
+    transmits, receives = drawn["transmits"], drawn["receives"]
+    assert transmits[transmits[:, 2] == 2][0, :2] == pytest.approx([37.034, 37.034544], abs=1e-9)
+    assert receives[receives[:, 2] == 1][0, :2] == pytest.approx([37.034, 37.034544], abs=1e-9)
+    steps = [text.get_text() for text in figure.axes[0].texts if text.get_text().isdigit()]
+    # Steps 0 to 2 of three nodes: each is transmitted, and received by its neighbours.
+    assert {"0", "1", "2"} <= set(steps) and "slot 1: data 3.0" in words(figure)
+    assert covered(figure) == []
+
+
+@pytest.mark.parametrize("window", ["run", "round", "slot"])
+def test_words_do_not_cover_each_other_at_64_nodes(large: results.Log, window: str) -> None:
+    slots = timing.slots(large)
+    last = slots[slots["frame"] == slots["frame"].max()]
+    start, end = {
+        "run": (0.0, None),
+        "round": (last["start_seconds"].min(), last["end_seconds"].max()),
+        "slot": (last["start_seconds"].iloc[1], last["end_seconds"].iloc[1]),
+    }[window]
+    figure = plot.timeline(large, start_seconds=start, end_seconds=end)
+    assert covered(figure) == []
+    assert sum(word.startswith(("node", "host")) for word in words(figure)) == 64
+
+
+def test_a_timeline_of_450_frames() -> None:
+    made = Scenario.from_graph(grid(4, 4), 450, hosts=[1]).every(4, 16, interval=4)
+    figure = plot.timeline(results.log(made))
+    assert covered(figure) == []
+    # The host opens a round in frame 5 and in each fourth one after it.
+    opened = bars(figure)["opens a round"]
+    assert len(opened) == 112 and (opened[:, 1] - opened[:, 0] > 2).all()
+
+
+def test_a_window_that_is_none(failover: results.Log) -> None:
+    for start, end in ((-1.0, 4.0), (4.0, 4.0), (0.0, 128.5)):
+        with pytest.raises(ValueError, match="from 0 to 128 s"):
+            plot.timeline(failover, start_seconds=start, end_seconds=end)
+    with pytest.raises(ValueError, match="no node 9"):
+        plot.timeline(failover, nodes=[1, 9])
+
+
+# Maps and charts.
+
+
+def test_a_map_of_a_network_with_a_failure() -> None:
+    made = Scenario.from_graph(grid(3, 3), 40, hosts=[1, 5]).off(1, frame=20).link(1, 9)
+    made.link(2, 3, 0.9).link(8, 9, 0.4).link(4, 7, 0.0)
+    figure = plot.topology(made, at_seconds=90.0, failed=[(5, 6)])
+    shown = set(words(figure))
+    assert {"link of 85 to 95 %", "link below 50 %", "failed link", "no power", "host of rank 0, no power"} <= shown
+    assert {"the host: 0 hops", "1 hop", "2 hops", "3 hops"} <= shown and covered(figure) == []
+    with pytest.raises(ValueError, match="no link from 1 to 3"):
+        plot.topology(made, failed=[(1, 3)])
+    with pytest.raises(ValueError, match="node 2 has no place"):
+        plot.topology(made, positions={node: (node, 0) for node in made.nodes if node != 2})
+    with pytest.raises(ValueError, match="no nodes"):
+        plot.topology(Scenario(4))
+
+
+def test_a_map_of_64_nodes_can_be_read() -> None:
+    made = Scenario.from_graph(random_geometric(64, 0.2, 3), 10, hosts=[1])
+    figure = plot.topology(made)
+    ids = {str(node) for node in made.nodes}
+    assert not [pair for pair in covered(figure) if set(pair) <= ids]
+
+
+def test_charts_of_tables(failover: results.Log) -> None:
+    pairs = planning.delivery_ratio(failover, "pair")
+    delivery = plot.delivery(pairs)
+    # Node 1 is off when the two packets of node 3 are sent, node 2 has both.
+    assert {"0", "100", "3.0"} <= set(words(delivery))
+    cells = delivery.axes[0].images[0].get_array()
+    assert cells.tolist() == [[0.0, 1.0]]
+    latency = plot.latency(planning.latencies(failover))
+    assert "3.0" in words(latency)
+    energy = plot.energy(planning.radio_time(failover))
+    assert set(planning.radio_time(failover).columns[:-1]) <= set(words(energy))
+    outages = plot.outages(planning.outages(failover, "stream"))
+    assert {"88 s", "the host loses power", "first round of the new host"} <= set(words(outages))
+    for figure in (delivery, latency, energy, outages):
+        assert covered(figure) == []
+
+
+def test_tables_that_cannot_be_drawn(failover: results.Log) -> None:
+    for draw in (plot.delivery, plot.latency, plot.energy, plot.outages):
+        with pytest.raises(ValueError, match="no column"):
+            draw(pd.DataFrame({"frame": [1]}))
+    with pytest.raises(ValueError, match="no rows"):
+        plot.outages(planning.outages(results.log(LINE), "stream"))
+    with pytest.raises(ValueError, match="no rows"):
+        plot.latency(planning.latencies(results.log(CONTENDERS)).iloc[:0])
+
+
+def test_a_stream_that_is_never_delivered_again() -> None:
+    table = planning.outages(results.log(FAILOVER.replace("put 20 3 0 bb", "off 20 3")), "stream")
+    assert "never again" in words(plot.outages(table))
+
+
+# Files.
+
+
+def test_the_same_picture_gives_the_same_bytes(failover: results.Log, tmp_path: Path) -> None:
+    for ending in ("svg", "png"):
+        files = [plot.save(plot.timeline(failover), tmp_path / f"{name}.{ending}").read_bytes() for name in ("one", "two")]
+        assert files[0] == files[1]
+    text = (tmp_path / "one.svg").read_text()
+    assert "prefers-color-scheme: dark" in text and 'fill: #0d1117' in text and "<text" in text
+    assert len(text) < 60_000
+    with pytest.raises(ValueError, match="svg, png or pdf, not txt"):
+        plot.save(plot.timeline(failover), tmp_path / "one.txt")
+
+
+def test_the_commands(tmp_path: Path, capsys: pytest.CaptureFixture[str]) -> None:
+    path = EXAMPLES / "packets-along-a-line.scenario"
+    ratios, places, output = tmp_path / "ratios.csv", tmp_path / "places.csv", tmp_path / "map.png"
+    ratios.write_text("from,to,prr\n1,2,0.6\n")
+    places.write_text("id,x,y\n1,0,0\n2,1,0\n3,2,0\n4,3,0\n")
+    assert main(["topology", str(path), "--ratios", str(ratios), "--places", str(places), "--at", "8", "-o", str(output)]) == 0
+    width, height = Image.open(output).size
+    assert width > height > 100
+    picture = tmp_path / "run.svg"
+    assert main(["timeline", str(path), "--from", "37.03", "--to", "37.05", "--nodes", "3,4", "-o", str(picture)]) == 0
+    assert "slot 1" in picture.read_text()
+    assert main(["timeline", str(path), "--from", "9999", "-o", str(picture)]) == 1
+    assert "the window from 9999.0" in capsys.readouterr().err
