@@ -6,9 +6,10 @@
 # Usage: tools/setup-python.sh [--check | --print | --optional]
 #
 # Without a word it installs what is missing, by apt-get, as root or by sudo where sudo asks for no password. With --check it
-# installs nothing, and says what is missing, also of the optional programs. With --print it writes the path of the first Python that has all of them (/usr/bin/python3 is tried first)
-# and nothing else. Status 0 if all is there at the end; 1 if something is missing, and then the missing modules and the
-# command that installs them are named on standard error; 2 for other words. Tested, not proved.
+# installs nothing, and says what is missing, also of the optional programs. With --print it writes the path of the first
+# Python that has all of them (/usr/bin/python3 is tried first) and nothing else. Status 0 if all is there at the end; 1 if
+# something is missing, and then the missing modules and the command that installs them are named on standard error; 2 for
+# other words. Tested, not proved.
 set -u
 
 modules='pandas networkx matplotlib plotly pytest hypothesis'
