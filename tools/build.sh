@@ -86,7 +86,7 @@ mkdir -p "$out" && : >"$log" || exit 126
 trap stopped INT TERM HUP
 needed=$(needed)
 jobs=$(at_once)
-say "proving and building the program with $jobs jobs: from nothing about 25 minutes on 4 cores, 45 on 2; 7 GB of memory, 7 GB of disk"
+say "proving and building the program with $jobs jobs: from nothing about 40 minutes on 4 cores and an hour on 2; 7 GB of memory, 7 GB of disk"
 # One crate after another, each with all jobs. The built program is run once on the input that is stored beside it, so
 # status 0 says that it is there.
 (cd "$top/crates/foldcairn" && exec rt run --jobs "$jobs" -- flood) >>"$log" 2>&1 <"$top/crates/foldcairn/stdin" &
