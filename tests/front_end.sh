@@ -1,3 +1,4 @@
+#!/usr/bin/env bash
 # The front end ./foldcairn, in a copy of the repository without the toolchain on the PATH: that it runs the stored program
 # where this is the one of the copy's sources and no other, what it says where a call fails, and that what it writes on its
 # standard output is what the program writes. For tests/program.sh, which has says, ends, line and base.
