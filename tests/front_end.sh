@@ -72,7 +72,7 @@ front_end_sentences() {
     explains "a folder named" 2 "$usage" "is a folder"
     front run a b
     explains "two words" 2 "$usage" "one file at most"
-    front runs
+    front runs < <(sleep 2)
     explains "no command" 2 "$usage" "'runs' is no command"
     front demo 07 2 1
     explains "a seed with a leading zero" 2 "$usage" "the seed '07'"
