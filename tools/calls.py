@@ -131,7 +131,7 @@ def answers(result):
 
 def promised(clauses, wanted):
     """The promises that are wanted, each behind its name."""
-    return "<br>".join((f"{label}: " if label else "") + f"`{words}`"
+    return "<br>".join((f"`{label}`: " if label else "") + f"`{words}`"
                        for kind, label, words in clauses if kind == "ensures" and wanted(words))
 
 
