@@ -44,7 +44,14 @@ meaning() {
         BadNumber) echo "a number has a sign, a leading zero, another character or more than 13 digits" ;;
         Range) echo "a number or a payload is out of its range, or two ids that must differ are equal" ;;
         UnknownNode) echo "no line above it gives this node" ;;
-        Order) echo "it comes too early or too late: sort such lines by frame or tick, and put lines that set the frames first" ;;
+        Order)
+            case $word in
+                profile | contend) echo "'profile' is the first line, and 'contend' comes right after 'profile 2'" ;;
+                host) echo "hosts are given from rank 0 on, without a gap" ;;
+                rate) echo "its tick is not above that of the node's last rate, or it comes before the line 'frames'" ;;
+                *) echo "its frame is below that of a script line above it, or it comes before the line 'frames'" ;;
+            esac
+            ;;
         Twice) echo "a line above it gives this already" ;;
         TooMany) echo "there are too many such lines: 64 nodes, 20,000 script lines, 200 power-ons of a node" ;;
         Missing) echo "at the end of the text a line is missing" ;;

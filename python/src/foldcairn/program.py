@@ -6,6 +6,7 @@ output is passed on byte by byte. Tested, not proved.
 
 from __future__ import annotations
 
+import functools
 import os
 import re
 import shutil
@@ -233,10 +234,18 @@ def _started(words: Sequence[str], program: Path | None, stdout: int | IO[bytes]
         raise NotFound(f"the program {path} can't be run: {error.strerror}", words) from error
 
 
+@functools.lru_cache
 def _is_to_be_built(path: Path) -> bool:
-    """Whether this is the script of a repository, and the program that it builds is not there."""
+    """Whether this is the script of a repository that has neither built its program nor stored one of its sources."""
     folder = path.parent
-    return (folder / "crates.txt").is_file() and not (folder / "crates" / "foldcairn" / "out" / "foldcairn").is_file()
+    if not (folder / "crates.txt").is_file() or (folder / "crates" / "foldcairn" / "out" / "foldcairn").is_file():
+        return False
+    try:
+        stored = (folder / "bin" / "SOURCES").read_text().splitlines()
+        sources = subprocess.run([folder / "tools" / "sources.sh"], capture_output=True, text=True, check=True).stdout.strip()
+    except (OSError, subprocess.CalledProcessError):
+        return True
+    return f"sources {sources}" not in stored
 
 
 def _talk(process: subprocess.Popen[bytes], data: bytes, words: Sequence[str], timeout: float | None) -> tuple[bytes, str]:
