@@ -1,6 +1,6 @@
 #!/bin/sh
-# Proves and builds the program, crates/foldcairn/out/foldcairn, and says how far it is. Only the crates that the program
-# stands on are proved, without their tests. What was proved is kept if it is stopped.
+# Proves and builds the program, crates/foldcairn/out/foldcairn, and says how far it is. Crates are proved side by side as far
+# as processors and memory go, without their tests. What was proved is kept if it is stopped.
 set -u
 top=$(cd "$(dirname "$0")/.." && pwd) || exit 1
 out=$top/crates/foldcairn/out
@@ -37,8 +37,8 @@ needed() {
         }' "$top/crates.txt"
 }
 
-# How far the proofs are: the crates that are done, the functions of the one that is in work, and the minutes so far. A
-# crate that is done has a stamp.
+# How far the proofs are: the crates that are done, the functions of those that are in work, and the minutes so far. A crate
+# that is in work has a folder rlib without a stamp.
 progress() {
     crates=0
     all=0
@@ -47,9 +47,9 @@ progress() {
         all=$((all + 1))
         if [ -e "$top/crates/$crate/out/rlib/stamp" ]; then
             crates=$((crates + 1))
-        elif [ -d "$top/crates/$crate/out/incremental" ]; then
+        elif [ -d "$top/crates/$crate/out/rlib" ]; then
             functions=$(find "$top/crates/$crate/out/incremental" -name '*.Proof.oantt' 2>/dev/null | wc -l)
-            present=", $((functions)) functions of $crate"
+            present="$present, $((functions)) functions of $crate"
         fi
     done
     echo "$crates of $all crates proved$present; $((($(date +%s) - begun) / 60)) minutes"
@@ -78,6 +78,19 @@ stopped() {
     exit 130
 }
 
+# Runs a command in a folder with its output in the log, and says how far it is.
+build() {
+    folder=$1
+    shift
+    (cd "$folder" && exec "$@") >>"$log" 2>&1 <"$top/crates/foldcairn/stdin" &
+    builder=$!
+    watch
+    wait "$builder"
+    status=$?
+    builder=
+    return "$status"
+}
+
 if ! command -v rt >/dev/null 2>&1; then
     say "the Rattle toolchain is missing: its command rt is not on the PATH"
     exit 127
@@ -86,13 +99,9 @@ mkdir -p "$out" && : >"$log" || exit 126
 trap stopped INT TERM HUP
 needed=$(needed)
 jobs=$(at_once)
-say "proving and building the program with $jobs jobs: from nothing about 40 minutes on 4 cores and an hour on 2; 7 GB of memory, 7 GB of disk"
-# One crate after another, each with all jobs. The built program is run once on the input that is stored beside it, so
-# status 0 says that it is there.
-(cd "$top/crates/foldcairn" && exec rt run --jobs "$jobs" -- flood) >>"$log" 2>&1 <"$top/crates/foldcairn/stdin" &
-builder=$!
-watch
-if ! wait "$builder"; then
+say "proving and building the program, $jobs crates at a time: from nothing about 40 minutes on 4 cores and an hour on 2; 7 GB of memory, 7 GB of disk"
+# The built program is run once on the input that is stored beside it, so status 0 says that it is there.
+if ! build "$top" rt all check --jobs "$jobs" || ! build "$top/crates/foldcairn" rt run -- flood; then
     say "the program could not be built; the end of $log:"
     tail -n 20 "$log" >&2
     exit 126
