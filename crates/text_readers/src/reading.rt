@@ -7,7 +7,7 @@ ghost use Rattle.text_readers.specs.Reading.{after_line, Reads, Drafts};
 
 use crate::draft::Draft;
 use crate::fault::{Refusal, refuse_unless};
-use crate::words::{first_line, is_skipped, is_text, words};
+use crate::words::{first_line, is_skipped, is_text, split_words};
 use crate::{FaultKind, ParseFault};
 use std::alloc::Global;
 
@@ -38,7 +38,7 @@ pub fn read_lines<D: Draft>(alloc: Global, draft: D, bytes: &[u8]) -> Result<(D,
 fn read_line<D: Draft>(alloc: Global, draft: &mut D, line: &[u8]) -> Result<(), Refusal>
     ensures { Reads result draft.new (after_line D.after draft.old line.now) }
 {
-    let words = words(alloc, line)?;
+    let words = split_words(alloc, line)?;
     if is_skipped(&words) {
         return Ok(());
     }

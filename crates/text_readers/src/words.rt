@@ -43,7 +43,7 @@ fn is_blank(byte: u8) -> bool
 }
 
 /// The words of a line, which blanks part.
-pub fn words(alloc: Global, line: &[u8]) -> Result<Vec<&[u8]>, Memory>
+pub fn split_words(alloc: Global, line: &[u8]) -> Result<Vec<&[u8]>, Memory>
     ensures { IfOk result (λ v. map (λ w. w.now) v.items ≡ words_of line.now) }
 {
     let words = line
@@ -70,12 +70,14 @@ pub fn is_skipped(words: &[&[u8]]) -> bool
     words.is_empty() || word(words, 0).first() == Some(&b'#')
 }
 
+/// Whether the line is UTF-8.
 pub fn is_text(line: &[u8]) -> bool
     ensures { result ≡ is_utf8_of line.now }
 {
     str::from_utf8(line).is_ok()
 }
 
+/// Whether the word has these letters.
 pub fn is(word: &[u8], letters: &[u8]) -> bool
     ensures { result ≡ bytes_eq word.now letters.now }
 {

@@ -3,7 +3,7 @@ use Rattle.std.proofs.lemmas.Iterator.Consumers.{map_from_collect, YieldsList-fr
 use Rattle.std.proofs.lemmas.Iterator.Splits.{YieldsList-from_slice_split}
 use Rattle.std.specs.declared.alloc.AllocError.{AllocError}
 use Rattle.text_readers.specs.Words.{is_blank}
-use Rattle.text_readers.proofs.words.words.Goals as goal
+use Rattle.text_readers.proofs.words.split_words.Goals as goal
 
 pub returns : goal.returns
 returns c =

@@ -1,0 +1,4 @@
+mod LogTextExamples
+mod CheckedTextExamples
+mod WorkedVerdicts
+mod OneVerdict

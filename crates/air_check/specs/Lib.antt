@@ -1,0 +1,4 @@
+pub mod LogGrammar
+pub mod CheckedText
+pub mod Verdicts
+pub mod WorkedVerdicts

@@ -1,0 +1,115 @@
+-- The lines of a recorded log: what they say, and the first line that is refused.
+use Rattle.std.specs.Prelude.{ℕ, ◌+◌, ◌-◌, ◌%◌, List, [], ◌∷◌, ◌++◌, Bool, ◌&&◌, ◌||◌, ◌==◌, nat_lt, nat_le, if◌then◌else◌, Some, None, Option, option_map}
+use Rattle.std.specs.Prelude.{Ok, Err, Result, length, take, drop, codes}
+use Rattle.std.specs.Char.{is_ascii_hexdigit}
+use Rattle.std.specs.List.{list_all}
+use Rattle.std.specs.Option.{ok_or}
+use Rattle.std.specs.Str.{is_utf8}
+use Rattle.std.specs.Str.Lines.{lines}
+use Rattle.scenario_text.specs.declared.lines.NodeLine.{NodeLine}
+use Rattle.scenario_text.specs.FloodParts.{knows}
+use Rattle.scenario_text.specs.Network.{is_id}
+use Rattle.scenario_text.specs.Payloads.{hex_bytes}
+use Rattle.scenario_text.specs.ScenarioGrammar.{begins}
+use Rattle.scenario_text.specs.ScenarioParts.{ScenarioParts}
+use Rattle.text_readers.specs.Faults.{spelled, ◌>>=◌, after_lines}
+use Rattle.text_readers.specs.Words.{words, word, is_skipped, is_number, number_at, counted}
+use Rattle.text_readers.specs.declared.fault.FaultKind.{FaultKind}
+use Rattle.text_readers.specs.declared.fault.FaultKind.TheVariants.{NotUtf8, Range, UnknownNode}
+use Rattle.air_log.specs.declared.entry.Entry.{Entry}
+use Rattle.air_log.specs.declared.entry.SentEntry.{SentEntry}
+use Rattle.air_log.specs.declared.entry.HeardEntry.{HeardEntry}
+use Rattle.air_log.specs.declared.entry.TunedEntry.{TunedEntry}
+use Rattle.air_log.specs.declared.entry.Entry.TheVariants as entry
+use Rattle.air_check.specs.declared.line.LogLine.{LogLine}
+use Rattle.air_check.specs.declared.line.LogLine.TheVariants.{Sent, Heard, Tuned}
+
+-- the words begin a line of a report, which is skipped whatever it holds
+abbrev pub is_report : List (List ℕ) → Bool
+is_report ws = begins ws (codes "deliver") || (begins ws (codes "drop") || begins ws (codes "energy"))
+
+-- an even count of hexadecimal digits of either case
+abbrev pub is_hex : List ℕ → Bool
+is_hex w = list_all is_ascii_hexdigit w && (length w % 2 == 0)
+
+-- the packet that the digits spell, if it has 3 to 125 bytes
+abbrev pub packet_of : List ℕ → Option (List ℕ)
+packet_of bytes = if nat_le 3 (length bytes) && nat_le (length bytes) 125 then Some bytes else None
+
+-- the words before the packet, and the packet, which is the last word
+abbrev pub front : List (List ℕ) → List (List ℕ)
+front ws = take (length ws - 1) ws
+
+abbrev pub last_word : List (List ℕ) → List ℕ
+last_word ws = word ws (length ws - 1)
+
+-- what the words of a line say that ends with a packet
+unfoldable pub sent_line : List (List ℕ) → Option LogLine
+sent_line ws =
+    let ns = front ws in
+    if is_hex (last_word ws)
+    then counted 5 ns (Sent (number_at ns 1) (number_at ns 2) (number_at ns 3) (number_at ns 4) (packet_of (hex_bytes (last_word ws))))
+    else None
+
+unfoldable pub heard_line : List (List ℕ) → Option LogLine
+heard_line ws =
+    let ns = front ws in
+    if is_hex (last_word ws)
+    then counted 6 ns
+    (Heard (number_at ns 1) (number_at ns 2) (number_at ns 3) (number_at ns 4) (number_at ns 5) (packet_of (hex_bytes (last_word ws))))
+    else None
+
+-- what the words say, if they are those of a line
+unfoldable pub log_line : List (List ℕ) → Option LogLine
+log_line ws =
+    if begins ws (codes "sent") then sent_line ws
+    else if begins ws (codes "heard") then heard_line ws
+    else if begins ws (codes "tuned") then counted 5 ws (Tuned (number_at ws 1) (number_at ws 2) (number_at ws 3) (number_at ws 4))
+    else None
+
+-- the numbers of the line are spelled right
+abbrev pub log_numbers : LogLine → List (List ℕ) → Bool
+log_numbers (Sent r v a b p) ws = list_all is_number (drop 1 (front ws))
+log_numbers (Heard r v u a b p) ws = list_all is_number (drop 1 (front ws))
+log_numbers (Tuned r v a b) ws = list_all is_number (drop 1 ws)
+
+-- the entry of a line whose numbers and packet are in their ranges: it ends after its start
+abbrev pub sent_of : ℕ → ℕ → ℕ → ℕ → Option (List ℕ) → Option SentEntry
+sent_of r v a b None = None
+sent_of r v a b (Some p) = if nat_le r 3 && (is_id v && nat_lt a b) then Some (record { rank = r; node = v; start = a; end = b; packet = p }) else None
+
+abbrev pub heard_of : ℕ → ℕ → ℕ → ℕ → ℕ → Option (List ℕ) → Option HeardEntry
+heard_of r v u a b None = None
+heard_of r v u a b (Some p) =
+    if nat_le r 3 && (is_id v && (is_id u && nat_lt a b)) then Some (record { rank = r; node = v; from = u; start = a; end = b; packet = p }) else None
+
+abbrev pub tuned_of : ℕ → ℕ → ℕ → ℕ → Option TunedEntry
+tuned_of r v a b = if nat_le r 3 && (is_id v && nat_lt a b) then Some (record { rank = r; node = v; start = a; end = b }) else None
+
+abbrev pub entry_of : LogLine → Option Entry
+entry_of (Sent r v a b p) = option_map entry.Sent (sent_of r v a b p)
+entry_of (Heard r v u a b p) = option_map entry.Heard (heard_of r v u a b p)
+entry_of (Tuned r v a b) = option_map entry.Tuned (tuned_of r v a b)
+
+-- the ids are those of nodes
+abbrev pub knows_ids : List NodeLine → Entry → Bool
+knows_ids ns (entry.Sent x) = knows ns x.node
+knows_ids ns (entry.Heard h) = knows ns h.node && knows ns h.from
+knows_ids ns (entry.Tuned t) = knows ns t.node
+
+-- after a line of these words, or its fault
+unfoldable pub after_words : List NodeLine → List Entry → List (List ℕ) → Result (List Entry) FaultKind
+after_words ns air ws = do
+  l ← spelled (log_line ws) (λ l. log_numbers l ws)
+  e ← ok_or (entry_of l) Range
+  if knows_ids ns e then Ok (air ++ e ∷ []) else Err UnknownNode
+
+-- after a line, or its fault. A line that is skipped may hold any bytes
+unfoldable pub after_log_line : List NodeLine → List Entry → List ℕ → Result (List Entry) FaultKind
+after_log_line ns air line =
+    let ws = words line in
+    if is_report ws || is_skipped ws then Ok air else if is_utf8 line then after_words ns air ws else Err NotUtf8
+
+-- the entries that the bytes say in the order of their lines, or the first fault and its line, where `before` lines are above
+abbrev pub log_of : ScenarioParts → ℕ → List ℕ → Result (List Entry) (ℕ × FaultKind)
+log_of s before bytes = after_lines (after_log_line s.nodes) (before + 1) [] (lines bytes)

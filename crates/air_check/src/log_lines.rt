@@ -1,0 +1,79 @@
+//! The lines of a log, one after another.
+
+ghost use Rattle.std.specs.Prelude.{◌≡◌, ◌<◌, ◌^◌, length, map};
+ghost use Rattle.text_readers.specs.Faults.{Gives};
+ghost use Rattle.text_readers.specs.Reading.{Reads};
+ghost use Rattle.air_check.specs.LogGrammar.{after_words, after_log_line, is_report as is_report_of, log_of};
+
+use crate::entries::knows_ids;
+use crate::line::LogLine;
+use air_log::Air;
+use scenario_text::{NodeLine, Scenario};
+use std::alloc::Global;
+use text_readers::{
+    FaultKind, ParseFault, Refusal, first_line, is, is_skipped, is_text, refuse_unless,
+    split_words, word,
+};
+
+/// Why a log is not read: the line, counted over the whole input, and the kind, or too little memory.
+pub type LogFault = ParseFault;
+
+/// Reads the lines of a log of a scenario: lines `sent`, `heard` and `tuned` in any order, as `log` writes them, with
+/// packets in hexadecimal digits of either case. Lines of a report (`deliver`, `drop`, `energy`), empty lines and comments
+/// are skipped, whatever they hold. `before` is the number of lines above, and the entries are in the order of their lines.
+///
+/// `Line` comes exactly where a line is refused, with the first of them, counted over the whole input, and the first of
+/// these that holds of it: `NotUtf8`; `BadWord`, for another first word or count of words, or a packet with an odd count of
+/// digits or another character; `BadNumber`; `Range`, for a rank above 3, an id outside 1 to 200, an end that isn't above
+/// its start, or a packet of fewer than 3 or more than 125 bytes; `UnknownNode`, for an id that is no node of the scenario.
+pub fn parse_log(alloc: Global, s: &Scenario, bytes: &[u8], before: u32) -> Result<Air, LogFault>
+    requires few { before < 2 ^ 31 }
+    requires short { length bytes.now < 2 ^ 31 }
+    ensures { Gives result (log_of s.now before bytes.now) }
+{
+    let mut air = Air::new(alloc);
+    let mut rest = bytes;
+    let mut count = before;
+    while !rest.is_empty() {
+        let (line, others) = first_line(rest);
+        match read_line(alloc, s.nodes(), &mut air, line) {
+            Ok(()) => {}
+            Err(refusal) => return Err(refusal.in_line(count + 1)),
+        }
+        rest = others;
+        count += 1;
+    }
+    Ok(air)
+}
+
+// Goes on by one line, unless it is refused.
+#[tactic(auto, unfolding(crate::specs::LogGrammar::after_log_line))]
+fn read_line(alloc: Global, nodes: &[NodeLine], air: &mut Air, line: &[u8]) -> Result<(), Refusal>
+    ensures { Reads result air.new (after_log_line nodes.now air.old line.now) }
+{
+    let words = split_words(alloc, line)?;
+    if is_report(&words) || is_skipped(&words) {
+        return Ok(());
+    }
+    refuse_unless(is_text(line), FaultKind::NotUtf8)?;
+    add_entry(nodes, air, &words)
+}
+
+fn is_report(words: &[&[u8]]) -> bool
+    ensures { result ≡ is_report_of (map (λ w. w.now) words.now) }
+{
+    let first = word(words, 0);
+    is(first, b"deliver") || is(first, b"drop") || is(first, b"energy")
+}
+
+// Adds the entry that the words say.
+#[tactic(auto, unfolding(crate::specs::LogGrammar::after_words))]
+fn add_entry(nodes: &[NodeLine], air: &mut Air, words: &[&[u8]]) -> Result<(), Refusal>
+    ensures { Reads result air.new (after_words nodes.now air.old (map (λ w. w.now) words.now)) }
+{
+    let line = LogLine::new(words)?;
+    let entry = line.entry().ok_or(FaultKind::Range)?;
+    refuse_unless(knows_ids(nodes, &entry), FaultKind::UnknownNode)?;
+    air.push(entry)?;
+    Ok(())
+}
