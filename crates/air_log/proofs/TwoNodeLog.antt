@@ -84,15 +84,15 @@ events v = if v == 1 then Ended first_sending ∷ [] else (if v == 2 then Heard 
 abbrev scene : Scene
 scene = scene_of one two_nodes.trace two_node_log
 
-node_cases : (v : ℕ) → knows two_nodes.nodes v ≡ true → (1 ≡ v) ⊎ (2 ≡ v)
-node_cases v here =
+test_nodes : (v : ℕ) → knows two_nodes.nodes v ≡ true → (1 ≡ v) ⊎ (2 ≡ v)
+test_nodes v here =
     elim (or_cases (1 == v) _ here) [
       | inl is ↦ inl (eqb-true 1 v is)
       | inr later ↦ elim (or_cases (2 == v) _ later) [ inl is ↦ inr (eqb-true 2 v is) | inr none ↦ absurd (false≢true none) ]
     ]
 
 at_nodes : (P : ℕ → Type 0) → P 1 → P 2 → (v : ℕ) → knows two_nodes.nodes v ≡ true → P v
-at_nodes P at_one at_two v here = elim (node_cases v here) [ inl is ↦ subst P is at_one | inr is ↦ subst P is at_two ]
+at_nodes P at_one at_two v here = elim (test_nodes v here) [ inl is ↦ subst P is at_one | inr is ↦ subst P is at_two ]
 
 sent : (P : Sending → Type 0) → P first_sending → P second_sending → (x : Sending) → Contains (sendings_of two_node_log) x → P x
 sent P at_first at_second x there = elim (one_of_two first_sending second_sending x there) [ inl is ↦ subst P is at_first | inr is ↦ subst P is at_second ]

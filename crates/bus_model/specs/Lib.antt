@@ -1,9 +1,3 @@
-pub mod Flooding
-pub mod RelayPaths
-pub mod FloodOfText
-pub mod ScriptedStates
-pub mod Rounds
-pub mod Costs
-pub mod Bus
-pub mod Received
-pub mod Distances
+pub mod RoundCosts
+pub mod FrameNodes
+pub mod BusRuns

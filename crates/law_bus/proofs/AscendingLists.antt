@@ -2,7 +2,7 @@
 use Rattle.std.proofs.Common.{◌≡◌, ℕ, ◌<◌, List, [], ◌∷◌, inl, inr, Contains, refl, sym, ◌∙◌, ap, arith}
 use Rattle.std.specs.List.{AllByRecursion}
 use Rattle.air_log.proofs.Elements.{contains_cases, contains_head, contains_tail, not_in_none}
-use Rattle.bus_model.proofs.ListsInTurn.{InTurn}
+use Rattle.bus_terms.proofs.ListsInTurn.{InTurn}
 
 module _ {X : Type 0} (key : X → ℕ) where
   abbrev pub Below : X → X → Type 0

@@ -10,10 +10,10 @@ use Rattle.scenario_text.specs.declared.lines.NodeLine.{NodeLine}
 use Rattle.bus_rules.specs.Tuning.{hosts_in, holds_in}
 use Rattle.bus_rules.specs.Cores.{Core}
 use Rattle.bus_rules.specs.States.{State, StateOff, StateOn}
-use Rattle.bus_model.specs.FloodOfText.{ids}
-use Rattle.bus_model.specs.Flooding.{has}
-use Rattle.bus_model.specs.ScriptedStates.{is_on}
-use Rattle.bus_model.specs.Rounds.{plan_in, first_node, round_plan}
+use Rattle.bus_terms.specs.FloodOfText.{ids}
+use Rattle.bus_terms.specs.Flooding.{has}
+use Rattle.bus_terms.specs.ScriptedStates.{is_on}
+use Rattle.bus_terms.specs.Rounds.{plan_in, first_node, round_plan}
 use Rattle.law_bus.proofs.MembersByTune.{leads_by}
 
 -- ids of nodes are those that the scenario knows

@@ -1,9 +1,9 @@
 -- A lawful run is the bus's.
 use Rattle.std.proofs.Common.{List, sym, subst}
 use Rattle.bus_rules.specs.declared.delivery.Delivery.{Delivery}
-use Rattle.bus_model.specs.Bus.{Ordered}
-use Rattle.bus_model.proofs.OrderedDeliveries.{deliveries_in_order}
-use Rattle.bus_model.proofs.ReceivedInRounds.{received}
+use Rattle.bus_terms.specs.Bus.{Ordered}
+use Rattle.bus_terms.proofs.OrderedDeliveries.{deliveries_in_order}
+use Rattle.bus_terms.proofs.ReceivedInRounds.{received}
 use Rattle.law_safety.proofs.SafeRuns.{lawful_logs_are_safe}
 use Rattle.law_bus.proofs.BusCosts.{energies}
 use Rattle.law_bus.specs.BusRuns.{LawfulRunsAreTheBus}

@@ -19,9 +19,9 @@ use Rattle.law_trails.proofs.SentInTrails.{sent_lasts}
 use Rattle.law_safety.proofs.RunFacts.{frame_below}
 use Rattle.law_windows.specs.WindowTimes.{IsInTime}
 use Rattle.law_windows.proofs.WindowFacts.{open_in_time}
-use Rattle.bus_model.specs.ScriptedStates.{setup_in}
-use Rattle.bus_model.specs.Rounds.{opened_at, round_plan}
-use Rattle.bus_model.specs.Bus.{state_at}
+use Rattle.bus_terms.specs.ScriptedStates.{setup_in}
+use Rattle.bus_terms.specs.Rounds.{opened_at, round_plan}
+use Rattle.bus_terms.specs.Bus.{state_at}
 use Rattle.law_terms.specs.LawfulRuns.{IsLawfulRun}
 use Rattle.law_terms.specs.SlotLaws.{CoresLaw, IsAligned, IsRound, IsWindowOf, WindowsLaw, bus_before}
 use Rattle.law_terms.specs.SlotSteps.{IsFrameStart, IsSlotStart, IsSlotHeard, SlotHeardLaw}

@@ -26,7 +26,7 @@ use Rattle.law_windows.proofs.WindowFacts.{close_in_time, slots_apart}
 use Rattle.law_terms.specs.LawfulRuns.{IsLawfulRun}
 use Rattle.law_terms.specs.SlotLaws.{IsRound, HasWindow, bus_before, bus_slot}
 use Rattle.law_terms.specs.SlotSteps.{IsSlotStart}
-use Rattle.bus_model.specs.Flooding.{has}
+use Rattle.bus_terms.specs.Flooding.{has}
 use Rattle.law_bus.proofs.RoundsInTurn.{round_planned}
 use Rattle.law_bus.proofs.RunsOfLogs.{run, whole, known_by, course_of}
 use Rattle.law_bus.proofs.SlotsAtNodes.{IsThere}

@@ -13,9 +13,9 @@ use Rattle.air_log.specs.declared.entry.Entry.{Entry}
 use Rattle.air_log.specs.Trails.{setup_of}
 use Rattle.air_log.specs.WindowLogs.{WindowLog, Closing}
 use Rattle.law_windows.specs.WindowDeliveries.{at_closing}
-use Rattle.bus_model.specs.ScriptedStates.{setup_in}
-use Rattle.bus_model.specs.Rounds.{accepted_at, before_slot, closed_by, delivered_at}
-use Rattle.bus_model.specs.Bus.{state_at}
+use Rattle.bus_terms.specs.ScriptedStates.{setup_in}
+use Rattle.bus_terms.specs.Rounds.{accepted_at, before_slot, closed_by, delivered_at}
+use Rattle.bus_terms.specs.Bus.{state_at}
 use Rattle.law_terms.specs.LawfulRuns.{IsLawfulRun}
 use Rattle.law_terms.specs.SlotLaws.{IsWindowOf, bus_slot}
 use Rattle.law_terms.specs.SlotSteps.{IsSlotStart, IsSlotHeard}

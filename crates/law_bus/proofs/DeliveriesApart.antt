@@ -11,7 +11,7 @@ use Rattle.air_log.specs.LogText.{in_order}
 use Rattle.air_log.proofs.DeliveryOrder.{Before, SamePlace, is_order, neither, tied_place}
 use Rattle.air_log.proofs.Elements.{not_in_none, contains_cases, contains_head, in_filtered, filtered}
 use Rattle.air_log.proofs.StableSorts.{sorted_by_insertion}
-use Rattle.bus_model.proofs.ListsInTurn.{InTurn, in_turn_pairs}
+use Rattle.bus_terms.proofs.ListsInTurn.{InTurn, in_turn_pairs}
 
 abbrev pub Apart : Delivery → Delivery → Type 0
 Apart a b = ties comes_before a b ≡ false

@@ -22,12 +22,12 @@ use Rattle.law_windows.specs.OpenWindows.{AreApart, HasClosedBy}
 use Rattle.law_windows.specs.WindowDeliveries.{at_closing, delivered_by, delivered_in}
 use Rattle.law_windows.specs.WindowTimes.{ClosesInTime, IsInTime}
 use Rattle.law_windows.proofs.WindowFacts.{close_in_time, one_a_slot, open_in_time, windows_apart}
-use Rattle.bus_model.specs.FloodOfText.{ids}
-use Rattle.bus_model.specs.Rounds.{delivered_at, round_deliveries, round_plan, slot_deliveries, slots_of}
-use Rattle.bus_model.specs.Bus.{bus_deliveries, frames_of, ranks_of, state_at}
-use Rattle.bus_model.proofs.ListsInTurn.{InTurn, each_given, each_more, each_of_pieces, given_in_turn, pairs_in_turn, pieces_in_turn, range_in_turn}
-use Rattle.bus_model.proofs.ListsInTurn.{turn_append}
-use Rattle.bus_model.proofs.ReceivedInRounds.{ids_rise}
+use Rattle.bus_terms.specs.FloodOfText.{ids}
+use Rattle.bus_terms.specs.Rounds.{delivered_at, round_deliveries, round_plan, slot_deliveries, slots_of}
+use Rattle.bus_terms.specs.Bus.{bus_deliveries, frames_of, ranks_of, state_at}
+use Rattle.bus_terms.proofs.ListsInTurn.{InTurn, each_given, each_more, each_of_pieces, given_in_turn, pairs_in_turn, pieces_in_turn, range_in_turn}
+use Rattle.bus_terms.proofs.ListsInTurn.{turn_append}
+use Rattle.bus_terms.proofs.ReceivedInRounds.{ids_rise}
 use Rattle.law_terms.specs.LawfulRuns.{IsLawfulRun}
 use Rattle.air_log.proofs.DeliveryOrder.{Before, by_frame, by_node, by_rank, by_slot}
 use Rattle.law_bus.proofs.DeliveriesApart.{Apart, places_apart}

@@ -16,10 +16,10 @@ use Rattle.scenario_text.specs.FloodParts.{knows}
 use Rattle.air_log.specs.declared.entry.Entry.{Entry}
 use Rattle.air_log.specs.Devices.{Power, PowerOff, PowerOn, seen}
 use Rattle.law_safety.specs.SetAlarms.{rank_at}
-use Rattle.bus_model.specs.FloodOfText.{ids}
-use Rattle.bus_model.specs.Flooding.{has}
-use Rattle.bus_model.specs.Rounds.{opened_at, takes_part}
-use Rattle.bus_model.proofs.ReceivedByPaths.{of_filtered}
+use Rattle.bus_terms.specs.FloodOfText.{ids}
+use Rattle.bus_terms.specs.Flooding.{has}
+use Rattle.bus_terms.specs.Rounds.{opened_at, takes_part}
+use Rattle.bus_terms.proofs.ReceivedByPaths.{of_filtered}
 use Rattle.law_terms.specs.FrameCourses.{power_at}
 use Rattle.law_terms.specs.LawfulRuns.{IsLawfulRun}
 use Rattle.law_terms.specs.SlotLaws.{HasWindow, bus_before, bus_slot}

@@ -17,10 +17,10 @@ use Rattle.air_log.specs.Trails.{before_tick, frame_start}
 use Rattle.air_log.specs.WindowLogs.{WindowLog}
 use Rattle.law_safety.specs.SentPlans.{IsPlanned}
 use Rattle.law_safety.proofs.RunFacts.{frame_lasts}
-use Rattle.bus_model.specs.ScriptedStates.{setup_in}
-use Rattle.bus_model.specs.Rounds.{round, rounds, rank_in, after_round, round_plan}
-use Rattle.bus_model.specs.Bus.{state_at, before_frame}
-use Rattle.bus_model.proofs.OtherRanks.{IsElsewhere, slots_elsewhere}
+use Rattle.bus_terms.specs.ScriptedStates.{setup_in}
+use Rattle.bus_terms.specs.Rounds.{round, rounds, rank_in, after_round, round_plan}
+use Rattle.bus_terms.specs.Bus.{state_at, before_frame}
+use Rattle.bus_terms.proofs.OtherRanks.{IsElsewhere, slots_elsewhere}
 use Rattle.law_windows.proofs.Courses.{through_frames}
 use Rattle.law_terms.specs.LawfulRuns.{IsLawfulRun}
 use Rattle.law_terms.specs.FrameCourses.{GoesThrough, IsCourse, IsWindowIn, StaysOff, power_at, power_after}

@@ -22,15 +22,15 @@ use Rattle.law_trails.proofs.OtherCounters.{told_again}
 use Rattle.law_safety.specs.Invariant.{IsRun}
 use Rattle.law_windows.specs.WindowFloods.{said_in as said_on_air, flood_at_first, after_happening}
 use Rattle.law_windows.proofs.WindowFacts.{floods_of_windows, one_a_slot, open_by_rows}
-use Rattle.bus_model.specs.FloodOfText.{ids}
-use Rattle.bus_model.specs.Flooding.{Setting, Accepts, accepted, has}
-use Rattle.bus_model.specs.Rounds.{Slot, accepted_at, before_slot, opened_at, said_in}
-use Rattle.bus_model.specs.Rounds.{takes_part as takes_part_by}
-use Rattle.bus_model.specs.Bus.{state_at}
-use Rattle.bus_model.specs.ScriptedStates.{setup_in}
-use Rattle.bus_model.proofs.FirstHearings.{accepted_first, heard_in_time}
-use Rattle.bus_model.proofs.ReceivedByPaths.{in_whole, of_filtered}
-use Rattle.bus_model.proofs.ReceivedInRounds.{accepted_none}
+use Rattle.bus_terms.specs.FloodOfText.{ids}
+use Rattle.bus_terms.specs.Flooding.{Setting, Accepts, accepted, has}
+use Rattle.bus_terms.specs.Rounds.{Slot, accepted_at, before_slot, opened_at, said_in}
+use Rattle.bus_terms.specs.Rounds.{takes_part as takes_part_by}
+use Rattle.bus_terms.specs.Bus.{state_at}
+use Rattle.bus_terms.specs.ScriptedStates.{setup_in}
+use Rattle.bus_terms.proofs.FirstHearings.{accepted_first, heard_in_time}
+use Rattle.bus_terms.proofs.ReceivedByPaths.{in_whole, of_filtered}
+use Rattle.bus_terms.proofs.ReceivedInRounds.{accepted_none}
 use Rattle.lwb_flood.specs.FloodRun.{Run, initiates, packet, takes_part}
 use Rattle.lwb_flood.specs.FloodBySteps.{IsFloodBySteps, ended}
 use Rattle.law_terms.specs.LawfulRuns.{IsLawfulRun}
@@ -39,7 +39,7 @@ use Rattle.law_terms.specs.SlotRuns.{IsRunOf, RunsLaw}
 use Rattle.law_terms.specs.SlotSteps.{IsSlotHeard, IsSlotStart, SlotHeardLaw}
 use Rattle.law_terms.proofs.SlotSends.{accepts_same, listener, sends_same}
 use Rattle.law_bus.specs.FloodedSlots.{StartedSlotLaw}
-use Rattle.bus_model.proofs.HeardOrigins.{heard_origin}
+use Rattle.bus_terms.proofs.HeardOrigins.{heard_origin}
 use Rattle.law_bus.proofs.SayableWindows.{sayable}
 
 -- the ids of nodes

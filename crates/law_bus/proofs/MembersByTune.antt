@@ -8,7 +8,7 @@ use Rattle.bus_rules.specs.Cores.{Core, is_fresh, is_member}
 use Rattle.node_core.specs.Nodes.{Node}
 use Rattle.scenario_text.specs.ScenarioParts.{ScenarioParts}
 use Rattle.law_safety.specs.TunedNodes.{IsRoundOf, Scans}
-use Rattle.bus_model.proofs.OtherRanks.{not_member}
+use Rattle.bus_terms.proofs.OtherRanks.{not_member}
 
 abbrev pub takes_by : ℕ → ℕ → Tune → Bool → Bool
 takes_by rank f t fresh = hosts_in rank f t || holds_in rank f t || (scans rank t && fresh)

@@ -29,7 +29,7 @@ use Rattle.law_safety.proofs.RunFacts.{run_fits}
 use Rattle.law_safety.proofs.RunSendings.{of_flood}
 use Rattle.law_windows.specs.WindowTimes.{IsInTime, OpensInTime}
 use Rattle.law_windows.proofs.WindowFacts.{open_in_time}
-use Rattle.bus_model.specs.Flooding.{has}
+use Rattle.bus_terms.specs.Flooding.{has}
 use Rattle.law_terms.specs.FrameCourses.{IsWindowIn}
 use Rattle.law_terms.specs.LawfulRuns.{IsLawfulRun}
 use Rattle.law_terms.specs.SlotLaws.{IsRound, IsWindowOf, HasWindow, bus_slot}

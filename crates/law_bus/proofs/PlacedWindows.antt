@@ -15,8 +15,8 @@ use Rattle.air_log.proofs.Elements.{Distinct, contains_head, contains_tail}
 use Rattle.law_windows.specs.OpenWindows.{AreApart, HasClosedBy}
 use Rattle.law_windows.specs.WindowTimes.{IsOfSlot, IsInTime, ClosesInTime}
 use Rattle.law_windows.proofs.WindowFacts.{close_in_time, open_in_time, sends_as_called, windows_apart}
-use Rattle.bus_model.specs.Bus.{state_at}
-use Rattle.bus_model.specs.Rounds.{rank_in, round_plan}
+use Rattle.bus_terms.specs.Bus.{state_at}
+use Rattle.bus_terms.specs.Rounds.{rank_in, round_plan}
 use Rattle.law_terms.specs.LawfulRuns.{IsLawfulRun}
 use Rattle.law_terms.specs.SlotLaws.{IsAligned, IsRound}
 use Rattle.law_terms.specs.SlotSteps.{IsFrameStart, SlotHeardLaw}

@@ -23,7 +23,7 @@ use Rattle.air_log.proofs.Elements.{not_in_none}
 use Rattle.law_trails.proofs.OtherCounters.{first_place}
 use Rattle.law_windows.specs.WindowFloods.{flood_at_first, said_in}
 use Rattle.law_windows.specs.WindowParts.{SendsAt}
-use Rattle.bus_model.specs.Flooding.{has}
+use Rattle.bus_terms.specs.Flooding.{has}
 use Rattle.lwb_flood.specs.FloodRun.{Run, takes_part, counter, sending_at, begins, Relayed, HasSendings}
 use Rattle.law_terms.specs.LawfulRuns.{IsLawfulRun}
 use Rattle.law_terms.specs.SlotLaws.{IsRound, IsWindowOf, bus_slot}

@@ -16,8 +16,8 @@ use Rattle.air_log.specs.Trails.{run_end}
 use Rattle.air_log.specs.WindowLogs.{WindowLog, Closing}
 use Rattle.law_windows.proofs.WindowFacts.{open_in_time}
 use Rattle.law_safety.specs.SentPlans.{IsPlanned}
-use Rattle.bus_model.specs.Rounds.{round, round_plan, after_round, before_slot}
-use Rattle.bus_model.specs.Bus.{state_at}
+use Rattle.bus_terms.specs.Rounds.{round, round_plan, after_round, before_slot}
+use Rattle.bus_terms.specs.Bus.{state_at}
 use Rattle.law_terms.specs.LawfulRuns.{IsLawfulRun}
 use Rattle.law_terms.specs.FrameCourses.{power_at}
 use Rattle.law_terms.specs.SlotLaws.{IsRound, IsWindowOf, HasWindow, bus_before}

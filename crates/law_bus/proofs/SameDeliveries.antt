@@ -23,10 +23,10 @@ use Rattle.air_log.proofs.Elements.{contains_cases}
 use Rattle.law_safety.proofs.RunFacts.{frame_lasts}
 use Rattle.law_windows.specs.WindowDeliveries.{at_closing, delivered_by, delivered_in}
 use Rattle.law_windows.proofs.WindowFacts.{deliveries_of_windows}
-use Rattle.bus_model.specs.FloodOfText.{ids}
-use Rattle.bus_model.specs.Rounds.{delivered_at, round_deliveries, round_plan, slot_deliveries, slots_of}
-use Rattle.bus_model.specs.Bus.{bus_deliveries, bus_drops, frames_of, ranks_of, state_at}
-use Rattle.bus_model.proofs.ListsInTurn.{InTurn, pairs_in_turn, pieces_in_turn}
+use Rattle.bus_terms.specs.FloodOfText.{ids}
+use Rattle.bus_terms.specs.Rounds.{delivered_at, round_deliveries, round_plan, slot_deliveries, slots_of}
+use Rattle.bus_terms.specs.Bus.{bus_deliveries, bus_drops, frames_of, ranks_of, state_at}
+use Rattle.bus_terms.proofs.ListsInTurn.{InTurn, pairs_in_turn, pieces_in_turn}
 use Rattle.law_windows.proofs.Strangers.{at_rest_always}
 use Rattle.law_terms.specs.LawfulRuns.{IsLawfulRun}
 use Rattle.law_terms.specs.RunLaws.{AnyClocksLaw, DeliveriesLaw, DropsLaw}

@@ -9,8 +9,8 @@ use Rattle.air_log.specs.Charges.{scans_with}
 use Rattle.air_log.specs.Devices.{Power, PowerOff, PowerOn, seen}
 use Rattle.air_log.specs.Lawful.{heard_by}
 use Rattle.air_log.specs.Trails.{at_frame, tune_at, tune_of}
-use Rattle.bus_model.specs.Bus.{state_at}
-use Rattle.bus_model.specs.ScriptedStates.{is_on}
+use Rattle.bus_terms.specs.Bus.{state_at}
+use Rattle.bus_terms.specs.ScriptedStates.{is_on}
 use Rattle.law_terms.specs.SlotSteps.{SlotHeardLaw}
 use Rattle.law_bus.specs.ScannedFrames.{ScansLaw}
 use Rattle.law_bus.proofs.CoresOfWindows.{run_law}

@@ -28,7 +28,7 @@ use Rattle.law_windows.specs.WindowHistory.{HasHappened, HeardThen}
 use Rattle.law_windows.proofs.WindowFacts.{history_on_air, sends_as_called}
 use Rattle.lwb_flood.specs.FloodRun.{Run, InTime}
 use Rattle.lwb_flood.specs.Windows.{HasWindow as ListensIn, IsWindow}
-use Rattle.bus_model.specs.Flooding.{has}
+use Rattle.bus_terms.specs.Flooding.{has}
 use Rattle.law_terms.specs.LawfulRuns.{IsLawfulRun}
 use Rattle.law_terms.specs.SlotLaws.{IsRound, IsWindowOf, HasWindow, bus_slot}
 use Rattle.law_terms.specs.SlotSteps.{IsSlotStart}

@@ -14,11 +14,11 @@ use Rattle.radio_model.specs.Hearing.{frame_of, slot_of}
 use Rattle.air_log.specs.declared.entry.Entry.{Entry}
 use Rattle.air_log.specs.Charges.{step_and_length}
 use Rattle.air_log.specs.Entries.{sendings_of}
-use Rattle.bus_model.specs.Costs.{length_at}
-use Rattle.bus_model.specs.FloodOfText.{ids}
-use Rattle.bus_model.specs.Flooding.{Setting, Sends, has, moment, steps}
-use Rattle.bus_model.specs.Rounds.{Slot, said_in}
-use Rattle.bus_model.proofs.ReceivedByPaths.{of_filtered}
+use Rattle.bus_terms.specs.Costs.{length_at}
+use Rattle.bus_terms.specs.FloodOfText.{ids}
+use Rattle.bus_terms.specs.Flooding.{Setting, Sends, has, moment, steps}
+use Rattle.bus_terms.specs.Rounds.{Slot, said_in}
+use Rattle.bus_terms.proofs.ReceivedByPaths.{of_filtered}
 use Rattle.law_safety.proofs.RunSendings.{of_flood}
 use Rattle.lwb_flood.specs.FloodRun.{Run, initiates, packet}
 use Rattle.lwb_flood.specs.FloodBySteps.{IsFloodBySteps}
@@ -26,7 +26,7 @@ use Rattle.law_terms.specs.LawfulRuns.{IsLawfulRun}
 use Rattle.law_terms.specs.SlotLaws.{Says, bus_slot}
 use Rattle.law_terms.specs.SlotRuns.{IsRunOf}
 use Rattle.law_bus.proofs.RunsOfLogs.{whole}
-use Rattle.bus_model.proofs.HeardOrigins.{sent_origin}
+use Rattle.bus_terms.proofs.HeardOrigins.{sent_origin}
 use Rattle.std.specs.List.{range_with_len}
 
 pub all_steps : steps ≡ range_with_len 0 12

@@ -17,7 +17,7 @@ use Rattle.law_safety.proofs.RunSendings.{in_trail, of_flood}
 use Rattle.law_windows.specs.WindowCalls.{IsCalled}
 use Rattle.law_windows.specs.WindowTimes.{IsOfSlot}
 use Rattle.law_windows.proofs.WindowFacts.{sends_as_called}
-use Rattle.bus_model.specs.Flooding.{has}
+use Rattle.bus_terms.specs.Flooding.{has}
 use Rattle.lwb_flood.specs.FloodRun.{Run, initiates, counter, sending_at}
 use Rattle.law_terms.specs.LawfulRuns.{IsLawfulRun}
 use Rattle.law_terms.specs.SlotLaws.{IsWindowOf, bus_slot}

@@ -18,10 +18,10 @@ use Rattle.air_log.specs.NodeEvents.{Event, Heard, Ended, sending_of}
 use Rattle.air_log.specs.WindowLogs.{WindowLog, Happening}
 use Rattle.law_windows.specs.WindowEvents.{HasEvents, happening_of}
 use Rattle.law_windows.specs.WindowTimes.{IsOfSlot}
-use Rattle.bus_model.specs.Costs.{length_at, sent_by, slot_window}
-use Rattle.bus_model.specs.Flooding.{moment, steps}
-use Rattle.bus_model.specs.Rounds.{Slot}
-use Rattle.bus_model.proofs.ListsInTurn.{InTurn, given_in_turn, pairs_in_turn, range_in_turn}
+use Rattle.bus_terms.specs.Costs.{length_at, sent_by, slot_window}
+use Rattle.bus_terms.specs.Flooding.{moment, steps}
+use Rattle.bus_terms.specs.Rounds.{Slot}
+use Rattle.bus_terms.proofs.ListsInTurn.{InTurn, given_in_turn, pairs_in_turn, range_in_turn}
 use Rattle.lwb_flood.specs.FloodRun.{Run}
 use Rattle.lwb_flood.specs.FloodBySteps.{IsFloodBySteps}
 use Rattle.law_terms.specs.LawfulRuns.{IsLawfulRun}

@@ -20,10 +20,10 @@ use Rattle.air_log.specs.Trails.{run_end}
 use Rattle.air_log.proofs.Elements.{Distinct, distinct_from_pairs}
 use Rattle.air_log.proofs.TrailSendings.{each_sent, in_order}
 use Rattle.law_trails.proofs.SentInTrails.{sent_below, sent_lasts}
-use Rattle.bus_model.specs.Bus.{bus_cost}
-use Rattle.bus_model.specs.Costs.{slot_sent}
-use Rattle.bus_model.specs.Flooding.{steps}
-use Rattle.bus_model.specs.Rounds.{Slot}
+use Rattle.bus_terms.specs.Bus.{bus_cost}
+use Rattle.bus_terms.specs.Costs.{slot_sent}
+use Rattle.bus_terms.specs.Flooding.{steps}
+use Rattle.bus_terms.specs.Rounds.{Slot}
 use Rattle.lwb_flood.specs.FloodRun.{Run}
 use Rattle.lwb_flood.specs.FloodBySteps.{IsFloodBySteps}
 use Rattle.law_terms.specs.LawfulRuns.{IsLawfulRun}

@@ -15,10 +15,10 @@ use Rattle.scenario_text.specs.declared.lines.NodeLine.{NodeLine}
 use Rattle.air_log.specs.declared.entry.Entry.{Entry}
 use Rattle.air_log.specs.Devices.{seen}
 use Rattle.air_log.specs.WindowLogs.{WindowLog}
-use Rattle.bus_model.specs.FloodOfText.{ids}
-use Rattle.bus_model.specs.Flooding.{has}
-use Rattle.bus_model.specs.Rounds.{opened_at, takes_part}
-use Rattle.bus_model.proofs.ReceivedByPaths.{in_whole, of_filtered}
+use Rattle.bus_terms.specs.FloodOfText.{ids}
+use Rattle.bus_terms.specs.Flooding.{has}
+use Rattle.bus_terms.specs.Rounds.{opened_at, takes_part}
+use Rattle.bus_terms.proofs.ReceivedByPaths.{in_whole, of_filtered}
 use Rattle.law_terms.specs.LawfulRuns.{IsLawfulRun}
 use Rattle.law_terms.specs.SlotLaws.{IsWindowOf, HasWindow, bus_slot, bus_before}
 use Rattle.law_terms.specs.SlotSteps.{IsSlotStart}

@@ -20,11 +20,11 @@ use Rattle.air_log.specs.WindowLogs.{WindowLog}
 use Rattle.air_log.proofs.Elements.{contains_cases, contains_head, contains_tail, not_in_none}
 use Rattle.law_windows.specs.WindowFloods.{said_in}
 use Rattle.law_windows.specs.WindowParts.{SendsAt}
-use Rattle.bus_model.specs.FloodOfText.{ids}
-use Rattle.bus_model.specs.Flooding.{has}
-use Rattle.bus_model.specs.Rounds as rounds
-use Rattle.bus_model.specs.ScriptedStates.{setup_in}
-use Rattle.bus_model.proofs.ReceivedByPaths.{in_filtered, in_whole, of_filtered}
+use Rattle.bus_terms.specs.FloodOfText.{ids}
+use Rattle.bus_terms.specs.Flooding.{has}
+use Rattle.bus_terms.specs.Rounds as rounds
+use Rattle.bus_terms.specs.ScriptedStates.{setup_in}
+use Rattle.bus_terms.proofs.ReceivedByPaths.{in_filtered, in_whole, of_filtered}
 use Rattle.lwb_flood.specs.FloodRun.{Run, initiates}
 use Rattle.law_terms.specs.LawfulRuns.{IsLawfulRun}
 use Rattle.law_terms.specs.SlotLaws.{IsWindowOf, bus_before, bus_slot}

@@ -24,11 +24,11 @@ use Rattle.air_log.specs.Devices.{seen}
 use Rattle.air_log.specs.WindowLogs.{WindowLog}
 use Rattle.law_safety.specs.TunedNodes.{Scans}
 use Rattle.law_safety.proofs.SentPlans.{one_planned}
-use Rattle.bus_model.specs.FloodOfText.{ids}
-use Rattle.bus_model.specs.Flooding.{has}
-use Rattle.bus_model.specs.Rounds.{opened_at, takes_part}
-use Rattle.bus_model.specs.ScriptedStates.{is_on, setup_in}
-use Rattle.bus_model.proofs.ReceivedByPaths.{in_filtered}
+use Rattle.bus_terms.specs.FloodOfText.{ids}
+use Rattle.bus_terms.specs.Flooding.{has}
+use Rattle.bus_terms.specs.Rounds.{opened_at, takes_part}
+use Rattle.bus_terms.specs.ScriptedStates.{is_on, setup_in}
+use Rattle.bus_terms.proofs.ReceivedByPaths.{in_filtered}
 use Rattle.law_terms.specs.LawfulRuns.{IsLawfulRun}
 use Rattle.law_terms.specs.SlotLaws.{IsRound, IsWindowOf, HasWindow, bus_before, bus_slot}
 use Rattle.law_terms.specs.SlotSteps.{IsSlotStart}

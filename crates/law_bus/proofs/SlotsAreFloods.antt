@@ -13,7 +13,7 @@ use Rattle.air_log.specs.NodeEvents.{Event}
 use Rattle.law_trails.proofs.ProfilePackets.{covers}
 use Rattle.law_safety.proofs.RunFacts.{run_fits}
 use Rattle.law_safety.proofs.RunSendings.{of_flood}
-use Rattle.bus_model.specs.Flooding.{has}
+use Rattle.bus_terms.specs.Flooding.{has}
 use Rattle.lwb_flood.specs.FloodRun.{Run, initiates}
 use Rattle.lwb_flood.specs.FloodBySteps.{IsFloodBySteps}
 use Rattle.lwb_flood.specs.Windows.{IsSlot}

@@ -20,9 +20,9 @@ use Rattle.air_log.specs.Trails.{run_end, setup_of}
 use Rattle.air_log.specs.WindowLogs.{WindowLog, Closing}
 use Rattle.air_log.proofs.Elements.{contains_cases, contains_head, contains_tail, not_in_none}
 use Rattle.law_windows.specs.WindowRows.{in_window, OpensByAlarm, OpensByHearing}
-use Rattle.bus_model.specs.ScriptedStates.{setup_in}
-use Rattle.bus_model.specs.Rounds.{opened_at, closed_by, left_by, said_in, accepted_at, before_slot}
-use Rattle.bus_model.specs.Bus.{state_at}
+use Rattle.bus_terms.specs.ScriptedStates.{setup_in}
+use Rattle.bus_terms.specs.Rounds.{opened_at, closed_by, left_by, said_in, accepted_at, before_slot}
+use Rattle.bus_terms.specs.Bus.{state_at}
 use Rattle.law_terms.specs.LawfulRuns.{IsLawfulRun}
 use Rattle.law_terms.specs.SlotLaws.{IsWindowOf, HasWindow, bus_before, bus_slot}
 use Rattle.law_terms.specs.SlotSteps.{IsSlotStart, IsSlotHeard}

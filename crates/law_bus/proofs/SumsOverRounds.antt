@@ -6,9 +6,9 @@ use Rattle.std.proofs.lemmas.Bool.{cases_eq, cond-false, ne_eqb}
 use Rattle.lwb_base.specs.Messages.{Plan}
 use Rattle.scenario_text.specs.ScenarioParts.{ScenarioParts}
 use Rattle.bus_rules.specs.Plans.{last_slot}
-use Rattle.bus_model.specs.Bus.{state_at, frames_of, over_frames}
-use Rattle.bus_model.specs.Costs.{over_round}
-use Rattle.bus_model.specs.Rounds.{Slot, rank_in, round_plan, slot_at, slots_of}
+use Rattle.bus_terms.specs.Bus.{state_at, frames_of, over_frames}
+use Rattle.bus_terms.specs.Costs.{over_round}
+use Rattle.bus_terms.specs.Rounds.{Slot, rank_in, round_plan, slot_at, slots_of}
 use Rattle.law_bus.proofs.KeyedSums.{by_key, no_sum, same_sums, under, under_none}
 use Rattle.law_bus.proofs.NumbersOfRanges.{from_range}
 

@@ -46,7 +46,7 @@ use Rattle.law_windows.proofs.CountedEnds.{few_early}
 use Rattle.law_windows.proofs.TunedByDevices.{listens_tuned}
 use Rattle.law_windows.proofs.WindowFacts.{close_in_time, radios_on, slot_covered}
 use Rattle.law_windows.proofs.WindowWalk.{windows_behind}
-use Rattle.bus_model.specs.Flooding.{has}
+use Rattle.bus_terms.specs.Flooding.{has}
 use Rattle.law_terms.specs.FrameCourses.{IsWindowIn}
 use Rattle.law_terms.specs.LawfulRuns.{IsLawfulRun}
 use Rattle.law_terms.specs.SlotLaws.{IsRound, IsWindowOf, HasWindow, bus_slot}

@@ -12,10 +12,10 @@ use Rattle.air_log.specs.Charges.{charge, counted, sent_packets, windows_charge}
 use Rattle.air_log.specs.Lawful.{trail_in}
 use Rattle.air_log.specs.WindowLogs.{WindowLog}
 use Rattle.law_windows.proofs.WindowParts.{nodes_take_part}
-use Rattle.bus_model.specs.Bus.{bus_cost, state_at}
-use Rattle.bus_model.specs.Costs.{sent_by, slot_window}
-use Rattle.bus_model.specs.Rounds.{Slot, before_slot}
-use Rattle.bus_model.specs.ScriptedStates.{setup_in}
+use Rattle.bus_terms.specs.Bus.{bus_cost, state_at}
+use Rattle.bus_terms.specs.Costs.{sent_by, slot_window}
+use Rattle.bus_terms.specs.Rounds.{Slot, before_slot}
+use Rattle.bus_terms.specs.ScriptedStates.{setup_in}
 use Rattle.law_terms.specs.LawfulRuns.{IsLawfulRun}
 use Rattle.law_terms.specs.SlotLaws.{IsRound, IsWindowOf, bus_slot}
 use Rattle.law_terms.specs.SlotRuns.{RunsLaw}

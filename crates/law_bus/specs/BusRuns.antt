@@ -6,8 +6,8 @@ use Rattle.scenario_text.specs.FloodParts.{knows}
 use Rattle.bus_rules.specs.declared.part.Part.TheVariants.{Data}
 use Rattle.bus_rules.specs.Slots.{part_of}
 use Rattle.bus_rules.specs.States.{State}
-use Rattle.bus_model.specs.Bus.{Ordered, bus_cost, bus_deliveries, bus_drops}
-use Rattle.bus_model.specs.Received.{IsReceived}
+use Rattle.bus_terms.specs.Bus.{Ordered, bus_cost, bus_deliveries, bus_drops}
+use Rattle.bus_terms.specs.Received.{IsReceived}
 use Rattle.air_log.specs.declared.entry.Entry.{Entry}
 use Rattle.air_log.specs.Safe.{Safe}
 use Rattle.air_log.specs.Deliveries.{deliveries_of}

@@ -5,7 +5,7 @@ use Rattle.scenario_text.specs.FloodParts.{knows}
 use Rattle.air_log.specs.declared.entry.Entry.{Entry}
 use Rattle.energy_account.specs.declared.energy.Energy.{Energy}
 use Rattle.energy_account.specs.Energies.{energy_of}
-use Rattle.bus_model.specs.Bus.{Cost, bus_cost}
+use Rattle.bus_terms.specs.Bus.{Cost, bus_cost}
 use Rattle.law_terms.specs.LawfulRuns.{IsLawfulRun}
 
 -- the numbers of a node's account that the bus has too: all but how long its radio was on

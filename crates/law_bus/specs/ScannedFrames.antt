@@ -5,7 +5,7 @@ use Rattle.scenario_text.specs.FloodParts.{knows}
 use Rattle.air_log.specs.declared.entry.Entry.{Entry}
 use Rattle.air_log.specs.Charges.{scanned_frames}
 use Rattle.air_log.specs.Lawful.{heard_by}
-use Rattle.bus_model.specs.Bus.{bus_cost}
+use Rattle.bus_terms.specs.Bus.{bus_cost}
 use Rattle.law_terms.specs.LawfulRuns.{IsLawfulRun}
 
 abbrev pub ScansLaw : Type 0

@@ -20,7 +20,7 @@ use Rattle.air_log.specs.NodeEvents.{Event}
 use Rattle.air_log.specs.WindowLogs.{WindowLog}
 use Rattle.law_windows.specs.WindowParts.{TakesPart}
 use Rattle.lwb_flood.specs.FloodRun.{Run}
-use Rattle.bus_model.specs.Rounds.{Slot, said_in}
+use Rattle.bus_terms.specs.Rounds.{Slot, said_in}
 use Rattle.law_terms.specs.SlotLaws.{IsWindowOf, bus_slot}
 
 -- a sending is of this frame, channel and slot

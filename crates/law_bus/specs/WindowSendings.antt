@@ -3,7 +3,7 @@ use Rattle.std.specs.Prelude.{◌≡◌, ℕ, ◌≤◌, List, map}
 use Rattle.lwb_base.specs.Messages.{Plan}
 use Rattle.scenario_text.specs.ScenarioParts.{ScenarioParts}
 use Rattle.bus_rules.specs.Plans.{last_slot}
-use Rattle.bus_model.specs.Costs.{sent_by}
+use Rattle.bus_terms.specs.Costs.{sent_by}
 use Rattle.air_log.specs.Charges.{sent_packets, step_and_length}
 use Rattle.air_log.specs.declared.entry.Entry.{Entry}
 use Rattle.air_log.specs.WindowLogs.{WindowLog}

@@ -4,8 +4,8 @@ use Rattle.std.proofs.Common.{◌∙◌, ap, subst, arith}
 use Rattle.std.proofs.lemmas.Bool.{cases_order}
 use Rattle.lwb_base.specs.Profile.{one}
 use Rattle.tick_clock.specs.Clocks.{due}
-use Rattle.bus_model.specs.Flooding.{Sends, Hears}
-use Rattle.bus_model.specs.FloodOfText.{setting}
+use Rattle.bus_terms.specs.Flooding.{Sends, Hears}
+use Rattle.bus_terms.specs.FloodOfText.{setting}
 use Rattle.radio_model.specs.declared.sending.Sending.{Sending}
 use Rattle.radio_model.specs.OnAir.{Hearing, Tuning}
 use Rattle.radio_model.specs.Hearing.{Rival}

@@ -13,7 +13,7 @@ use Rattle.scenario_clocks.specs.StatedClocks.{scenario_clock, stated_clock}
 use Rattle.tick_clock.specs.Clocks.{IsClock}
 use Rattle.scenario_maker.specs.Made.{made, IsSize}
 use Rattle.deadline_plan.specs.Admission.{Plan}
-use Rattle.bus_model.specs.Bus.{bus_deliveries, bus_drops}
+use Rattle.bus_terms.specs.Bus.{bus_deliveries, bus_drops}
 use Rattle.lwb_flood.specs.FloodLog.{HasClocks}
 use Rattle.law_terms.specs.LawfulRuns.{IsLawfulRun}
 use Rattle.air_log.specs.declared.entry.Entry.{Entry}

@@ -19,13 +19,13 @@ use Rattle.bus_rules.specs.States.{State, StateOff, StateOn}
 use Rattle.bus_rules.specs.Streams.{Streams}
 use Rattle.bus_rules.specs.Tables.{Table}
 use Rattle.bus_rules.specs.Tuning.{hosts_in, holds_in, scans, rank_of}
-use Rattle.bus_model.specs.Bus.{state_at}
-use Rattle.bus_model.specs.FloodOfText.{ids}
-use Rattle.bus_model.specs.Flooding.{Accepts}
-use Rattle.bus_model.specs.Rounds.{Slot, opened_at, said_in, accepted_at, closed_by, left_by, before_slot, takes_part}
-use Rattle.bus_model.specs.ScriptedStates.{is_on, setup_in}
-use Rattle.bus_model.proofs.ReceivedByPaths.{in_filtered, of_filtered}
-use Rattle.bus_model.proofs.ReceivedInRounds.{ids_rise}
+use Rattle.bus_terms.specs.Bus.{state_at}
+use Rattle.bus_terms.specs.FloodOfText.{ids}
+use Rattle.bus_terms.specs.Flooding.{Accepts}
+use Rattle.bus_terms.specs.Rounds.{Slot, opened_at, said_in, accepted_at, closed_by, left_by, before_slot, takes_part}
+use Rattle.bus_terms.specs.ScriptedStates.{is_on, setup_in}
+use Rattle.bus_terms.proofs.ReceivedByPaths.{in_filtered, of_filtered}
+use Rattle.bus_terms.proofs.ReceivedInRounds.{ids_rise}
 use Rattle.law_service.specs.Reach.{TakesPart, LosesNothing, IsWithin}
 use Rattle.law_service.specs.ScheduleService.{IsHosted, slot_in, node_after, OpeningsAreAccepted, ClosingsAreAccepted}
 use Rattle.law_service.proofs.HostsOfRanks.{due_rank}

@@ -11,14 +11,14 @@ use Rattle.bus_rules.specs.Cores.{Core, is_member}
 use Rattle.bus_rules.specs.Slots.{Message, RequestOf, opened, part_of, is_own, request_of}
 use Rattle.bus_rules.specs.States.{State, StateOn}
 use Rattle.bus_rules.specs.Streams.{Streams, after_contention, due}
-use Rattle.bus_model.specs.Bus.{state_at}
-use Rattle.bus_model.specs.FloodOfText.{ids}
-use Rattle.bus_model.specs.Flooding.{Setting, Moment, STEPS, moment, has, offer, candidates, named, pick, may_hear, takes, hears, accepted, Hears}
-use Rattle.bus_model.specs.Rounds.{Slot, accepted_at, opened_at, closed_by, left_by, before_slot, said_in, takes_part}
-use Rattle.bus_model.specs.ScriptedStates.{setup_in}
-use Rattle.bus_model.proofs.Options.{inspect, only_from, in_filter, from_filter, heard_parts, sends_parts, named_parts, none_is, some_injective}
-use Rattle.bus_model.proofs.ReceivedByPaths.{in_filtered, of_filtered, in_whole}
-use Rattle.bus_model.proofs.ReceivedInRounds.{accepted_none}
+use Rattle.bus_terms.specs.Bus.{state_at}
+use Rattle.bus_terms.specs.FloodOfText.{ids}
+use Rattle.bus_terms.specs.Flooding.{Setting, Moment, STEPS, moment, has, offer, candidates, named, pick, may_hear, takes, hears, accepted, Hears}
+use Rattle.bus_terms.specs.Rounds.{Slot, accepted_at, opened_at, closed_by, left_by, before_slot, said_in, takes_part}
+use Rattle.bus_terms.specs.ScriptedStates.{setup_in}
+use Rattle.bus_terms.proofs.Options.{inspect, only_from, in_filter, from_filter, heard_parts, sends_parts, named_parts, none_is, some_injective}
+use Rattle.bus_terms.proofs.ReceivedByPaths.{in_filtered, of_filtered, in_whole}
+use Rattle.bus_terms.proofs.ReceivedInRounds.{accepted_none}
 use Rattle.law_service.specs.Contenders.{DifferentPacketsCollide, Collide, ContendersAreLost, ContendersStayTied, AreTied}
 use Rattle.law_service.specs.Reach.{is_linked, TakesPart}
 use Rattle.law_service.specs.ScheduleService.{slot_in, node_before}

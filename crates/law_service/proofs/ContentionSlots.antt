@@ -11,8 +11,8 @@ use Rattle.bus_rules.specs.Plans.{last_slot}
 use Rattle.bus_rules.specs.Slots.{Message, Data, data_of, ScheduleOf, DataOf, RequestOf, opened, closed, part_of, hosts_now, most_kept, is_own, request_of}
 use Rattle.bus_rules.specs.States.{State, StateOff, StateOn}
 use Rattle.bus_rules.specs.Streams.{Streams, Waiting, first_waiting, requested, stream_at, due, is_due}
-use Rattle.bus_model.specs.Rounds.{opened_at, closed_by, left_by}
-use Rattle.bus_model.specs.ScriptedStates.{setup_in}
+use Rattle.bus_terms.specs.Rounds.{opened_at, closed_by, left_by}
+use Rattle.bus_terms.specs.ScriptedStates.{setup_in}
 
 -- the contention slots are those after the data slots and before the last
 pub contention_at : (p : Plan) (j : ℕ) → length p.owners < j → j < last_slot p → part_of p j ≡ Contention (j - length p.owners)

@@ -13,12 +13,12 @@ use Rattle.bus_rules.specs.Cores.{Core}
 use Rattle.bus_rules.specs.Slots.{Message, Opened, opened, data_of, delivery_of}
 use Rattle.bus_rules.specs.States.{State, StateOn}
 use Rattle.bus_rules.specs.Streams.{Waiting, first_waiting}
-use Rattle.bus_model.specs.FloodOfText.{ids}
-use Rattle.bus_model.specs.Flooding.{has}
-use Rattle.bus_model.specs.ScriptedStates.{setup_in}
-use Rattle.bus_model.specs.Rounds.{Slot, slot_of, opened_at, said_in, takes_part, accepted_at, closed_by, before_slot}
-use Rattle.bus_model.proofs.ReceivedByPaths.{of_filtered, in_whole}
-use Rattle.bus_model.proofs.ReceivedInRounds.{ids_rise}
+use Rattle.bus_terms.specs.FloodOfText.{ids}
+use Rattle.bus_terms.specs.Flooding.{has}
+use Rattle.bus_terms.specs.ScriptedStates.{setup_in}
+use Rattle.bus_terms.specs.Rounds.{Slot, slot_of, opened_at, said_in, takes_part, accepted_at, closed_by, before_slot}
+use Rattle.bus_terms.proofs.ReceivedByPaths.{of_filtered, in_whole}
+use Rattle.bus_terms.proofs.ReceivedInRounds.{ids_rise}
 use Rattle.law_service.specs.Reach.{TakesPart}
 use Rattle.law_service.specs.DataService.{DataIsDelivered}
 use Rattle.law_service.proofs.SaidByParts.{window_of, owner_alone}

@@ -14,9 +14,9 @@ use Rattle.bus_rules.specs.Slots.{host_closes}
 use Rattle.bus_rules.specs.States.{StateOn}
 use Rattle.bus_rules.specs.Tables.{Entry, Table, is_full, new_entry}
 use Rattle.bus_rules.specs.Tuning.{rank_of}
-use Rattle.bus_model.specs.Bus.{state_at}
-use Rattle.bus_model.specs.Rounds.{before_slot}
-use Rattle.bus_model.specs.ScriptedStates.{setup_in}
+use Rattle.bus_terms.specs.Bus.{state_at}
+use Rattle.bus_terms.specs.Rounds.{before_slot}
+use Rattle.bus_terms.specs.ScriptedStates.{setup_in}
 use Rattle.law_service.specs.FirstSlots.{table_at, PlansRound, Fits, RoundsFollow, OwedSlotsAreGranted, NewStreamsAreGranted}
 use Rattle.law_service.specs.ScheduleService.{IsHosted, slot_in, node_before, node_after}
 use Rattle.law_service.proofs.GrantedSlots.{gap_range, round_gap, fitting_grants, table_has}

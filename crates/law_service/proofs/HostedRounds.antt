@@ -15,12 +15,12 @@ use Rattle.bus_rules.specs.Plans.{last_slot, opening}
 use Rattle.bus_rules.specs.Slots.{Message, ScheduleOf, DataOf, RequestOf, Opened, opened, closed, part_of, hosts_now, host_closes, silent}
 use Rattle.bus_rules.specs.States.{State, StateOff, StateOn}
 use Rattle.bus_rules.specs.Tuning.{rank_of, hosts_in, holds_in, rank_of}
-use Rattle.bus_model.specs.Bus.{state_at}
-use Rattle.bus_model.specs.FloodOfText.{ids}
-use Rattle.bus_model.specs.Flooding.{has, accepted, moment, STEPS}
-use Rattle.bus_model.specs.Rounds.{Slot, slot_at, opened_at, said_in, accepted_at, closed_by, left_by, before_slot, plan_in, first_node}
-use Rattle.bus_model.specs.ScriptedStates.{is_on, setup_in}
-use Rattle.bus_model.proofs.ReceivedByPaths.{in_filtered}
+use Rattle.bus_terms.specs.Bus.{state_at}
+use Rattle.bus_terms.specs.FloodOfText.{ids}
+use Rattle.bus_terms.specs.Flooding.{has, accepted, moment, STEPS}
+use Rattle.bus_terms.specs.Rounds.{Slot, slot_at, opened_at, said_in, accepted_at, closed_by, left_by, before_slot, plan_in, first_node}
+use Rattle.bus_terms.specs.ScriptedStates.{is_on, setup_in}
+use Rattle.bus_terms.proofs.ReceivedByPaths.{in_filtered}
 use Rattle.law_service.specs.ScheduleService.{IsHosted, slot_in, node_after}
 use Rattle.law_service.proofs.HostsOfRanks.{IsRightfulState, rightful, rightful_before, due_hosts, due_rank, one_of_rank}
 use Rattle.law_service.proofs.HostsOfRanks.{data_no_schedule, contention_no_schedule}

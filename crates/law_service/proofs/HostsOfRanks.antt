@@ -22,9 +22,9 @@ use Rattle.bus_rules.specs.States.{State, StateOff, StateOn, at_core, refuses, q
 use Rattle.bus_rules.specs.Streams.{Streams, Waiting, first_waiting, requested}
 use Rattle.bus_rules.specs.Tables.{Table}
 use Rattle.bus_rules.specs.Tuning.{rank_of, hosts, hosts_in, is_rank, next_tune}
-use Rattle.bus_model.specs.Bus.{before_frame, state_at}
-use Rattle.bus_model.specs.Rounds.{rounds, before_slot}
-use Rattle.bus_model.specs.ScriptedStates.{after_act, after_line, lines_of, scripted, setup_in}
+use Rattle.bus_terms.specs.Bus.{before_frame, state_at}
+use Rattle.bus_terms.specs.Rounds.{rounds, before_slot}
+use Rattle.bus_terms.specs.ScriptedStates.{after_act, after_line, lines_of, scripted, setup_in}
 use Rattle.law_service.proofs.KeptInRounds.{slots_keep, rounds_keep}
 
 pub record IsRightful (q : Setup) (c : Core) : Type 0 where

@@ -10,9 +10,9 @@ use Rattle.bus_rules.specs.Cores.{Core}
 use Rattle.bus_rules.specs.Plans.{last_slot, slots_named, opening}
 use Rattle.bus_rules.specs.Slots.{Message, Data, ScheduleOf, DataOf, RequestOf, opened, closed, part_of, hosts_now, most_kept}
 use Rattle.bus_rules.specs.States.{State, StateOn}
-use Rattle.bus_model.specs.Bus.{state_at}
-use Rattle.bus_model.specs.Rounds.{accepted_at, opened_at, closed_by, left_by, before_slot}
-use Rattle.bus_model.specs.ScriptedStates.{setup_in}
+use Rattle.bus_terms.specs.Bus.{state_at}
+use Rattle.bus_terms.specs.Rounds.{accepted_at, opened_at, closed_by, left_by, before_slot}
+use Rattle.bus_terms.specs.ScriptedStates.{setup_in}
 use Rattle.law_service.specs.ScheduleService.{IsHosted, slot_in}
 use Rattle.law_service.proofs.ContentionSlots.{contention_at, IsRequest, requests, only_requests, only_data}
 use Rattle.law_service.proofs.ContentionSlots.{few_more, kept_by, keeps_by, keeps_none, own_of, own_stays}

@@ -7,10 +7,10 @@ use Rattle.bus_rules.specs.Plans.{last_slot}
 use Rattle.bus_rules.specs.Slots.{Message, opened, closed, part_of}
 use Rattle.bus_rules.specs.Cores.{Core, is_member}
 use Rattle.bus_rules.specs.States.{State, StateOff, StateOn}
-use Rattle.bus_model.specs.Flooding.{accepted}
-use Rattle.bus_model.specs.Rounds.{slot_of, opened_at, said_in, accepted_at, closed_by, left_by, before_slot, after_round, rounds}
-use Rattle.bus_model.specs.Rounds.{round_plan, rank_in}
-use Rattle.bus_model.specs.ScriptedStates.{setup_in}
+use Rattle.bus_terms.specs.Flooding.{accepted}
+use Rattle.bus_terms.specs.Rounds.{slot_of, opened_at, said_in, accepted_at, closed_by, left_by, before_slot, after_round, rounds}
+use Rattle.bus_terms.specs.Rounds.{round_plan, rank_in}
+use Rattle.bus_terms.specs.ScriptedStates.{setup_in}
 
 module _ (s : ScenarioParts) (f : ℕ) (P : ℕ → State → Type 0) (Q : Message → Type 0)
     (opens : (v : ℕ) (part : Part) (c : Core) → P v (StateOn c) → P v (StateOn (opened (setup_in s v) f part c).core))

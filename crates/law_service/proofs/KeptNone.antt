@@ -14,11 +14,11 @@ use Rattle.bus_rules.specs.Plans.{last_slot}
 use Rattle.bus_rules.specs.Slots.{Message, Opened, ScheduleOf, DataOf, RequestOf, opened, closed, slot_heard, hosts_now, host_closes, silent, most_kept}
 use Rattle.bus_rules.specs.States.{State, StateOff, StateOn, at_core, refuses, queues}
 use Rattle.bus_rules.specs.Tuning.{next_tune, hosts_in}
-use Rattle.bus_model.specs.Bus.{before_frame, state_at}
-use Rattle.bus_model.specs.FloodOfText.{ids}
-use Rattle.bus_model.specs.Flooding.{has}
-use Rattle.bus_model.specs.Rounds.{rounds, round_plan, rank_in, after_round}
-use Rattle.bus_model.specs.ScriptedStates.{after_act, after_line, is_on, lines_of, scripted, setup_in}
+use Rattle.bus_terms.specs.Bus.{before_frame, state_at}
+use Rattle.bus_terms.specs.FloodOfText.{ids}
+use Rattle.bus_terms.specs.Flooding.{has}
+use Rattle.bus_terms.specs.Rounds.{rounds, round_plan, rank_in, after_round}
+use Rattle.bus_terms.specs.ScriptedStates.{after_act, after_line, is_on, lines_of, scripted, setup_in}
 use Rattle.law_service.specs.ScheduleService.{IsHosted, node_after}
 use Rattle.law_service.proofs.KeptInRounds.{slots_keep}
 use Rattle.law_service.proofs.HostedRounds.{leads, has_planned}

@@ -15,12 +15,12 @@ use Rattle.bus_rules.specs.States.{State, StateOn}
 use Rattle.bus_rules.specs.Tables.{Table, is_full}
 use Rattle.bus_rules.specs.HostPlans.{answered}
 use Rattle.bus_rules.specs.Tuning.{rank_of}
-use Rattle.bus_model.specs.Bus.{state_at}
-use Rattle.bus_model.specs.FloodOfText.{ids}
-use Rattle.bus_model.specs.Rounds.{Slot, accepted_at, before_slot, takes_part}
-use Rattle.bus_model.specs.ScriptedStates.{setup_in}
-use Rattle.bus_model.proofs.ReceivedByPaths.{in_whole}
-use Rattle.bus_model.proofs.ReceivedInRounds.{ids_rise}
+use Rattle.bus_terms.specs.Bus.{state_at}
+use Rattle.bus_terms.specs.FloodOfText.{ids}
+use Rattle.bus_terms.specs.Rounds.{Slot, accepted_at, before_slot, takes_part}
+use Rattle.bus_terms.specs.ScriptedStates.{setup_in}
+use Rattle.bus_terms.proofs.ReceivedByPaths.{in_whole}
+use Rattle.bus_terms.proofs.ReceivedInRounds.{ids_rise}
 use Rattle.law_service.specs.ScheduleService.{slot_in}
 use Rattle.law_service.specs.RequestService.{ReachesHost, Acknowledges, LoneRequestsAreKept, LoneRequestsAreAcknowledged}
 use Rattle.law_service.proofs.AcknowledgedRequests.{NoneOf, none_more, plan_acks}

@@ -8,10 +8,10 @@ use Rattle.bus_rules.specs.Granting.{plan_round}
 use Rattle.bus_rules.specs.HostPlans.{host_plan}
 use Rattle.bus_rules.specs.Slots.{RequestOf}
 use Rattle.bus_rules.specs.Streams.{schedule_heard}
-use Rattle.bus_model.specs.Bus.{before_frame, state_at}
-use Rattle.bus_model.specs.Distances.{walks}
-use Rattle.bus_model.specs.Flooding.{moment}
-use Rattle.bus_model.specs.Rounds.{before_slot, said_in}
+use Rattle.bus_terms.specs.Bus.{before_frame, state_at}
+use Rattle.bus_terms.specs.Distances.{walks}
+use Rattle.bus_terms.specs.Flooding.{moment}
+use Rattle.bus_terms.specs.Rounds.{before_slot, said_in}
 use Rattle.law_service.specs.Reach.{is_linked, HasNoLines, LosesNothing, IsWithin}
 use Rattle.law_service.specs.ScheduleService.{IsHosted, slot_in}
 use Rattle.law_service.proofs.LosslessSlots.{lose_nothing}

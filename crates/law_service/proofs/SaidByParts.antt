@@ -9,8 +9,8 @@ use Rattle.bus_rules.specs.Cores.{Core, is_member}
 use Rattle.bus_rules.specs.Slots.{Opened, opened, data_of}
 use Rattle.bus_rules.specs.States.{State, StateOff, StateOn}
 use Rattle.bus_rules.specs.Streams.{Waiting, first_waiting}
-use Rattle.bus_model.specs.ScriptedStates.{setup_in}
-use Rattle.bus_model.specs.Rounds.{opened_at, said_in}
+use Rattle.bus_terms.specs.ScriptedStates.{setup_in}
+use Rattle.bus_terms.specs.Rounds.{opened_at, said_in}
 
 -- the window of a node that is on
 pub windowed : (s : ScenarioParts) (rank f : ℕ) (part : Part) (v : ℕ) (c : Core) → is_member rank f c ≡ true

@@ -5,13 +5,13 @@ use Rattle.std.proofs.lemmas.Bool.{false≢true}
 use Rattle.link_trace.specs.Passes.{passes}
 use Rattle.scenario_text.specs.ScenarioParts.{ScenarioParts}
 use Rattle.bus_rules.specs.Slots.{Message}
-use Rattle.bus_model.specs.Distances.{walks}
-use Rattle.bus_model.specs.FloodOfText.{ids}
-use Rattle.bus_model.specs.Flooding.{has, Accepts}
-use Rattle.bus_model.specs.Rounds.{Slot, said_in, accepted_at}
-use Rattle.bus_model.proofs.FirstHearings.{accepted_first}
-use Rattle.bus_model.proofs.ReachByDistance.{accepts_at_distance}
-use Rattle.bus_model.proofs.ReceivedByPaths.{one_at_most, in_filtered}
+use Rattle.bus_terms.specs.Distances.{walks}
+use Rattle.bus_terms.specs.FloodOfText.{ids}
+use Rattle.bus_terms.specs.Flooding.{has, Accepts}
+use Rattle.bus_terms.specs.Rounds.{Slot, said_in, accepted_at}
+use Rattle.bus_terms.proofs.FirstHearings.{accepted_first}
+use Rattle.bus_terms.proofs.ReachByDistance.{accepts_at_distance}
+use Rattle.bus_terms.proofs.ReceivedByPaths.{one_at_most, in_filtered}
 use Rattle.law_service.specs.Reach.{is_linked, TakesPart, LosesNothing, IsWithin}
 
 -- who is at least a hop away is another

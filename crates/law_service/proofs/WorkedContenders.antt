@@ -8,9 +8,9 @@ use Rattle.bus_rules.specs.declared.delivery.Delivery.{Delivery}
 use Rattle.bus_rules.specs.Granting.{plan_round}
 use Rattle.bus_rules.specs.HostPlans.{host_plan}
 use Rattle.bus_rules.specs.Streams.{Streams, cleared, declared, put, after_contention, schedule_heard}
-use Rattle.bus_model.specs.Bus.{before_frame, bus_deliveries}
-use Rattle.bus_model.specs.Flooding.{Setting, moment, accepted}
-use Rattle.bus_model.specs.Rounds.{before_slot}
+use Rattle.bus_terms.specs.Bus.{before_frame, bus_deliveries}
+use Rattle.bus_terms.specs.Flooding.{Setting, moment, accepted}
+use Rattle.bus_terms.specs.Rounds.{before_slot}
 use Rattle.law_service.specs.Contenders.{own_number}
 use Rattle.law_service.proofs.WorkedReach.{node, link, at}
 

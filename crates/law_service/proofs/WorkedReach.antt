@@ -13,11 +13,11 @@ use Rattle.bus_rules.specs.declared.delivery.Delivery.{Delivery}
 use Rattle.bus_rules.specs.Streams.{schedule_heard}
 use Rattle.bus_rules.specs.Granting.{plan_round}
 use Rattle.bus_rules.specs.HostPlans.{host_plan}
-use Rattle.bus_model.specs.Distances.{walks}
-use Rattle.bus_model.specs.FloodOfText.{ids}
-use Rattle.bus_model.specs.Flooding.{moment}
-use Rattle.bus_model.specs.Rounds.{before_slot, round_deliveries}
-use Rattle.bus_model.specs.Bus.{before_frame, state_at}
+use Rattle.bus_terms.specs.Distances.{walks}
+use Rattle.bus_terms.specs.FloodOfText.{ids}
+use Rattle.bus_terms.specs.Flooding.{moment}
+use Rattle.bus_terms.specs.Rounds.{before_slot, round_deliveries}
+use Rattle.bus_terms.specs.Bus.{before_frame, state_at}
 use Rattle.law_service.specs.Reach.{is_linked}
 
 abbrev pub node : ℕ → NodeLine

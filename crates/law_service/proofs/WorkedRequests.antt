@@ -8,9 +8,9 @@ use Rattle.bus_rules.specs.HostPlans.{host_plan, answered}
 use Rattle.bus_rules.specs.States.{State, StateOff, StateOn}
 use Rattle.bus_rules.specs.Streams.{schedule_heard}
 use Rattle.bus_rules.specs.Tables.{Entry, Table, is_full}
-use Rattle.bus_model.specs.Flooding.{moment}
-use Rattle.bus_model.specs.Rounds.{before_slot, rounds}
-use Rattle.bus_model.specs.Bus.{before_frame, state_at}
+use Rattle.bus_terms.specs.Flooding.{moment}
+use Rattle.bus_terms.specs.Rounds.{before_slot, rounds}
+use Rattle.bus_terms.specs.Bus.{before_frame, state_at}
 use Rattle.law_service.proofs.WorkedReach.{line, link, three}
 
 -- what the plan of a node acknowledges

@@ -9,10 +9,10 @@ use Rattle.bus_rules.specs.Streams.{schedule_heard}
 use Rattle.bus_rules.specs.Granting.{plan_round}
 use Rattle.bus_rules.specs.HostPlans.{host_plan}
 use Rattle.bus_rules.specs.Tuning.{hosts_in, holds_in}
-use Rattle.bus_model.specs.Flooding.{moment, accepted}
-use Rattle.bus_model.specs.Rounds.{before_slot, rounds}
-use Rattle.bus_model.specs.ScriptedStates.{is_on}
-use Rattle.bus_model.specs.Bus.{before_frame, state_at}
+use Rattle.bus_terms.specs.Flooding.{moment, accepted}
+use Rattle.bus_terms.specs.Rounds.{before_slot, rounds}
+use Rattle.bus_terms.specs.ScriptedStates.{is_on}
+use Rattle.bus_terms.specs.Bus.{before_frame, state_at}
 use Rattle.law_service.specs.ScheduleService.{slot_in}
 use Rattle.law_service.proofs.WorkedReach.{line, three}
 

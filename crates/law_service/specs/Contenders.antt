@@ -8,8 +8,8 @@ use Rattle.bus_rules.specs.Cores.{Core}
 use Rattle.bus_rules.specs.Plans.{last_slot}
 use Rattle.bus_rules.specs.States.{StateOn}
 use Rattle.bus_rules.specs.Streams.{Streams, after_contention, due, is_host, names, schedule_heard}
-use Rattle.bus_model.specs.Flooding.{Setting, candidates, has, hears, moment}
-use Rattle.bus_model.specs.Rounds.{Slot, accepted_at, said_in}
+use Rattle.bus_terms.specs.Flooding.{Setting, candidates, has, hears, moment}
+use Rattle.bus_terms.specs.Rounds.{Slot, accepted_at, said_in}
 use Rattle.law_service.specs.Reach.{is_linked, TakesPart, LosesNothing}
 use Rattle.law_service.specs.ScheduleService.{slot_in, node_before}
 

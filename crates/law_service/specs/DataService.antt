@@ -9,8 +9,8 @@ use Rattle.bus_rules.specs.Cores.{Core}
 use Rattle.bus_rules.specs.Slots.{part_of}
 use Rattle.bus_rules.specs.States.{State, StateOn}
 use Rattle.bus_rules.specs.Streams.{Waiting, first_waiting}
-use Rattle.bus_model.specs.Flooding.{Accepts}
-use Rattle.bus_model.specs.Rounds.{slot_at, before_slot, delivered_at}
+use Rattle.bus_terms.specs.Flooding.{Accepts}
+use Rattle.bus_terms.specs.Rounds.{slot_at, before_slot, delivered_at}
 use Rattle.law_service.specs.Reach.{TakesPart, LosesNothing, IsWithin}
 
 -- slot j is one of data; the node of its owner is a member of the round, and w is the packet that waits longest in this stream

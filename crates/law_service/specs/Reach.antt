@@ -5,9 +5,9 @@ use Rattle.lwb_base.specs.Messages.{Plan}
 use Rattle.link_trace.specs.Passes.{is_link}
 use Rattle.scenario_text.specs.ScenarioParts.{ScenarioParts}
 use Rattle.bus_rules.specs.States.{State}
-use Rattle.bus_model.specs.Distances.{IsDistance}
-use Rattle.bus_model.specs.Flooding.{STEPS, has}
-use Rattle.bus_model.specs.Rounds.{Slot, slot_at}
+use Rattle.bus_terms.specs.Distances.{IsDistance}
+use Rattle.bus_terms.specs.Flooding.{STEPS, has}
+use Rattle.bus_terms.specs.Rounds.{Slot, slot_at}
 
 -- the scenario has a link from u to v
 abbrev pub is_linked : ScenarioParts → ℕ → ℕ → Bool

@@ -9,7 +9,7 @@ use Rattle.bus_rules.specs.Plans.{last_slot}
 use Rattle.bus_rules.specs.Slots.{RequestOf}
 use Rattle.bus_rules.specs.States.{StateOn}
 use Rattle.bus_rules.specs.Tables.{is_full}
-use Rattle.bus_model.specs.Rounds.{said_in}
+use Rattle.bus_terms.specs.Rounds.{said_in}
 use Rattle.law_service.specs.Reach.{TakesPart, LosesNothing, IsWithin}
 use Rattle.law_service.specs.ScheduleService.{IsHosted, slot_in, node_before, node_after}
 

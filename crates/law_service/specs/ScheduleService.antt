@@ -8,11 +8,11 @@ use Rattle.bus_rules.specs.Cores.{Core, is_fresh}
 use Rattle.bus_rules.specs.Plans.{last_slot}
 use Rattle.bus_rules.specs.States.{State, StateOn}
 use Rattle.bus_rules.specs.Tuning.{hosts_in}
-use Rattle.bus_model.specs.Bus.{state_at}
-use Rattle.bus_model.specs.Flooding.{Accepts, has}
-use Rattle.bus_model.specs.FloodOfText.{ids}
-use Rattle.bus_model.specs.Rounds.{Slot, slot_at, before_slot, round_plan}
-use Rattle.bus_model.specs.ScriptedStates.{is_on}
+use Rattle.bus_terms.specs.Bus.{state_at}
+use Rattle.bus_terms.specs.Flooding.{Accepts, has}
+use Rattle.bus_terms.specs.FloodOfText.{ids}
+use Rattle.bus_terms.specs.Rounds.{Slot, slot_at, before_slot, round_plan}
+use Rattle.bus_terms.specs.ScriptedStates.{is_on}
 use Rattle.law_service.specs.Reach.{LosesNothing, IsWithin}
 
 -- slot j of the round of this rank and frame, which has plan p

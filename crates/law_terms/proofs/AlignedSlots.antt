@@ -10,8 +10,8 @@ use Rattle.node_core.specs.Windows.{Window}
 use Rattle.node_core.specs.Rows.{window_opens, window_closes, frame_alarms, accepted_in}
 use Rattle.air_log.specs.Trails as Trails
 use Rattle.bus_rules.specs.States.{State, StateOn}
-use Rattle.bus_model.specs.ScriptedStates.{setup_in}
-use Rattle.bus_model.specs.Rounds.{opened_at, closed_by, left_by, after_slot, slot_of, accepted_at}
+use Rattle.bus_terms.specs.ScriptedStates.{setup_in}
+use Rattle.bus_terms.specs.Rounds.{opened_at, closed_by, left_by, after_slot, slot_of, accepted_at}
 
 pub open_core : (s : Setup) (n : Node) (j : ℕ) → (window_opens s n j).node.core ≡ (opened s n.frame (part_of n.core.plan j) n.core).core
 open_core s n j = refl

@@ -12,8 +12,8 @@ use Rattle.air_log.specs.Trails.{frame_start, before_tick, setup_of, lines_at, s
 use Rattle.air_log.specs.Lawful.{heard_by}
 use Rattle.air_log.specs.Drops as AirDrops
 use Rattle.bus_rules.specs.States.{State}
-use Rattle.bus_model.specs.ScriptedStates as Bus
-use Rattle.bus_model.specs.Bus as Frames
+use Rattle.bus_terms.specs.ScriptedStates as Bus
+use Rattle.bus_terms.specs.Bus as Frames
 use Rattle.air_log.specs.Devices.{seen}
 use Rattle.law_terms.proofs.ScriptedCores.{lines_same, drop_same}
 

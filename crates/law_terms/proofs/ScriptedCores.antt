@@ -18,7 +18,7 @@ use Rattle.air_log.specs.Devices.{Device, Power, PowerOff, PowerOn, obeyed, tune
 use Rattle.air_log.specs.ScriptedDevices as Air
 use Rattle.air_log.specs.Drops as AirDrops
 use Rattle.bus_rules.specs.States.{State, StateOn, refuses}
-use Rattle.bus_model.specs.ScriptedStates as Bus
+use Rattle.bus_terms.specs.ScriptedStates as Bus
 use Rattle.air_log.specs.Devices.{seen}
 
 tuned_power : (rank t : ℕ) (d : Device) (es : List Tuning) → (tunes rank t d es).power ≡ d.power

@@ -8,7 +8,7 @@ use Rattle.std.proofs.lemmas.Bool.{cond_both}
 use Rattle.glossy_relay.specs.FloodState.{FloodState}
 use Rattle.glossy_relay.specs.Relaying.{accepted_of, after_heard, after_sent, fits}
 use Rattle.air_log.specs.NodeEvents.{Event, Heard, Ended, after_all}
-use Rattle.bus_model.specs.Flooding.{Setting, Sends, Accepts, has}
+use Rattle.bus_terms.specs.Flooding.{Setting, Sends, Accepts, has}
 use Rattle.lwb_member.specs.Said.{bytes_of}
 use Rattle.air_log.specs.declared.entry.Entry.{Entry}
 use Rattle.lwb_flood.specs.FloodRun.{Run, initiates, packet, begins}

@@ -12,7 +12,7 @@ use Rattle.node_core.specs.Rows.{window_opens, window_closes, frame_alarms, acce
 use Rattle.air_log.specs.Devices.{Device, Power, seen}
 use Rattle.air_log.specs.Trails.{frame_start, scripted as scripted_on_air}
 use Rattle.air_log.specs.Drops.{drop_by}
-use Rattle.bus_model.specs.ScriptedStates.{scripted, lost_by}
+use Rattle.bus_terms.specs.ScriptedStates.{scripted, lost_by}
 
 abbrev pub OpeningsAreTheSame : Type 0
 OpeningsAreTheSame = (s : Setup) (n : Node) (j : ℕ)

@@ -8,7 +8,7 @@ use Rattle.air_log.specs.Lawful.{heard_by, trail_in}
 use Rattle.air_log.specs.Deliveries.{deliveries_of}
 use Rattle.air_log.specs.Drops.{drops_of}
 use Rattle.air_log.specs.Charges.{windows_charge, scanned_frames}
-use Rattle.bus_model.specs.Bus.{state_at, bus_deliveries, bus_drops, bus_cost}
+use Rattle.bus_terms.specs.Bus.{state_at, bus_deliveries, bus_drops, bus_cost}
 use Rattle.air_log.specs.Devices.{seen}
 use Rattle.law_terms.specs.LawfulRuns.{IsLawfulRun}
 

@@ -9,15 +9,15 @@ use Rattle.radio_model.specs.Hearing.{frame_of, slot_of as slot_byte}
 use Rattle.glossy_relay.specs.Relaying.{accepted_of}
 use Rattle.bus_rules.specs.Plans.{last_slot}
 use Rattle.bus_rules.specs.Slots.{Message}
-use Rattle.bus_model.specs.Flooding.{Sends, Accepts, has}
+use Rattle.bus_terms.specs.Flooding.{Sends, Accepts, has}
 use Rattle.lwb_member.specs.Said.{bytes_of}
 use Rattle.air_log.specs.declared.entry.Entry.{Entry}
 use Rattle.air_log.specs.Entries.{sendings_of}
 use Rattle.air_log.specs.WindowLogs.{WindowLog}
 use Rattle.air_log.specs.Lawful.{trail_in}
 use Rattle.bus_rules.specs.States.{State, StateOn}
-use Rattle.bus_model.specs.Rounds.{Slot, round_plan, before_slot, slot_at, said_in}
-use Rattle.bus_model.specs.Bus.{state_at}
+use Rattle.bus_terms.specs.Rounds.{Slot, round_plan, before_slot, slot_at, said_in}
+use Rattle.bus_terms.specs.Bus.{state_at}
 use Rattle.law_terms.specs.LawfulRuns.{IsLawfulRun}
 
 -- the bus has a round of this rank in this frame, by this plan

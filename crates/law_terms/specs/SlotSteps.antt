@@ -12,8 +12,8 @@ use Rattle.air_log.specs.Trails.{at_frame}
 use Rattle.air_log.specs.Lawful.{heard_by}
 use Rattle.air_log.specs.WindowLogs.{WindowLog, Closing}
 use Rattle.bus_rules.specs.States.{State, StateOn}
-use Rattle.bus_model.specs.Rounds.{accepted_at, round, rounds, said_in}
-use Rattle.bus_model.specs.Bus.{state_at}
+use Rattle.bus_terms.specs.Rounds.{accepted_at, round, rounds, said_in}
+use Rattle.bus_terms.specs.Bus.{state_at}
 use Rattle.air_log.specs.Devices.{seen}
 use Rattle.law_terms.specs.LawfulRuns.{IsLawfulRun}
 use Rattle.law_terms.specs.SlotLaws.{IsRound, IsWindowOf, HasWindow, bus_slot, bus_before}

@@ -3,7 +3,7 @@ use Rattle.std.proofs.Common.{◌≡◌, ℕ, List, [], ◌∷◌, ◌++◌, ◌
 use Rattle.std.specs.Prelude.{Contains, ◌⊎◌, ◌≢◌}
 use Rattle.std.proofs.lemmas.Bool.{cases_order, cases_lt, or_cases, eqb-true, false≢true}
 use Rattle.glossy_relay.specs.FloodState.{FloodState}
-use Rattle.bus_model.specs.Flooding.{has}
+use Rattle.bus_terms.specs.Flooding.{has}
 use Rattle.radio_model.specs.declared.sending.Sending.{Sending}
 use Rattle.radio_model.specs.Hearing.{Before}
 use Rattle.air_log.specs.NodeEvents.{Event, sending_of, after, after_all, Occasion, occasions, InOrder}

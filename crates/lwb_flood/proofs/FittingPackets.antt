@@ -6,7 +6,7 @@ use Rattle.std.proofs.lemmas.Bool.{cases_eq, lt-ltb, ne_eqb, false_from_ne_true}
 use Rattle.std.proofs.lemmas.Slice.Eq.{bytes_eq-Decides}
 use Rattle.lwb_packets.specs.Body.{body}
 use Rattle.glossy_relay.specs.Relaying.{fits, carries}
-use Rattle.bus_model.specs.Flooding.{Setting, Moment, has, agrees, takes}
+use Rattle.bus_terms.specs.Flooding.{Setting, Moment, has, agrees, takes}
 use Rattle.radio_model.specs.declared.sending.Sending.{Sending}
 use Rattle.lwb_flood.specs.FloodRun.{Run, FloodRun, initiates, packet}
 use Rattle.glossy_relay.proofs.CountedPackets.{slot_set, body_set}

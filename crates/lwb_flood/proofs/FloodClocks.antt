@@ -2,7 +2,7 @@
 use Rattle.std.proofs.Common.{◌≡◌, ℕ, List, [], ◌∷◌, nat_eq, if◌then◌else◌}
 use Rattle.std.proofs.Common.{refl, ◌∙◌, ap}
 use Rattle.scenario_text.specs.declared.lines.NodeLine.{NodeLine}
-use Rattle.bus_model.specs.FloodOfText.{ids}
+use Rattle.bus_terms.specs.FloodOfText.{ids}
 use Rattle.radio_model.specs.declared.sending.Sending.{Sending}
 use Rattle.air_log.specs.ClockLists.{clocks_by}
 use Rattle.lwb_flood.specs.FloodWorlds.{World, heard, heard_by_all}

@@ -10,7 +10,7 @@ use Rattle.lwb_packets.specs.declared.kind.Kind.TheVariants.{Payload}
 use Rattle.glossy_relay.specs.FloodState.{FloodState, listening, initiating}
 use Rattle.glossy_relay.specs.Relaying.{fits, after_heard}
 use Rattle.scenario_text.specs.FloodParts.{FloodParts}
-use Rattle.bus_model.specs.FloodOfText.{ids}
+use Rattle.bus_terms.specs.FloodOfText.{ids}
 use Rattle.radio_model.specs.declared.sending.Sending.{Sending}
 use Rattle.radio_model.specs.declared.station.Station.{Station}
 use Rattle.radio_model.specs.Stations.{MediumState, IsMedium, IsTime, after, changed_at, retuned, nodes_of}

@@ -10,7 +10,7 @@ use Rattle.lwb_packets.specs.declared.kind.Kind.TheVariants.{Payload}
 use Rattle.glossy_relay.specs.FloodState.{listening, initiating}
 use Rattle.scenario_text.specs.FloodParts.{FloodParts}
 use Rattle.scenario_text.specs.declared.lines.NodeLine.{NodeLine}
-use Rattle.bus_model.specs.FloodOfText.{ids}
+use Rattle.bus_terms.specs.FloodOfText.{ids}
 use Rattle.radio_model.specs.declared.station.Station.{Station}
 use Rattle.radio_model.specs.declared.station.Tuned.{Tuned as TunedTo}
 use Rattle.radio_model.specs.OnAir.{Tuning}

@@ -9,7 +9,7 @@ use Rattle.lwb_base.specs.Profile.{one}
 use Rattle.glossy_relay.specs.FloodState.{FloodState}
 use Rattle.glossy_relay.specs.Relaying.{fits, after_heard, counter_of, first_of}
 use Rattle.scenario_text.specs.FloodParts.{FloodParts}
-use Rattle.bus_model.specs.FloodOfText.{ids}
+use Rattle.bus_terms.specs.FloodOfText.{ids}
 use Rattle.radio_model.specs.declared.sending.Sending.{Sending}
 use Rattle.radio_model.specs.Stations.{nodes_of}
 use Rattle.air_log.specs.FloodLaw.{CLOSING, first_flood, sending_at}

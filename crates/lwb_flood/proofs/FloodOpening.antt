@@ -8,7 +8,7 @@ use Rattle.lwb_base.specs.Profile.{one, Numbers}
 use Rattle.link_trace.specs.Masks.{AreNodes}
 use Rattle.scenario_text.specs.FloodParts.{FloodParts, IsSound}
 use Rattle.scenario_text.specs.declared.lines.NodeLine.{NodeLine}
-use Rattle.bus_model.specs.FloodOfText.{ids}
+use Rattle.bus_terms.specs.FloodOfText.{ids}
 use Rattle.radio_model.specs.declared.sending.Sending.{Sending}
 use Rattle.radio_model.specs.declared.station.Station.{Station}
 use Rattle.radio_model.specs.Stations.{MediumState, IsMedium, IsTime, nodes_of, after, changed_at, retuned, first_state}

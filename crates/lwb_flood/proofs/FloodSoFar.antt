@@ -7,7 +7,7 @@ use Rattle.glossy_relay.specs.FloodState.{FloodState}
 use Rattle.glossy_relay.specs.Relaying.{counter_of, reply_to}
 use Rattle.glossy_relay.specs.declared.flood.Reply.TheVariants.{Relay}
 use Rattle.scenario_text.specs.FloodParts.{FloodParts, knows}
-use Rattle.bus_model.specs.FloodOfText.{ids}
+use Rattle.bus_terms.specs.FloodOfText.{ids}
 use Rattle.radio_model.specs.declared.sending.Sending.{Sending}
 use Rattle.radio_model.specs.declared.station.Station.{Station}
 use Rattle.radio_model.specs.declared.station.Tuned.{Tuned as TunedTo}

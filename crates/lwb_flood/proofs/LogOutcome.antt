@@ -4,14 +4,14 @@ use Rattle.std.proofs.Common.{is_some, refl, sym, ◌∙◌, ap, subst, arith, l
 use Rattle.std.specs.Prelude.{Contains, ◌⊎◌, ◌≢◌}
 use Rattle.std.proofs.lemmas.Bool.{cases_order, or_from, ne_eqb, and_from, lt-ltb, ltb-true}
 use Rattle.scenario_text.specs.FloodParts.{FloodParts, knows}
-use Rattle.bus_model.specs.Flooding.{Setting, moment, has, may_hear, hears, Sends, Hears, Accepts, accepted, sendings, STEPS}
-use Rattle.bus_model.specs.FloodOfText.{setting, ids, acceptance}
-use Rattle.bus_model.specs.RelayPaths.{IsLeast}
-use Rattle.bus_model.proofs.Options.{inspect, sends_parts}
-use Rattle.bus_model.proofs.OneInitiator.{reaches, some_of, hears-one, has_one, any_of}
-use Rattle.bus_model.proofs.FirstHearings.{heard_in_time, accepted_first}
-use Rattle.bus_model.proofs.LeastPaths.{accepts_least}
-use Rattle.bus_model.proofs.SendingCounts.{all_sendings}
+use Rattle.bus_terms.specs.Flooding.{Setting, moment, has, may_hear, hears, Sends, Hears, Accepts, accepted, sendings, STEPS}
+use Rattle.bus_terms.specs.FloodOfText.{setting, ids, acceptance}
+use Rattle.bus_terms.specs.RelayPaths.{IsLeast}
+use Rattle.bus_terms.proofs.Options.{inspect, sends_parts}
+use Rattle.bus_terms.proofs.OneInitiator.{reaches, some_of, hears-one, has_one, any_of}
+use Rattle.bus_terms.proofs.FirstHearings.{heard_in_time, accepted_first}
+use Rattle.bus_terms.proofs.LeastPaths.{accepts_least}
+use Rattle.bus_terms.proofs.SendingCounts.{all_sendings}
 use Rattle.air_log.specs.declared.entry.Entry.{Entry}
 use Rattle.radio_model.specs.declared.sending.Sending.{Sending}
 use Rattle.air_log.specs.Entries.{sendings_of, hearings_of}

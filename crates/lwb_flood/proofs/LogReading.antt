@@ -15,8 +15,8 @@ use Rattle.radio_model.specs.declared.sending.Sending.{Sending}
 use Rattle.radio_model.specs.OnAir.{Hearing}
 use Rattle.scenario_text.specs.FloodParts.{FloodParts}
 use Rattle.scenario_text.specs.declared.lines.NodeLine.{NodeLine}
-use Rattle.bus_model.specs.Flooding.{Setting, moment, sendings, steps}
-use Rattle.bus_model.specs.FloodOfText.{ids}
+use Rattle.bus_terms.specs.Flooding.{Setting, moment, sendings, steps}
+use Rattle.bus_terms.specs.FloodOfText.{ids}
 use Rattle.air_log.proofs.Elements.{not_in_none}
 use Rattle.lwb_flood.specs.FloodLog.{IsAcceptance, accepting}
 use Rattle.lwb_flood.specs.declared.flood_outcome.FirstHearing.{FirstHearing}

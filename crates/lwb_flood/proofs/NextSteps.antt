@@ -7,12 +7,12 @@ use Rattle.std.proofs.lemmas.List.{set-set}
 use Rattle.std.proofs.lemmas.List.Elements.{Contains-append_cases}
 use Rattle.glossy_relay.specs.FloodState.{FloodState}
 use Rattle.glossy_relay.specs.Relaying.{fits, after_heard, after_sent}
-use Rattle.bus_model.specs.Flooding.{Setting, Moment, has, hears, first_heard, next, STEPS}
+use Rattle.bus_terms.specs.Flooding.{Setting, Moment, has, hears, first_heard, next, STEPS}
 use Rattle.radio_model.specs.declared.sending.Sending.{Sending}
 use Rattle.air_log.specs.NodeEvents.{Event, Heard, Ended, sending_of, after, InOrder}
 use Rattle.lwb_flood.specs.FloodRun.{counter, Run, FloodRun, sending_at, initiates, takes_part, packet, begins, HearsIn}
 use Rattle.air_log.proofs.Elements.{not_in_none, contains_head, contains_tail, contains_cases}
-use Rattle.bus_model.proofs.Options.{inspect, sends_parts, not_both}
+use Rattle.bus_terms.proofs.Options.{inspect, sends_parts, not_both}
 use Rattle.glossy_relay.proofs.CountedPackets.{counter_set, relayed_parts, fitting_long}
 use Rattle.lwb_flood.proofs.EventOrder.{after_all_append, order_head}
 use Rattle.lwb_flood.proofs.SendingTimes.{counter_is, same_origin, occasion_event, same_sending}

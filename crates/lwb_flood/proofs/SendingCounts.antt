@@ -5,11 +5,11 @@ use Rattle.std.specs.Prelude.{Contains}
 use Rattle.std.proofs.lemmas.Bool.{cases_order, cases_Bool, cases_eq, or_cases, or_parts, and_parts, and_from, eqb-true, ne_eqb, lt-ltb, ltb-true, le-ltb}
 use Rattle.std.proofs.lemmas.Bool.{false≢true, both_ways, false_from_ne_true}
 use Rattle.std.proofs.lemmas.List.Sums.{sum_by-cons}
-use Rattle.bus_model.specs.Flooding.{Setting, moment, has}
+use Rattle.bus_terms.specs.Flooding.{Setting, moment, has}
 use Rattle.radio_model.specs.declared.sending.Sending.{Sending}
 use Rattle.lwb_flood.specs.FloodRun.{counter, Run, FloodRun, packet}
 use Rattle.air_log.proofs.Elements.{not_in_none, contains_head, contains_tail, contains_cases, Distinct}
-use Rattle.bus_model.proofs.Options.{inspect, not_both}
+use Rattle.bus_terms.proofs.Options.{inspect, not_both}
 use Rattle.lwb_flood.proofs.SendingTimes.{timed, counter_is}
 use Rattle.lwb_flood.proofs.StepsOnAir.{IsAt}
 use Rattle.lwb_flood.proofs.WholeFlood.{at_step}

@@ -5,7 +5,7 @@ use Rattle.std.proofs.lemmas.Bool.{cases_lt, lt-ltb, le-ltb}
 use Rattle.lwb_packets.specs.declared.kind.Kind.{Kind}
 use Rattle.glossy_relay.specs.FloodState.{FloodState}
 use Rattle.glossy_relay.specs.Relaying.{fits, counter_of, first_of, after_heard, after_sent}
-use Rattle.bus_model.specs.Flooding.{Moment, has, first_heard, STEPS}
+use Rattle.bus_terms.specs.Flooding.{Moment, has, first_heard, STEPS}
 use Rattle.lwb_flood.specs.FloodRun.{Run, packet}
 
 -- there is a next step

@@ -6,13 +6,13 @@ use Rattle.std.specs.Option.{option_and_then}
 use Rattle.std.proofs.lemmas.Bool.{cases_eq, cond-true}
 use Rattle.std.proofs.lemmas.List.Elements.{Contains-append_left, Contains-append_right}
 use Rattle.glossy_relay.specs.FloodState.{FloodState}
-use Rattle.bus_model.specs.Flooding.{Setting, Moment, has, offer, candidates, named, pick}
+use Rattle.bus_terms.specs.Flooding.{Setting, Moment, has, offer, candidates, named, pick}
 use Rattle.tick_clock.specs.Clocks.{Near}
 use Rattle.radio_model.specs.declared.sending.Sending.{Sending}
 use Rattle.radio_model.specs.Hearing.{Before}
 use Rattle.air_log.specs.NodeEvents.{Event, Heard, sending_of, after_all}
 use Rattle.lwb_flood.specs.FloodRun.{counter, Run, FloodRun, initiates, takes_part, packet, begins, Rival, Silent, Alone, Captured, HearsIn}
-use Rattle.bus_model.proofs.Options.{inspect, some_injective, only_when, only_from, in_filter, from_filter, sends_parts, not_both, named_parts}
+use Rattle.bus_terms.proofs.Options.{inspect, some_injective, only_when, only_from, in_filter, from_filter, sends_parts, not_both, named_parts}
 use Rattle.lwb_flood.proofs.StepTimes.{close}
 use Rattle.lwb_flood.proofs.SendingTimes.{timed, in_time, counter_is, same_origin, over, meets, one_step, not_over, event_sent}
 use Rattle.lwb_flood.proofs.EventOrder.{earliest}

@@ -7,12 +7,12 @@ use Rattle.std.proofs.lemmas.List.Elements.{Contains-append_cases, Contains-appe
 use Rattle.glossy_relay.specs.FloodState.{FloodState}
 use Rattle.glossy_relay.specs.Relaying.{fits, reply_to, counter_of}
 use Rattle.glossy_relay.specs.declared.flood.Reply.TheVariants.{Relay}
-use Rattle.bus_model.specs.Flooding.{Setting, Moment, has, pick, agrees, may_hear, hears, next}
+use Rattle.bus_terms.specs.Flooding.{Setting, Moment, has, pick, agrees, may_hear, hears, next}
 use Rattle.radio_model.specs.declared.sending.Sending.{Sending}
 use Rattle.air_log.specs.NodeEvents.{Event, Heard, Ended, sending_of, after, after_all, Occasion, occasions, InOrder}
 use Rattle.lwb_flood.specs.FloodRun.{counter, Run, FloodRun, initiates, takes_part, packet, begins, HearsIn}
 use Rattle.air_log.proofs.Elements.{not_in_none, contains_head, contains_tail, contains_cases}
-use Rattle.bus_model.proofs.Options.{some_injective, heard_parts, none_is}
+use Rattle.bus_terms.proofs.Options.{some_injective, heard_parts, none_is}
 use Rattle.lwb_flood.proofs.EventOrder.{occasions_append, in_order_rest, order_head, occasion_of}
 use Rattle.lwb_flood.proofs.FittingPackets.{fits_is, wanted}
 use Rattle.lwb_flood.proofs.SendingTimes.{over, meets, event_sent, occasion_event, same_sending}

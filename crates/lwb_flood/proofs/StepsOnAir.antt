@@ -1,7 +1,7 @@
 -- A flood on the air at a step of the flood by steps.
 use Rattle.std.proofs.Common.{◌≡◌, ℕ, ◌<◌, ◌≤◌, List, ◌++◌, Some}
 use Rattle.std.specs.Prelude.{Contains}
-use Rattle.bus_model.specs.Flooding.{Moment}
+use Rattle.bus_terms.specs.Flooding.{Moment}
 use Rattle.radio_model.specs.declared.sending.Sending.{Sending}
 use Rattle.air_log.specs.NodeEvents.{Event, sending_of, after_all}
 use Rattle.lwb_flood.specs.FloodRun.{counter, Run, initiates, takes_part, packet, begins}

@@ -20,8 +20,8 @@ use Rattle.glossy_relay.proofs.Spellings.{data_again}
 abbrev Tuned : ℕ → Sending → Type 0
 Tuned v x = two_tuned v x ≡ true
 
-node_cases : (v : ℕ) → takes_part two_nodes v → (1 ≡ v) ⊎ (2 ≡ v)
-node_cases v here =
+test_nodes : (v : ℕ) → takes_part two_nodes v → (1 ≡ v) ⊎ (2 ≡ v)
+test_nodes v here =
     elim (or_cases (1 == v) _ here) [
       | inl is ↦ inl (eqb-true 1 v is)
       | inr later ↦ elim (or_cases (2 == v) _ later) [ inl is ↦ inr (eqb-true 2 v is) | inr none ↦ absurd (false≢true none) ]
@@ -34,7 +34,7 @@ sent : (P : Sending → Type 0) → P first_sending → P second_sending → (x 
 sent P at_first at_second x there = elim (one_of_two first_sending second_sending x there) [ inl is ↦ subst P is at_first | inr is ↦ subst P is at_second ]
 
 at_nodes : (P : ℕ → Type 0) → P 1 → P 2 → (v : ℕ) → takes_part two_nodes v → P v
-at_nodes P at_one at_two v here = elim (node_cases v here) [ inl is ↦ subst P is at_one | inr is ↦ subst P is at_two ]
+at_nodes P at_one at_two v here = elim (test_nodes v here) [ inl is ↦ subst P is at_one | inr is ↦ subst P is at_two ]
 
 heard_hearing : (v : ℕ) (x : Sending) → Contains two_nodes.hearings (record { node = v; sending = x }) → (2 ≡ v) × (first_sending ≡ x)
 heard_hearing v x there =

@@ -8,15 +8,15 @@ use Rattle.std.proofs.lemmas.List.Elements.{Contains-append_right}
 use Rattle.lwb_packets.specs.declared.kind.Kind.{Kind}
 use Rattle.glossy_relay.specs.FloodState.{FloodState}
 use Rattle.glossy_relay.specs.Relaying.{fits, counter_of, accepted_of}
-use Rattle.bus_model.specs.Flooding.{Setting, moment, beginning, has, Sends, Hears, Accepts}
+use Rattle.bus_terms.specs.Flooding.{Setting, moment, beginning, has, Sends, Hears, Accepts}
 use Rattle.radio_model.specs.declared.sending.Sending.{Sending}
 use Rattle.air_log.specs.NodeEvents.{Event, Heard, sending_of, after_all}
 use Rattle.lwb_flood.specs.FloodRun.{counter, Run, FloodRun, sending_at, initiates, takes_part, packet, begins}
 use Rattle.lwb_flood.specs.FloodBySteps.{SendsOnAir, HearsOnAir, ended, IsFloodBySteps}
 use Rattle.air_log.proofs.Elements.{not_in_none, contains_head}
-use Rattle.bus_model.proofs.Options.{some_injective}
+use Rattle.bus_terms.proofs.Options.{some_injective}
 use Rattle.glossy_relay.proofs.CountedPackets.{counter_set}
-use Rattle.bus_model.proofs.FirstHearings.{first_hearing, kept_hearing, heard_in_time}
+use Rattle.bus_terms.proofs.FirstHearings.{first_hearing, kept_hearing, heard_in_time}
 use Rattle.lwb_flood.proofs.NextSteps.{step_on}
 use Rattle.lwb_flood.proofs.SendingTimes.{timed, message_is, long, counter_is, same_origin, event_sent, occasion_event, same_sending}
 use Rattle.lwb_flood.proofs.Stations.{of_parts, spell, station}

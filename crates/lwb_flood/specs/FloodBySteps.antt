@@ -3,7 +3,7 @@ use Rattle.std.specs.Prelude.{◌≡◌, ℕ, ◌+◌, ◌*◌, ◌≤◌, ◌�
 use Rattle.tick_clock.specs.Clocks.{Near}
 use Rattle.glossy_relay.specs.FloodState.{FloodState}
 use Rattle.glossy_relay.specs.Relaying.{fits, accepted_of}
-use Rattle.bus_model.specs.Flooding.{moment, has, Sends, Hears, Accepts, STEPS}
+use Rattle.bus_terms.specs.Flooding.{moment, has, Sends, Hears, Accepts, STEPS}
 use Rattle.radio_model.specs.declared.sending.Sending.{Sending}
 use Rattle.air_log.specs.NodeEvents.{Heard, after_all, occasions}
 use Rattle.lwb_flood.specs.FloodRun.{Run, initiates, takes_part, counter, packet, begins}

@@ -7,7 +7,7 @@ use Rattle.tick_clock.specs.Clocks.{IsClock, due}
 use Rattle.lwb_packets.specs.declared.kind.Kind.TheVariants.{Payload}
 use Rattle.glossy_relay.specs.Relaying.{counter_of}
 use Rattle.scenario_text.specs.FloodParts.{FloodParts, IsSound, knows}
-use Rattle.bus_model.specs.FloodOfText.{setting}
+use Rattle.bus_terms.specs.FloodOfText.{setting}
 use Rattle.air_log.specs.declared.entry.Entry.{Entry}
 use Rattle.radio_model.specs.declared.sending.Sending.{Sending}
 use Rattle.air_log.specs.Entries.{sendings_of, hearings_of, IsHeard}

@@ -9,5 +9,5 @@ pub mod FloodWorlds
 -- what the clauses of the floods cite
 pub use Rattle.air_log.specs.FloodLaw
 pub use Rattle.air_log.specs.ClockLists
-pub use Rattle.bus_model.specs.FloodOfText
+pub use Rattle.bus_terms.specs.FloodOfText
 pub use Rattle.scenario_clocks.specs.StatedClocks

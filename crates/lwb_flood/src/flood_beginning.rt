@@ -4,7 +4,7 @@ ghost use Rattle.std.specs.Prelude.{◌≡◌, ◌≤◌, ℕ, IfOk, map, slice_
 ghost use Rattle.scenario_text.specs.FloodParts.{IsSound};
 ghost use Rattle.lwb_base.specs.Profile.{one};
 ghost use Rattle.glossy_relay.specs.Relaying.{is_packet};
-ghost use Rattle.bus_model.specs.FloodOfText.{ids};
+ghost use Rattle.bus_terms.specs.FloodOfText.{ids};
 ghost use Rattle.radio_model.specs.Stations.{first_state};
 ghost use Rattle.air_log.specs.FloodLaw.{first_packet as first_packet_of};
 ghost use Rattle.lwb_flood.specs.FloodWorlds.{opened, first_world, first_member as first_member_of};

@@ -5,7 +5,7 @@ ghost use Rattle.lwb_base.specs.Profile.{Numbers, airtime};
 ghost use Rattle.time_reference.specs.Budgets.{Budget, Fits};
 ghost use Rattle.lwb_packets.specs.declared.kind.Kind.{Kind};
 ghost use Rattle.glossy_relay.specs.Relaying.{is_spelling};
-ghost use Rattle.bus_model.specs.Flooding.{sendings};
+ghost use Rattle.bus_terms.specs.Flooding.{sendings};
 ghost use Rattle.radio_model.specs.declared.sending.Sending.{Sending};
 ghost use Rattle.radio_model.specs.Hearing.{Scene, Hears, TunedThrough};
 ghost use Rattle.air_log.specs.NodeEvents.{Ended};

@@ -4,9 +4,9 @@ ghost use Rattle.std.specs.Prelude.{◌≡◌, ◌≢◌, ℕ, suc, ◌≤◌, �
 ghost use Rattle.std.specs.declared.option.Option.{Option};
 ghost use Rattle.lwb_base.specs.Profile.{one};
 ghost use Rattle.scenario_text.specs.FloodParts.{FloodParts, IsSound, knows};
-ghost use Rattle.bus_model.specs.Flooding.{Sends, Hears};
-ghost use Rattle.bus_model.specs.FloodOfText.{setting, ids, outcome};
-ghost use Rattle.bus_model.specs.RelayPaths.{IsLeast};
+ghost use Rattle.bus_terms.specs.Flooding.{Sends, Hears};
+ghost use Rattle.bus_terms.specs.FloodOfText.{setting, ids, outcome};
+ghost use Rattle.bus_terms.specs.RelayPaths.{IsLeast};
 ghost use Rattle.air_log.specs.declared.entry.Entry.{Entry};
 ghost use Rattle.radio_model.specs.declared.sending.Sending.{Sending};
 ghost use Rattle.air_log.specs.Entries.{sendings_of};

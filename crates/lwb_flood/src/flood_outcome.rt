@@ -1,7 +1,7 @@
 //! What one flood gives, read off its log.
 
 ghost use Rattle.std.specs.Prelude.{◌≡◌, ◌≤◌, ℕ, IfOk, length, slice_get, is_some, option_and_then, Some};
-ghost use Rattle.bus_model.specs.FloodOfText.{ids, outcome};
+ghost use Rattle.bus_terms.specs.FloodOfText.{ids, outcome};
 ghost use Rattle.air_log.specs.Entries.{sendings_of, sending_in};
 ghost use Rattle.air_log.specs.FloodLaw.{FloodLaw};
 ghost use Rattle.lwb_flood.specs.FloodLog.{HasClocks, accepting};

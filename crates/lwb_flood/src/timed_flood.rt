@@ -1,7 +1,7 @@
 //! The result of one flood over clocks that drift.
 
 ghost use Rattle.std.specs.Prelude.{◌≡◌, IfOk, length};
-ghost use Rattle.bus_model.specs.FloodOfText.{outcome};
+ghost use Rattle.bus_terms.specs.FloodOfText.{outcome};
 
 use crate::outcome_of;
 use crate::true_time::flood_log;

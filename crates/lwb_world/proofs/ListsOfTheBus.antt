@@ -1,7 +1,7 @@
 -- What a run has delivered and lost is the bus's.
 use Rattle.std.proofs.Common.{◌≡◌, ap, ◌∙◌, sym}
 use Rattle.scenario_text.specs.ScenarioParts.{ScenarioParts}
-use Rattle.bus_model.specs.Bus.{bus_deliveries, bus_drops}
+use Rattle.bus_terms.specs.Bus.{bus_deliveries, bus_drops}
 use Rattle.world_engine.specs.Worlds.{WorldState}
 use Rattle.lwb_world.specs.Worlds.{IsLeftByRun}
 

@@ -5,7 +5,7 @@ use Rattle.scenario_text.specs.ScenarioParts.{ScenarioParts}
 use Rattle.scenario_text.specs.FloodParts.{knows}
 use Rattle.bus_rules.specs.declared.delivery.Delivery.{Delivery}
 use Rattle.bus_rules.specs.declared.delivery.DropLine.{DropLine}
-use Rattle.bus_model.specs.Bus.{bus_drops}
+use Rattle.bus_terms.specs.Bus.{bus_drops}
 use Rattle.node_core.specs.Nodes.{NodeState}
 use Rattle.air_log.specs.declared.entry.Entry.{Entry}
 use Rattle.air_log.specs.Lawful.{Lawful, trail_in}

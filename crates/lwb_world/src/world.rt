@@ -1,7 +1,7 @@
 //! The world: the nodes of a scenario in true time.
 
 ghost use Rattle.std.specs.Prelude.{◌≡◌, false, IfOk, OnOk, length, replicate, option_copied};
-ghost use Rattle.bus_model.specs.Bus.{bus_deliveries, bus_drops};
+ghost use Rattle.bus_terms.specs.Bus.{bus_deliveries, bus_drops};
 ghost use Rattle.event_calendar.specs.Orders.{nothing_due};
 ghost use Rattle.air_log.specs.ClockLists.{clocks_by};
 ghost use Rattle.world_engine.specs.Runs.{orders_left};

@@ -5,7 +5,7 @@ use Rattle.std.proofs.lemmas.List.{get_or-map, get_or_default, take_more_set}
 use Rattle.bus_rules.specs.Slots.{Message}
 use Rattle.bus_rules.specs.declared.delivery.Delivery.{Delivery}
 use Rattle.bus_rules.specs.declared.part.Part.{Part}
-use Rattle.bus_model.specs.Flooding.{has}
+use Rattle.bus_terms.specs.Flooding.{has}
 use Rattle.plain_bus.specs.BusNodes.{BusNode, MayAcceptIn}
 use Rattle.plain_bus.specs.Closings.{Behind, IsBehind, AllMay, heard_in, heard_at, closed_node, delivers_node}
 use Rattle.plain_bus.specs.SlotFloods.{Seen, seen, node_closed, node_delivers}

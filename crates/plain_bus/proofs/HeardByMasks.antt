@@ -9,8 +9,8 @@ use Rattle.std.proofs.lemmas.Nat.Bits.{bit_at_and}
 use Rattle.link_trace.specs.Masks.{IsMask}
 use Rattle.link_trace.specs.Passes.{passes}
 use Rattle.link_trace.specs.Sealed.{Traced}
-use Rattle.bus_model.specs.Flooding.{Setting, Moment, has, offer, pick, may_hear, agrees, takes, hears}
-use Rattle.bus_model.proofs.Options.{sends_parts}
+use Rattle.bus_terms.specs.Flooding.{Setting, Moment, has, offer, pick, may_hear, agrees, takes, hears}
+use Rattle.bus_terms.proofs.Options.{sends_parts}
 use Rattle.plain_bus.specs.FloodMasks.{IsFlood, IsKnown, AreOffers, station_at, sent_at, may_hear_at, takes_at}
 use Rattle.plain_bus.specs.declared.station.Flood.{Flood}
 use Rattle.plain_bus.specs.declared.station.Station.{Station}

@@ -13,10 +13,10 @@ use Rattle.bus_rules.specs.Slots.{Message, Opened, opened}
 use Rattle.bus_rules.specs.Cores.{is_member}
 use Rattle.bus_rules.specs.declared.part.Part.{Part}
 use Rattle.bus_rules.specs.States.{State, StateOff, StateOn}
-use Rattle.bus_model.specs.Flooding.{has}
-use Rattle.bus_model.specs.FloodOfText.{ids}
-use Rattle.bus_model.specs.Rounds.{opened_at, said_in, takes_part, closed_by, flood_of}
-use Rattle.bus_model.specs.ScriptedStates.{setup_in}
+use Rattle.bus_terms.specs.Flooding.{has}
+use Rattle.bus_terms.specs.FloodOfText.{ids}
+use Rattle.bus_terms.specs.Rounds.{opened_at, said_in, takes_part, closed_by, flood_of}
+use Rattle.bus_terms.specs.ScriptedStates.{setup_in}
 use Rattle.plain_bus.specs.BusNodes.{window_of, state_opened, closed_of}
 use Rattle.plain_bus.specs.SlotFloods.{AreWindows, Seen, seen, seen_by}
 use Rattle.plain_bus.specs.declared.window.Window.{Window}

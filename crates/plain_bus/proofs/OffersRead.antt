@@ -7,7 +7,7 @@ use Rattle.std.specs.Prelude.{◌⊎◌}
 use Rattle.std.proofs.lemmas.Bool.{false≢true, cond-false, eq-eqb, eqb-true, cases_lt}
 use Rattle.std.proofs.lemmas.List.{get_or_default}
 use Rattle.std.proofs.lemmas.Nat.Bits.{bit_at-zero}
-use Rattle.bus_model.proofs.Options.{inspect, not_both, some_injective}
+use Rattle.bus_terms.proofs.Options.{inspect, not_both, some_injective}
 use Rattle.plain_bus.specs.FloodMasks.{AreOffers, IsOffer, AllOffer, sent_at}
 use Rattle.plain_bus.specs.declared.station.Station.{Station}
 

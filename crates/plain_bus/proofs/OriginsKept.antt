@@ -2,8 +2,8 @@
 use Rattle.std.proofs.Common.{◌≡◌, ◌≤◌, ◌<◌, ◌+◌, ◌==◌, ◌||◌, ℕ, zero, suc, Bool, true, false, not, nat_lt, inl, inr, Option, Some, None, if◌then◌else◌}
 use Rattle.std.proofs.Common.{refl, sym, ◌∙◌, ap, subst, arith}
 use Rattle.std.proofs.lemmas.Bool.{and_parts, eqb-true, false≢true, cases_lt, ltb-true}
-use Rattle.bus_model.specs.Flooding.{Setting, moment, has, agrees, may_hear, takes, hears, pick, first_heard, STEPS}
-use Rattle.bus_model.proofs.Options.{heard_parts, sends_parts, some_injective}
+use Rattle.bus_terms.specs.Flooding.{Setting, moment, has, agrees, may_hear, takes, hears, pick, first_heard, STEPS}
+use Rattle.bus_terms.proofs.Options.{heard_parts, sends_parts, some_injective}
 
 module _ (s : Setting) (v : ℕ) where
   kept_as : (k : ℕ) → (moment s (suc k)).heard v ≡ first_heard ((moment s k).heard v) k (hears s (moment s k) k v)

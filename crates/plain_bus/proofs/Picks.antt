@@ -3,8 +3,8 @@ use Rattle.std.proofs.Common.{◌≡◌, ℕ, List, [], ◌∷◌, true, inl, in
 use Rattle.std.specs.Prelude.{◌⊎◌}
 use Rattle.std.specs.List.{list_all, cons_option}
 use Rattle.std.proofs.lemmas.Bool.{cases_Bool, or_cases, or_right, eqb-true, false≢true, cond-true, cond-false}
-use Rattle.bus_model.specs.Flooding.{Setting, Moment, has, offer, candidates, named, only_one, pick}
-use Rattle.bus_model.proofs.Options.{only_when, only_from, in_filter, from_filter, sends_parts}
+use Rattle.bus_terms.specs.Flooding.{Setting, Moment, has, offer, candidates, named, only_one, pick}
+use Rattle.bus_terms.proofs.Options.{only_when, only_from, in_filter, from_filter, sends_parts}
 use Rattle.plain_bus.specs.FloodMasks.{IsKnown}
 
 none_given : (give : ℕ → Option ℕ) → ((u : ℕ) → give u ≡ None) → (us : List ℕ) → filter_map give us ≡ []

@@ -11,9 +11,9 @@ use Rattle.bus_rules.specs.declared.tune.Tune.TheVariants.{Scan, Hold, Host}
 use Rattle.bus_rules.specs.Cores.{Core}
 use Rattle.bus_rules.specs.States.{State, StateOff, StateOn}
 use Rattle.bus_rules.specs.Tuning.{rank_of, hosts_in, holds_in}
-use Rattle.bus_model.specs.FloodOfText.{ids}
-use Rattle.bus_model.specs.Rounds.{plan_in, rank_in, round_plan}
-use Rattle.bus_model.specs.ScriptedStates.{is_on}
+use Rattle.bus_terms.specs.FloodOfText.{ids}
+use Rattle.bus_terms.specs.Rounds.{plan_in, rank_in, round_plan}
+use Rattle.bus_terms.specs.ScriptedStates.{is_on}
 use Rattle.plain_bus.specs.BusNodes.{BusNode, bus_node, mixed, ranks_in, shown, nodes_in}
 use Rattle.plain_bus.specs.Leaders.{holds, leads, parts_at, parts_in, parts_of}
 

@@ -3,7 +3,7 @@ use Rattle.std.proofs.Common.{◌≡◌, ◌++◌, ◌∷◌, [], ℕ, List, inl
 use Rattle.std.proofs.lemmas.Bool.{cases_lt}
 use Rattle.std.proofs.lemmas.List.{get_or_append_left, get_or_push}
 use Rattle.link_trace.specs.Masks.{IsMask}
-use Rattle.bus_model.specs.Flooding.{Setting, moment}
+use Rattle.bus_terms.specs.Flooding.{Setting, moment}
 use Rattle.plain_bus.specs.FloodMasks.{AreSenders}
 
 pub senders_more : (s : Setting) (nodes masks more : List ℕ) (mask n : ℕ) → AreSenders s nodes masks → length masks ≡ n

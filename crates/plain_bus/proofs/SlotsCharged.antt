@@ -11,11 +11,11 @@ use Rattle.scenario_text.specs.ScenarioParts.{ScenarioParts}
 use Rattle.bus_rules.specs.Charges.{charge, last_of}
 use Rattle.bus_rules.specs.Slots.{part_of}
 use Rattle.bus_rules.specs.States.{State}
-use Rattle.bus_model.specs.Bus.{Cost}
-use Rattle.bus_model.specs.Costs.{length_at, sent_by}
-use Rattle.bus_model.specs.FloodOfText.{ids}
-use Rattle.bus_model.specs.Flooding.{moment, has, steps}
-use Rattle.bus_model.specs.Rounds.{Slot, opened_at, said_in, before_slot, slot_at}
+use Rattle.bus_terms.specs.Bus.{Cost}
+use Rattle.bus_terms.specs.Costs.{length_at, sent_by}
+use Rattle.bus_terms.specs.FloodOfText.{ids}
+use Rattle.bus_terms.specs.Flooding.{moment, has, steps}
+use Rattle.bus_terms.specs.Rounds.{Slot, opened_at, said_in, before_slot, slot_at}
 use Rattle.plain_bus.specs.BusNodes.{ranks_in}
 use Rattle.plain_bus.specs.Closings.{Behind}
 use Rattle.plain_bus.specs.FloodMasks.{sends_in}

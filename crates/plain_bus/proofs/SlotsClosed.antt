@@ -12,9 +12,9 @@ use Rattle.bus_rules.specs.declared.tune.Tune.TheVariants.{Scan, Hold, Host}
 use Rattle.bus_rules.specs.declared.part.Part.{Part}
 use Rattle.bus_rules.specs.declared.part.Part.TheVariants.{Opening, Data as DataSlot, Contention, Closing}
 use Rattle.bus_rules.specs.States.{State, StateOff, StateOn}
-use Rattle.bus_model.specs.Rounds.{opened_at, said_in, takes_part, closed_by, left_by}
-use Rattle.bus_model.specs.ScriptedStates.{setup_in}
-use Rattle.bus_model.proofs.OtherRanks.{IsElsewhere, no_window}
+use Rattle.bus_terms.specs.Rounds.{opened_at, said_in, takes_part, closed_by, left_by}
+use Rattle.bus_terms.specs.ScriptedStates.{setup_in}
+use Rattle.bus_terms.proofs.OtherRanks.{IsElsewhere, no_window}
 use Rattle.plain_bus.specs.BusNodes.{window_of, state_opened, closed_of, MayAcceptIn}
 use Rattle.plain_bus.specs.SlotFloods.{seen_by}
 use Rattle.plain_bus.proofs.MembersOfSlots.{window_at}

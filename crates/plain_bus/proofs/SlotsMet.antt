@@ -9,17 +9,17 @@ use Rattle.scenario_text.specs.ScenarioParts.{ScenarioParts}
 use Rattle.scenario_text.specs.declared.lines.NodeLine.{NodeLine}
 use Rattle.bus_rules.specs.Slots.{part_of}
 use Rattle.bus_rules.specs.States.{State}
-use Rattle.bus_model.specs.FloodOfText.{ids}
-use Rattle.bus_model.specs.Flooding.{Setting, moment, has, STEPS}
-use Rattle.bus_model.specs.Rounds.{said_in, slot_at, opened_at, before_slot}
-use Rattle.bus_model.proofs.ReceivedByPaths.{in_whole}
-use Rattle.bus_model.proofs.ReceivedInRounds.{ids_rise}
+use Rattle.bus_terms.specs.FloodOfText.{ids}
+use Rattle.bus_terms.specs.Flooding.{Setting, moment, has, STEPS}
+use Rattle.bus_terms.specs.Rounds.{said_in, slot_at, opened_at, before_slot}
+use Rattle.bus_terms.proofs.ReceivedByPaths.{in_whole}
+use Rattle.bus_terms.proofs.ReceivedInRounds.{ids_rise}
 use Rattle.plain_bus.specs.Closings.{IsBehind}
 use Rattle.plain_bus.specs.FloodMasks.{station_at}
 use Rattle.plain_bus.specs.SlotFloods.{seen}
 use Rattle.plain_bus.specs.declared.station.Station.{Station}
 use Rattle.plain_bus.specs.declared.window.Window.{Window}
-use Rattle.bus_model.proofs.HeardOrigins.{first_origin}
+use Rattle.bus_terms.proofs.HeardOrigins.{first_origin}
 use Rattle.plain_bus.proofs.ListsInPlace.{map_more}
 use Rattle.plain_bus.proofs.MembersOfSlots.{map_of_map}
 use Rattle.plain_bus.proofs.SlotsRun.{behind, window_seen}

@@ -8,14 +8,14 @@ use Rattle.scenario_text.specs.ScenarioParts.{ScenarioParts}
 use Rattle.bus_rules.specs.declared.part.Part.{Part}
 use Rattle.bus_rules.specs.Slots.{Message, ScheduleOf, Opened, Closed, part_of, is_schedule_part, delivery_of}
 use Rattle.bus_rules.specs.States.{State, StateOff, StateOn}
-use Rattle.bus_model.specs.FloodOfText.{ids}
-use Rattle.bus_model.specs.Flooding.{moment, has, STEPS}
-use Rattle.bus_model.specs.Rounds.{Slot, opened_at, said_in, takes_part, closed_by, closed_at, left_by, accepted_at, before_slot, after_slot, slot_at, rank_in}
-use Rattle.bus_model.specs.Rounds.{delivered_at}
-use Rattle.bus_model.specs.ScriptedStates.{setup_in}
-use Rattle.bus_model.proofs.OtherRanks.{IsElsewhere, no_window, slots_elsewhere}
-use Rattle.bus_model.proofs.ReceivedByPaths.{of_filtered}
-use Rattle.bus_model.proofs.ReceivedInRounds.{accepted_none}
+use Rattle.bus_terms.specs.FloodOfText.{ids}
+use Rattle.bus_terms.specs.Flooding.{moment, has, STEPS}
+use Rattle.bus_terms.specs.Rounds.{Slot, opened_at, said_in, takes_part, closed_by, closed_at, left_by, accepted_at, before_slot, after_slot, slot_at, rank_in}
+use Rattle.bus_terms.specs.Rounds.{delivered_at}
+use Rattle.bus_terms.specs.ScriptedStates.{setup_in}
+use Rattle.bus_terms.proofs.OtherRanks.{IsElsewhere, no_window, slots_elsewhere}
+use Rattle.bus_terms.proofs.ReceivedByPaths.{of_filtered}
+use Rattle.bus_terms.proofs.ReceivedInRounds.{accepted_none}
 use Rattle.plain_bus.specs.BusNodes.{BusNode, bus_node, mixed, ranks_in, nodes_before, node_opened, state_opened, closed_of, MayAcceptIn}
 use Rattle.plain_bus.specs.Closings.{Behind, heard_at, closed_node, delivers_node}
 use Rattle.plain_bus.specs.SlotFloods.{Seen, seen_of, seen_by}

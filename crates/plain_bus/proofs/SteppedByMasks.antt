@@ -10,9 +10,9 @@ use Rattle.std.proofs.lemmas.Nat.Bits.{bit_at-zero}
 use Rattle.link_trace.specs.Masks.{IsMaskUpto}
 use Rattle.link_trace.specs.Sealed.{Traced}
 use Rattle.link_trace.proofs.MaskBits.{one_set, one_unset, same_tests}
-use Rattle.bus_model.specs.Flooding.{Setting, Moment, STEPS, has, offer, pick, may_hear, takes, hears, first_heard, next, beginning, moment}
-use Rattle.bus_model.proofs.HeardOrigins.{heard_of}
-use Rattle.bus_model.proofs.Options.{inspect, sends_parts, heard_parts, some_injective}
+use Rattle.bus_terms.specs.Flooding.{Setting, Moment, STEPS, has, offer, pick, may_hear, takes, hears, first_heard, next, beginning, moment}
+use Rattle.bus_terms.proofs.HeardOrigins.{heard_of}
+use Rattle.bus_terms.proofs.Options.{inspect, sends_parts, heard_parts, some_injective}
 use Rattle.plain_bus.specs.FloodMasks.{IsFlood, IsKnown, AreAt, station_at, station_after, station_first, with_sender}
 use Rattle.plain_bus.proofs.HeardByMasks.{bit_tells, place_of}
 use Rattle.plain_bus.proofs.Picks.{nothing_picked}

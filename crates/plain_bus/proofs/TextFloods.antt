@@ -12,10 +12,10 @@ use Rattle.link_trace.specs.Sealed.{Traced}
 use Rattle.link_trace.proofs.MaskBits.{same_tests}
 use Rattle.scenario_text.specs.FloodParts.{FloodParts, IsSealed, knows}
 use Rattle.scenario_text.specs.declared.lines.NodeLine.{NodeLine}
-use Rattle.bus_model.specs.Flooding.{STEPS, has, moment}
-use Rattle.bus_model.specs.FloodOfText.{ids, setting, acceptance, outcome}
-use Rattle.bus_model.proofs.Options.{some_injective}
-use Rattle.bus_model.proofs.SendingCounts.{all_sendings}
+use Rattle.bus_terms.specs.Flooding.{STEPS, has, moment}
+use Rattle.bus_terms.specs.FloodOfText.{ids, setting, acceptance, outcome}
+use Rattle.bus_terms.proofs.Options.{some_injective}
+use Rattle.bus_terms.proofs.SendingCounts.{all_sendings}
 use Rattle.plain_bus.specs.FloodMasks.{IsFlood, station_at, accepted_from}
 use Rattle.plain_bus.specs.declared.station.Flood.{Flood}
 use Rattle.plain_bus.specs.declared.station.Station.{Station}

@@ -11,9 +11,9 @@ use Rattle.scenario_text.specs.declared.script.Act.{Act}
 use Rattle.scenario_text.specs.declared.script.Act.TheVariants.{On, Off, Declare, Leave, Put}
 use Rattle.lwb_member.specs.Members.{MayAccept}
 use Rattle.lwb_member.specs.Planning.{IsEarly}
-use Rattle.bus_model.specs.FloodOfText.{ids}
-use Rattle.bus_model.specs.Rounds.{rank_in, before_slot}
-use Rattle.bus_model.specs.ScriptedStates.{setup_in}
+use Rattle.bus_terms.specs.FloodOfText.{ids}
+use Rattle.bus_terms.specs.Rounds.{rank_in, before_slot}
+use Rattle.bus_terms.specs.ScriptedStates.{setup_in}
 use Rattle.lwb_base.specs.Messages.{Plan}
 
 -- what is fixed for a node, the rank in whose round of the frame it takes part, and its state

@@ -4,7 +4,7 @@ use Rattle.std.specs.declared.option.Option.{Option}
 use Rattle.bus_rules.specs.declared.delivery.Delivery.{Delivery}
 use Rattle.bus_rules.specs.declared.part.Part.{Part}
 use Rattle.bus_rules.specs.Slots.{Message}
-use Rattle.bus_model.specs.Flooding.{has}
+use Rattle.bus_terms.specs.Flooding.{has}
 use Rattle.plain_bus.specs.BusNodes.{BusNode, MayAcceptIn}
 use Rattle.plain_bus.specs.SlotFloods.{Seen, seen, node_closed, node_delivers}
 use Rattle.plain_bus.specs.declared.station.Station.{Station}

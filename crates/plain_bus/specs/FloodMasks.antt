@@ -6,7 +6,7 @@ use Rattle.std.specs.Int.{bit_at}
 use Rattle.link_trace.specs.Masks.{IsMask}
 use Rattle.link_trace.specs.Passes.{passes, captured}
 use Rattle.link_trace.specs.Sealed.{Traced}
-use Rattle.bus_model.specs.Flooding.{Setting, Moment, moment, STEPS, has, agrees, first_heard}
+use Rattle.bus_terms.specs.Flooding.{Setting, Moment, moment, STEPS, has, agrees, first_heard}
 use Rattle.plain_bus.specs.declared.station.Flood.{Flood}
 use Rattle.plain_bus.specs.declared.station.Station.{Station}
 use Rattle.plain_bus.specs.declared.station.Stations.{Stations}

@@ -7,7 +7,7 @@ use Rattle.bus_rules.specs.Plans.{last_slot}
 use Rattle.bus_rules.specs.Slots.{part_of}
 use Rattle.bus_rules.specs.States.{State, StateOff, StateOn}
 use Rattle.bus_rules.specs.Tuning.{hosts_in, holds_in}
-use Rattle.bus_model.specs.ScriptedStates.{is_on}
+use Rattle.bus_terms.specs.ScriptedStates.{is_on}
 use Rattle.plain_bus.specs.BusNodes.{BusNode, shown}
 
 -- what the slots of a plan's round are for, by slot

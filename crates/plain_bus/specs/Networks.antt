@@ -4,10 +4,10 @@ use Rattle.lwb_base.specs.Messages.{Plan}
 use Rattle.scenario_text.specs.ScenarioParts.{ScenarioParts}
 use Rattle.bus_rules.specs.declared.delivery.Delivery.{Delivery}
 use Rattle.bus_rules.specs.States.{State, StateOff}
-use Rattle.bus_model.specs.Bus.{Cost}
-use Rattle.bus_model.specs.Costs.{slot_sent, slot_window}
-use Rattle.bus_model.specs.FloodOfText.{ids as ids_of}
-use Rattle.bus_model.specs.Rounds.{slot_at}
+use Rattle.bus_terms.specs.Bus.{Cost}
+use Rattle.bus_terms.specs.Costs.{slot_sent, slot_window}
+use Rattle.bus_terms.specs.FloodOfText.{ids as ids_of}
+use Rattle.bus_terms.specs.Rounds.{slot_at}
 use Rattle.plain_bus.specs.BusNodes.{BusNode, bus_node, IsEarlyState}
 use Rattle.plain_bus.specs.SlotCosts.{IsBelow}
 

@@ -7,7 +7,7 @@ use Rattle.std.specs.Option.{option_map_or}
 use Rattle.lwb_base.specs.Profile.{Numbers, airtime}
 use Rattle.bus_rules.specs.Charges.{charge, last_of}
 use Rattle.bus_rules.specs.Slots.{message_length}
-use Rattle.bus_model.specs.Bus.{Cost}
+use Rattle.bus_terms.specs.Bus.{Cost}
 use Rattle.plain_bus.specs.BusNodes.{BusNode}
 use Rattle.plain_bus.specs.Closings.{Behind}
 use Rattle.plain_bus.specs.SlotFloods.{Seen}

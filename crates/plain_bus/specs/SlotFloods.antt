@@ -6,8 +6,8 @@ use Rattle.bus_rules.specs.declared.part.Part.{Part}
 use Rattle.bus_rules.specs.Slots.{Message, Opened}
 use Rattle.bus_rules.specs.States.{State}
 use Rattle.scenario_text.specs.ScenarioParts.{ScenarioParts}
-use Rattle.bus_model.specs.FloodOfText.{ids}
-use Rattle.bus_model.specs.Rounds.{opened_at, said_in, takes_part, left_by}
+use Rattle.bus_terms.specs.FloodOfText.{ids}
+use Rattle.bus_terms.specs.Rounds.{opened_at, said_in, takes_part, left_by}
 use Rattle.lwb_member.specs.Said.{message_of}
 use Rattle.plain_bus.specs.BusNodes.{BusNode, shown, window_of, closed_of, delivered_of}
 use Rattle.plain_bus.specs.declared.window.Window.{Window}

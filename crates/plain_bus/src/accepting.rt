@@ -4,7 +4,7 @@ ghost use Rattle.std.specs.Prelude.{◌≡◌, ◌≤◌, ◌==◌, IfOk, All, l
 ghost use Rattle.link_trace.specs.Masks.{IsMask};
 ghost use Rattle.link_trace.specs.Sealed.{Traced};
 ghost use Rattle.scenario_text.specs.FloodParts.{IsSealed};
-ghost use Rattle.bus_model.specs.FloodOfText.{ids, outcome, setting};
+ghost use Rattle.bus_terms.specs.FloodOfText.{ids, outcome, setting};
 ghost use Rattle.plain_bus.specs.FloodMasks.{IsFlood, accepted_from};
 
 use crate::station::{Flood, Station};

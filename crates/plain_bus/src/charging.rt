@@ -2,8 +2,8 @@
 
 ghost use Rattle.std.specs.Prelude.{◌≡◌, ◌≤◌, ◌<◌, ◌+◌, ℕ, Bool, All, Some, length, map, slice_index, true, if◌then◌else◌};
 ghost use Rattle.std.specs.List.{AllPairs};
-ghost use Rattle.bus_model.specs.Bus.{Cost as CostOf};
-ghost use Rattle.bus_model.specs.Flooding.{has};
+ghost use Rattle.bus_terms.specs.Bus.{Cost as CostOf};
+ghost use Rattle.bus_terms.specs.Flooding.{has};
 ghost use Rattle.plain_bus.specs.BusNodes.{BusNode as NodeOf};
 ghost use Rattle.plain_bus.specs.Closings.{Behind, IsBehind};
 ghost use Rattle.plain_bus.specs.FloodMasks.{AreSendersOf};

@@ -5,7 +5,7 @@ ghost use Rattle.std.specs.List.{AllPairs};
 ghost use Rattle.std.specs.Option.{option_map};
 ghost use Rattle.lwb_member.specs.Members.{IsHeard};
 ghost use Rattle.lwb_member.specs.Said.{meaning};
-ghost use Rattle.bus_model.specs.Flooding.{has};
+ghost use Rattle.bus_terms.specs.Flooding.{has};
 ghost use Rattle.plain_bus.specs.BusNodes.{BusNode as NodeOf, IsEarlyState};
 ghost use Rattle.plain_bus.specs.SlotFloods.{seen};
 ghost use Rattle.plain_bus.specs.Closings.{Behind, IsBehind, AllMay, heard_in, closed_node, delivers_node};

@@ -22,7 +22,7 @@ pub struct Cost {
 }
 
 impl Model for Cost {
-    ghost use Rattle.bus_model.specs.Bus.{Cost as CostOf};
+    ghost use Rattle.bus_terms.specs.Bus.{Cost as CostOf};
 
     ghost Value = { CostOf };
 

@@ -1,7 +1,7 @@
 //! What a node receives in a step of a flood.
 
 ghost use Rattle.std.specs.Prelude.{◌≡◌, ◌<◌, ◌≤◌, length, slice_index};
-ghost use Rattle.bus_model.specs.Flooding.{Setting, Moment, hears as hears_in, agrees as agrees_with};
+ghost use Rattle.bus_terms.specs.Flooding.{Setting, Moment, hears as hears_in, agrees as agrees_with};
 ghost use Rattle.plain_bus.specs.FloodMasks.{AreAt, IsFlood, IsKnown, may_hear_at, takes_at};
 
 use crate::offers::picked;

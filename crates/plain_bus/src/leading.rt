@@ -3,7 +3,7 @@
 ghost use Rattle.std.specs.Prelude.{◌≡◌, ◌≤◌, ℕ, find, IfOk, IfSome, length};
 ghost use Rattle.std.specs.Option.{option_map};
 ghost use Rattle.bus_rules.specs.States.{State};
-ghost use Rattle.bus_model.specs.Rounds.{round_plan};
+ghost use Rattle.bus_terms.specs.Rounds.{round_plan};
 ghost use Rattle.scenario_text.specs.ScenarioParts.{ScenarioParts};
 ghost use Rattle.plain_bus.specs.BusNodes.{nodes_in};
 ghost use Rattle.plain_bus.specs.Leaders.{leads, holds, parts_at, parts_in, parts_of};

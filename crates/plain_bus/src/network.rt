@@ -5,9 +5,9 @@ ghost use Rattle.lwb_base.specs.Messages.{Plan};
 ghost use Rattle.bus_rules.specs.Cores.{own_rank};
 ghost use Rattle.bus_rules.specs.States.{State};
 ghost use Rattle.bus_rules.specs.Slots.{part_of};
-ghost use Rattle.bus_model.specs.Bus.{Cost as CostOf};
-ghost use Rattle.bus_model.specs.FloodOfText.{ids};
-ghost use Rattle.bus_model.specs.Rounds.{slot_deliveries};
+ghost use Rattle.bus_terms.specs.Bus.{Cost as CostOf};
+ghost use Rattle.bus_terms.specs.FloodOfText.{ids};
+ghost use Rattle.bus_terms.specs.Rounds.{slot_deliveries};
 ghost use Rattle.plain_bus.specs.BusNodes.{nodes_before, ranks_in};
 ghost use Rattle.plain_bus.specs.Networks.{IsReady, no_cost, off_at, with_slot_at};
 

@@ -4,9 +4,9 @@ ghost use Rattle.std.specs.Prelude.{◌≡◌, ◌≤◌, ◌<◌, IfOk, IfSome}
 ghost use Rattle.bus_rules.specs.Cores.{frame_ended as core_ended};
 ghost use Rattle.bus_rules.specs.States.{StateOff, at_core, switched_on, switched_off, declares, leaves, puts, loses};
 ghost use Rattle.scenario_text.specs.ScenarioFacts.{IsAct};
-ghost use Rattle.bus_model.specs.Rounds.{rank_in};
+ghost use Rattle.bus_terms.specs.Rounds.{rank_in};
 ghost use Rattle.bus_rules.specs.Tuning.{is_scan};
-ghost use Rattle.bus_model.specs.ScriptedStates.{after_act, is_on};
+ghost use Rattle.bus_terms.specs.ScriptedStates.{after_act, is_on};
 ghost use Rattle.plain_bus.specs.BusNodes.{MayBoot, MayDo, loses_by};
 
 use bus_rules::Tune;

@@ -3,7 +3,7 @@
 ghost use Rattle.std.specs.Prelude.{◌≡◌, ◌≤◌, ◌<◌, ℕ, Option, true, false, not, ◌==◌, length, Some, None, if◌then◌else◌};
 ghost use Rattle.std.specs.Int.{bit_at};
 ghost use Rattle.std.specs.Option.{option_map_or};
-ghost use Rattle.bus_model.specs.Flooding.{Setting, Moment, offer, pick};
+ghost use Rattle.bus_terms.specs.Flooding.{Setting, Moment, offer, pick};
 ghost use Rattle.plain_bus.specs.FloodMasks.{AreOffers, IsOffer, AllOffer, IsFlood, IsKnown};
 
 use crate::station::{Flood, Station, has_bit};

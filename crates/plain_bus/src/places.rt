@@ -2,7 +2,7 @@
 
 ghost use Rattle.std.specs.Prelude.{◌≡◌, ◌<◌, IfSome, IfNone, length, slice_index, false};
 ghost use Rattle.std.specs.List.{AllPairs};
-ghost use Rattle.bus_model.specs.Flooding.{has};
+ghost use Rattle.bus_terms.specs.Flooding.{has};
 
 use lwb_base::NodeId;
 

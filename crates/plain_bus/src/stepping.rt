@@ -1,7 +1,7 @@
 //! A flood from step to step.
 
 ghost use Rattle.std.specs.Prelude.{◌≡◌, ◌<◌, ◌≤◌, ◌+◌, ◌++◌, ◌∷◌, [], ℕ, Option, All, length, map, take, is_some, Some};
-ghost use Rattle.bus_model.specs.Flooding.{Setting, Moment, moment, beginning, next as next_moment, STEPS};
+ghost use Rattle.bus_terms.specs.Flooding.{Setting, Moment, moment, beginning, next as next_moment, STEPS};
 ghost use Rattle.link_trace.specs.Sealed.{Traced};
 ghost use Rattle.scenario_text.specs.FloodParts.{IsSealed};
 ghost use Rattle.plain_bus.specs.FloodMasks.{AreAt, AreSenders, IsFlood, IsKnown, station_at, station_after, station_first, with_sender};

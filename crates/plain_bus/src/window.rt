@@ -4,7 +4,7 @@ ghost use Rattle.std.specs.Prelude.{◌≡◌, ◌≤◌, ◌↔◌, IfSome, is_
 ghost use Rattle.std.specs.Option.{option_map, option_and_then};
 ghost use Rattle.bus_rules.specs.Cores.{is_member as is_core_member};
 ghost use Rattle.bus_rules.specs.Tuning.{hosts, scans as scans_rank};
-ghost use Rattle.bus_model.specs.Rounds.{said_in, takes_part, left_by, rank_in};
+ghost use Rattle.bus_terms.specs.Rounds.{said_in, takes_part, left_by, rank_in};
 ghost use Rattle.lwb_member.specs.Members.{IsHeard};
 ghost use Rattle.lwb_member.specs.Said.{meaning, message_of};
 ghost use Rattle.plain_bus.specs.SlotFloods.{seen, seen_of, node_closed, node_delivers};

@@ -3,7 +3,7 @@ use Rattle.std.specs.Prelude.{ℕ, List, [], ◌∷◌, ◌++◌, codes, flat_ma
 use Rattle.text_writers.specs.Lines.{line_text, numbered}
 use Rattle.scenario_text.specs.ScenarioParts.{ScenarioParts}
 use Rattle.scenario_text.specs.declared.lines.NodeLine.{NodeLine}
-use Rattle.bus_model.specs.Bus.{Cost, bus_cost, bus_deliveries, bus_drops}
+use Rattle.bus_terms.specs.Bus.{Cost, bus_cost, bus_deliveries, bus_drops}
 use Rattle.replay_tool.specs.RunReport.{report_lines}
 
 -- what the bus costs a node, in ticks but for the number of frames in which it scans

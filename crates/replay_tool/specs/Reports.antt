@@ -10,8 +10,8 @@ use Rattle.deadline_plan.specs.DeadlineText.{plan_of}
 use Rattle.scenario_clocks.specs.StatedClocks.{stated_clock, scenario_clock}
 use Rattle.bus_rules.specs.declared.delivery.Delivery.{Delivery}
 use Rattle.bus_rules.specs.declared.delivery.DropLine.{DropLine}
-use Rattle.bus_model.specs.Bus.{bus_deliveries, bus_drops}
-use Rattle.bus_model.specs.FloodOfText.{outcome}
+use Rattle.bus_terms.specs.Bus.{bus_deliveries, bus_drops}
+use Rattle.bus_terms.specs.FloodOfText.{outcome}
 use Rattle.air_log.specs.declared.entry.Entry.{Entry}
 use Rattle.air_log.specs.FloodLaw.{FloodLaw}
 use Rattle.air_log.specs.Lawful.{Lawful}

@@ -8,7 +8,7 @@ use crate::answer::{Answer, fault_answer};
 use crate::cost_lines::write_costs;
 use crate::run_report::run_report;
 use air_log::Air;
-use bus_frames::Bus;
+use bus_model::Bus;
 use lwb_base::Memory;
 use scenario_text::{ParseFault, parse};
 use std::alloc::Global;

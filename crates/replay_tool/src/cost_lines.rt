@@ -1,12 +1,12 @@
 //! The `cost` lines of a bus report.
 
 ghost use Rattle.std.specs.Prelude.{◌≡◌, ◌++◌, OnOk, true, string_bytes};
-ghost use Rattle.bus_frames.specs.BusRuns.{IsBusRun};
+ghost use Rattle.bus_model.specs.BusRuns.{IsBusRun};
 ghost use Rattle.scenario_text.specs.FloodParts.{knows};
 ghost use Rattle.scenario_text.specs.ScenarioParts.{ScenarioParts};
 ghost use Rattle.replay_tool.specs.BusReport.{node_cost, cost_lines};
 
-use bus_frames::Bus;
+use bus_model::Bus;
 use scenario_text::{NodeLine, Scenario};
 use std::alloc::AllocError;
 use text_writers::{write_line, write_lines};

@@ -1,7 +1,7 @@
 use Rattle.std.proofs.Common.{◌≡◌, ◌∙◌, ℕ, true, length}
 use Rattle.std.specs.Prelude.{AllPairs, ◌≢◌}
-use Rattle.bus_model.specs.Flooding.{sendings}
-use Rattle.bus_model.proofs.SendingCounts.{all_sendings}
+use Rattle.bus_terms.specs.Flooding.{sendings}
+use Rattle.bus_terms.proofs.SendingCounts.{all_sendings}
 use Rattle.radio_model.specs.declared.sending.Sending.{Sending}
 use Rattle.radio_model.specs.Hearing.{TunedThrough}
 use Rattle.air_log.proofs.Elements.{distinct_from_pairs}

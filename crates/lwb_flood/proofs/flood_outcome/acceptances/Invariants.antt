@@ -1,5 +1,5 @@
 use Rattle.std.proofs.Common.{◌≡◌, take}
-use Rattle.bus_model.specs.FloodOfText.{ids}
+use Rattle.bus_terms.specs.FloodOfText.{ids}
 use Rattle.lwb_flood.specs.FloodLog.{accepting}
 use Rattle.lwb_flood.specs.LogReading.{step_of}
 use Rattle.lwb_flood.proofs.flood_outcome.acceptances.Given as goal

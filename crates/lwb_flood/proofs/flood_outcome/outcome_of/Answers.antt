@@ -1,8 +1,8 @@
 use Rattle.std.proofs.Common.{◌≡◌, ◌∙◌, ap, arith, List, ℕ}
 use Rattle.std.proofs.lemmas.List.{length-map}
 use Rattle.scenario_text.specs.declared.lines.NodeLine.{NodeLine}
-use Rattle.bus_model.specs.Flooding.{sendings}
-use Rattle.bus_model.specs.FloodOfText.{setting, outcome}
+use Rattle.bus_terms.specs.Flooding.{sendings}
+use Rattle.bus_terms.specs.FloodOfText.{setting, outcome}
 use Rattle.bus_rules.specs.FloodOutcome.{Outcome}
 use Rattle.lwb_flood.specs.LogReading.{step_of}
 use Rattle.lwb_flood.proofs.LogOutcome.{accepts_read_off, count_read_off}

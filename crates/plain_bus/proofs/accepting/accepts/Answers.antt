@@ -1,6 +1,6 @@
 use Rattle.std.proofs.Common.{◌≡◌, ◌∙◌, ap, List, ℕ, map, filter_map, sum_by}
-use Rattle.bus_model.specs.Flooding.{STEPS, moment}
-use Rattle.bus_model.specs.FloodOfText.{ids, setting, outcome}
+use Rattle.bus_terms.specs.Flooding.{STEPS, moment}
+use Rattle.bus_terms.specs.FloodOfText.{ids, setting, outcome}
 use Rattle.bus_rules.specs.FloodOutcome.{Outcome}
 use Rattle.plain_bus.specs.FloodMasks.{station_at, accepted_from}
 use Rattle.plain_bus.specs.declared.station.Station.{Station}

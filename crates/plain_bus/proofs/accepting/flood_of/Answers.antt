@@ -1,7 +1,7 @@
 use Rattle.std.proofs.Common.{◌==◌, ℕ, List, true, Some, subst, ap, ◌∙◌}
 use Rattle.link_trace.specs.Masks.{IsMask}
 use Rattle.scenario_text.specs.declared.lines.NodeLine.{NodeLine}
-use Rattle.bus_model.specs.FloodOfText.{ids}
+use Rattle.bus_terms.specs.FloodOfText.{ids}
 use Rattle.plain_bus.specs.declared.station.Flood.{Flood}
 use Rattle.plain_bus.proofs.TextFloods.{flood_of_text}
 use Rattle.plain_bus.proofs.accepting.flood_of.Goals as goal

@@ -3,7 +3,7 @@ use Rattle.std.proofs.lemmas.List.{get_or-map, length-map}
 use Rattle.link_trace.specs.Masks.{IsMaskUpto}
 use Rattle.link_trace.proofs.MaskBits.{one_set, one_unset}
 use Rattle.scenario_text.specs.declared.lines.NodeLine.{NodeLine}
-use Rattle.bus_model.specs.FloodOfText.{ids}
+use Rattle.bus_terms.specs.FloodOfText.{ids}
 use Rattle.plain_bus.proofs.accepting.mask_of.Goals as goal
 use Rattle.plain_bus.proofs.accepting.mask_of.Goals.{then-eq, else-eq}
 

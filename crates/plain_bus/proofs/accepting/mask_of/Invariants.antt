@@ -1,6 +1,6 @@
 use Rattle.std.proofs.Common.{◌==◌}
 use Rattle.link_trace.specs.Masks.{IsMaskUpto}
-use Rattle.bus_model.specs.FloodOfText.{ids}
+use Rattle.bus_terms.specs.FloodOfText.{ids}
 use Rattle.plain_bus.proofs.accepting.mask_of.Given as goal
 
 abbrev pub invariant-loop-i : goal.invariant-loop-i

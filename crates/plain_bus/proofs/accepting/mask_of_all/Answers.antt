@@ -2,7 +2,7 @@ use Rattle.std.proofs.Common.{true, refl, arith}
 use Rattle.std.proofs.lemmas.List.{length-map}
 use Rattle.link_trace.proofs.MaskBits.{one_set}
 use Rattle.scenario_text.specs.declared.lines.NodeLine.{NodeLine}
-use Rattle.bus_model.specs.FloodOfText.{ids}
+use Rattle.bus_terms.specs.FloodOfText.{ids}
 use Rattle.plain_bus.proofs.accepting.mask_of_all.Goals as goal
 
 pub loop-i-preserved : goal.loop-i-preserved

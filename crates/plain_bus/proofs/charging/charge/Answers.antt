@@ -1,6 +1,6 @@
 use Rattle.std.proofs.Common.{◌≡◌, ℕ, List, Bool, None, if◌then◌else◌, length, map, get_or, sym, ◌∙◌, ap, arith}
 use Rattle.std.specs.List.{last_or}
-use Rattle.bus_model.specs.Bus.{Cost}
+use Rattle.bus_terms.specs.Bus.{Cost}
 use Rattle.plain_bus.specs.SlotFloods.{Seen, seen}
 use Rattle.plain_bus.specs.SlotCosts.{bytes_in, bytes_of, charged, said_bytes, steps_at, steps_in, with_slot}
 use Rattle.plain_bus.specs.declared.station.Station.{Station}

@@ -1,7 +1,7 @@
 use Rattle.std.proofs.Common.{◌≡◌, ◌<◌, ◌==◌, ◌+◌, ℕ, List, Bool, All, length, take, get_or, if◌then◌else◌, subst, sym, ◌∙◌, ap, arith}
 use Rattle.std.proofs.lemmas.List.{take_all, get_or_default, get_or-map, take_more_set}
 use Rattle.std.proofs.lemmas.List.Elements.{All-push}
-use Rattle.bus_model.specs.Bus.{Cost}
+use Rattle.bus_terms.specs.Bus.{Cost}
 use Rattle.plain_bus.specs.BusNodes.{BusNode}
 use Rattle.plain_bus.specs.SlotCosts.{IsBelow, charged, slot_charged}
 use Rattle.plain_bus.proofs.ListsInPlace.{same_place, rest_unchanged, one_more_mapped}

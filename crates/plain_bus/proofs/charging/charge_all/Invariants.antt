@@ -1,5 +1,5 @@
 use Rattle.std.proofs.Common.{◌≡◌, ◌≤◌, ◌+◌, ℕ, Bool, All, map, take, drop}
-use Rattle.bus_model.specs.Bus.{Cost}
+use Rattle.bus_terms.specs.Bus.{Cost}
 use Rattle.plain_bus.specs.BusNodes.{BusNode}
 use Rattle.plain_bus.specs.Closings.{Behind, IsBehind}
 use Rattle.plain_bus.specs.FloodMasks.{AreSendersOf}

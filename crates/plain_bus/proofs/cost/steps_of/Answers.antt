@@ -1,6 +1,6 @@
 use Rattle.std.proofs.Common.{◌+◌, ◌∷◌, [], ℕ, None, length, sym, ◌∙◌, ap, arith, length-append}
 use Rattle.std.specs.List.{last_or}
-use Rattle.bus_model.proofs.Options.{some_injective}
+use Rattle.bus_terms.proofs.Options.{some_injective}
 use Rattle.plain_bus.specs.SlotCosts.{steps_at}
 use Rattle.plain_bus.proofs.StepsCounted.{one_step_more, no_step_more, last_pushed}
 use Rattle.plain_bus.proofs.cost.steps_of.Goals as goal

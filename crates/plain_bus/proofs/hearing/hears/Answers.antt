@@ -1,5 +1,5 @@
 use Rattle.std.proofs.Common.{◌≡◌, ◌<◌, ℕ, List, map, length, get_or, ◌∙◌, sym, ap, subst, bit_and}
-use Rattle.bus_model.specs.Flooding.{offer, pick}
+use Rattle.bus_terms.specs.Flooding.{offer, pick}
 use Rattle.plain_bus.specs.FloodMasks.{AreOffers, station_at}
 use Rattle.plain_bus.specs.declared.station.Station.{Station}
 use Rattle.plain_bus.proofs.HeardByMasks.{offers_read, station_read, deaf, unreached, refused, heard}

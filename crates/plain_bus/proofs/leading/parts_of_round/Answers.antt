@@ -5,7 +5,7 @@ use Rattle.std.proofs.lemmas.Result.{IfOk-weaker}
 use Rattle.scenario_text.specs.ScenarioParts.{ScenarioParts}
 use Rattle.bus_rules.specs.declared.part.Part.{Part}
 use Rattle.bus_rules.specs.States.{State}
-use Rattle.bus_model.specs.Rounds.{round_plan}
+use Rattle.bus_terms.specs.Rounds.{round_plan}
 use Rattle.plain_bus.specs.BusNodes.{nodes_in}
 use Rattle.plain_bus.specs.Leaders.{holds, parts_at, parts_of}
 use Rattle.plain_bus.proofs.RoundsLed.{led}

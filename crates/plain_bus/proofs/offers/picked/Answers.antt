@@ -1,9 +1,9 @@
 use Rattle.std.proofs.Common.{ℕ, Option, inl, inr, is_some, ◌∙◌, sym, ap, subst}
 use Rattle.std.specs.Option.{option_and_then}
 use Rattle.std.proofs.lemmas.Bool.{false≢true}
-use Rattle.bus_model.specs.Flooding.{offer}
+use Rattle.bus_terms.specs.Flooding.{offer}
 use Rattle.plain_bus.specs.FloodMasks.{IsOffer, AllOffer}
-use Rattle.bus_model.proofs.Options.{inspect}
+use Rattle.bus_terms.proofs.Options.{inspect}
 use Rattle.plain_bus.proofs.Picks.{nothing_picked, only_picked, named_picked, alone}
 use Rattle.plain_bus.proofs.offers.picked.Goals as goal
 use Rattle.plain_bus.proofs.offers.picked.Goals.{then-is_some-via-then-is_some, then-is_some-via-else-is_some+then-all_send}

@@ -1,6 +1,6 @@
 use Rattle.std.proofs.Common.{ℕ, None, is_some, ap}
-use Rattle.bus_model.specs.FloodOfText.{ids}
-use Rattle.bus_model.specs.Rounds.{opened_at, said_in, takes_part}
+use Rattle.bus_terms.specs.FloodOfText.{ids}
+use Rattle.bus_terms.specs.Rounds.{opened_at, said_in, takes_part}
 use Rattle.plain_bus.specs.declared.station.Flood.{Flood}
 use Rattle.plain_bus.proofs.MembersOfSlots.{flood_of_slot}
 use Rattle.plain_bus.proofs.slot_flood.flood_in.Goals as goal

@@ -1,6 +1,6 @@
 use Rattle.std.proofs.Common.{List, subst, sym, ◌∙◌}
 use Rattle.bus_rules.specs.Slots.{part_of}
-use Rattle.bus_model.specs.Rounds.{before_slot}
+use Rattle.bus_terms.specs.Rounds.{before_slot}
 use Rattle.plain_bus.specs.SlotFloods.{AreWindows}
 use Rattle.plain_bus.specs.declared.window.Window.{Window}
 use Rattle.plain_bus.proofs.MembersOfSlots.{windows_seen}

@@ -4,7 +4,7 @@ use Rattle.std.proofs.lemmas.List.Elements.{All-push}
 use Rattle.link_trace.specs.Masks.{IsMaskUpto}
 use Rattle.link_trace.specs.Sealed.{Traced}
 use Rattle.scenario_text.specs.declared.lines.NodeLine.{NodeLine}
-use Rattle.bus_model.specs.Flooding.{Setting, beginning}
+use Rattle.bus_terms.specs.Flooding.{Setting, beginning}
 use Rattle.plain_bus.specs.FloodMasks.{IsFlood, station_at, station_first, with_sender}
 use Rattle.plain_bus.specs.declared.station.Station.{Station}
 use Rattle.plain_bus.proofs.SteppedByMasks.{begun, one_more_station, one_more_sender, no_station, nobody}

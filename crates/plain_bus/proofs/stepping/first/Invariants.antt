@@ -2,7 +2,7 @@ use Rattle.std.proofs.Common.{◌≡◌, ◌≤◌, All, length, map, take, is_s
 use Rattle.link_trace.specs.Masks.{IsMaskUpto}
 use Rattle.link_trace.specs.Sealed.{Traced}
 use Rattle.scenario_text.specs.declared.lines.NodeLine.{NodeLine}
-use Rattle.bus_model.specs.Flooding.{Setting, beginning}
+use Rattle.bus_terms.specs.Flooding.{Setting, beginning}
 use Rattle.plain_bus.specs.FloodMasks.{IsFlood, station_at}
 use Rattle.plain_bus.specs.declared.station.Station.{Station}
 use Rattle.plain_bus.proofs.stepping.first.Given as goal

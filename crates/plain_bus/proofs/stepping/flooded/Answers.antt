@@ -1,7 +1,7 @@
 use Rattle.std.proofs.Common.{◌≡◌, ◌≤◌, ℕ, All, length, subst, sym, ◌∙◌, ap, arith, rules, [], ◌∷◌, ◌++◌, length-append}
 use Rattle.std.proofs.lemmas.List.{length-map}
 use Rattle.scenario_text.specs.declared.lines.NodeLine.{NodeLine}
-use Rattle.bus_model.specs.Flooding.{Moment, moment}
+use Rattle.bus_terms.specs.Flooding.{Moment, moment}
 use Rattle.plain_bus.specs.FloodMasks.{AreAt}
 use Rattle.plain_bus.specs.declared.station.Station.{Station}
 use Rattle.plain_bus.proofs.SteppedByMasks.{known_at, moment_first, moment_more}

@@ -1,5 +1,5 @@
 use Rattle.std.proofs.Common.{◌≡◌, ◌≤◌, All, length}
-use Rattle.bus_model.specs.Flooding.{Setting, moment}
+use Rattle.bus_terms.specs.Flooding.{Setting, moment}
 use Rattle.plain_bus.specs.FloodMasks.{AreAt, AreSenders, IsFlood}
 use Rattle.plain_bus.specs.declared.station.Station.{Station}
 use Rattle.plain_bus.proofs.stepping.flooded.Given as goal

@@ -1,5 +1,5 @@
 use Rattle.std.proofs.Common.{◌≡◌, ◌∙◌, sym, subst, ap, rules}
-use Rattle.bus_model.specs.FloodOfText.{ids}
+use Rattle.bus_terms.specs.FloodOfText.{ids}
 use Rattle.link_trace.specs.Masks.{AreNodes}
 use Rattle.lwb_flood.specs.FloodWorlds.{IsShape, first_world}
 use Rattle.lwb_flood.proofs.FloodOpening.{sound_nodes, first_shape}

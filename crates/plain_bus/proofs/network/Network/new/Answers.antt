@@ -2,8 +2,8 @@ use Rattle.std.proofs.Common.{◌≡◌, ◌+◌, ◌++◌, ◌∷◌, [], ℕ, 
 use Rattle.std.proofs.lemmas.List.{take_all}
 use Rattle.scenario_text.specs.declared.lines.NodeLine.{NodeLine}
 use Rattle.bus_rules.specs.declared.delivery.Delivery.{Delivery}
-use Rattle.bus_model.specs.Bus.{Cost}
-use Rattle.bus_model.specs.FloodOfText.{ids}
+use Rattle.bus_terms.specs.Bus.{Cost}
+use Rattle.bus_terms.specs.FloodOfText.{ids}
 use Rattle.plain_bus.specs.BusNodes.{BusNode}
 use Rattle.plain_bus.specs.Networks.{Network, no_cost, off_at}
 use Rattle.plain_bus.proofs.ListsInPlace.{map_more}

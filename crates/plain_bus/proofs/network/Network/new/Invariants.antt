@@ -1,5 +1,5 @@
 use Rattle.std.proofs.Common.{◌≡◌, ℕ, map, take}
-use Rattle.bus_model.specs.FloodOfText.{ids}
+use Rattle.bus_terms.specs.FloodOfText.{ids}
 use Rattle.plain_bus.specs.Networks.{no_cost, off_at}
 use Rattle.plain_bus.proofs.network.Network.new.Given as goal
 

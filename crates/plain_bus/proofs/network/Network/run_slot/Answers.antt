@@ -9,10 +9,10 @@ use Rattle.bus_rules.specs.declared.delivery.Delivery.{Delivery}
 use Rattle.bus_rules.specs.declared.part.Part.{Part}
 use Rattle.bus_rules.specs.Slots.{part_of}
 use Rattle.bus_rules.specs.States.{State}
-use Rattle.bus_model.specs.Bus.{Cost}
-use Rattle.bus_model.specs.FloodOfText.{ids}
-use Rattle.bus_model.specs.Flooding.{STEPS, moment}
-use Rattle.bus_model.specs.Rounds.{slot_at, slot_deliveries}
+use Rattle.bus_terms.specs.Bus.{Cost}
+use Rattle.bus_terms.specs.FloodOfText.{ids}
+use Rattle.bus_terms.specs.Flooding.{STEPS, moment}
+use Rattle.bus_terms.specs.Rounds.{slot_at, slot_deliveries}
 use Rattle.plain_bus.specs.BusNodes.{BusNode, IsEarlyState, node_opened, nodes_before}
 use Rattle.plain_bus.specs.Closings.{IsBehind, AllMay, closed_node, delivers_node}
 use Rattle.plain_bus.specs.FloodMasks.{AreSendersOf, IsFlood, sends_in, station_at}

@@ -2,7 +2,7 @@ use Rattle.std.proofs.Common.{◌≡◌, ◌<◌, ◌≤◌, ◌+◌, ◌∷◌,
 use Rattle.std.proofs.lemmas.List.{take_all, length-map}
 use Rattle.std.proofs.lemmas.List.Elements.{All-push}
 use Rattle.link_trace.specs.Masks.{IsMaskUpto}
-use Rattle.bus_model.specs.Flooding.{next}
+use Rattle.bus_terms.specs.Flooding.{next}
 use Rattle.plain_bus.specs.FloodMasks.{station_at, with_sender}
 use Rattle.plain_bus.specs.declared.station.Station.{Station}
 use Rattle.plain_bus.proofs.HeardByMasks.{station_read}

@@ -1,6 +1,6 @@
 use Rattle.std.proofs.Common.{◌≡◌, ◌≤◌, ◌+◌, All, length, map, take, is_some}
 use Rattle.link_trace.specs.Masks.{IsMaskUpto}
-use Rattle.bus_model.specs.Flooding.{Setting, Moment, next}
+use Rattle.bus_terms.specs.Flooding.{Setting, Moment, next}
 use Rattle.plain_bus.specs.FloodMasks.{AreAt, IsFlood, IsKnown, station_at}
 use Rattle.plain_bus.specs.declared.station.Station.{Station}
 use Rattle.plain_bus.proofs.station.Stations.next.Given as goal

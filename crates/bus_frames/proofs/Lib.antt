@@ -1,8 +1,0 @@
-pub mod SlotsInTurn
-pub mod RanksInTurn
-pub mod KeptStates
-pub mod PowerKept
-pub mod RanksKept
-pub mod LinesTold
-pub mod LinesAllowed
-pub mod FramesInTurn

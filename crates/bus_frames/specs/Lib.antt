@@ -1,3 +1,0 @@
-pub mod RoundCosts
-pub mod FrameNodes
-pub mod BusRuns

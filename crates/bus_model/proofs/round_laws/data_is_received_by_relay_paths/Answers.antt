@@ -1,6 +1,0 @@
-use Rattle.scenario_text.proofs.SoundScenarios.{sound}
-use Rattle.bus_model.proofs.ReceivedInRounds.{received}
-use Rattle.bus_model.proofs.round_laws.data_is_received_by_relay_paths.Goals as goal
-
-pub returns : goal.returns
-returns c = λ s is. received s (sound s is)

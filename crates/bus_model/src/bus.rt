@@ -1,0 +1,77 @@
+//! The run of a whole scenario on the ideal single-hop bus.
+
+ghost use Rattle.std.specs.Prelude.{◌≡◌, IfOk, Some, None, if◌then◌else◌};
+ghost use Rattle.bus_terms.specs.Bus.{bus_cost};
+ghost use Rattle.scenario_text.specs.FloodParts.{knows};
+ghost use Rattle.scenario_text.specs.ScenarioParts.{ScenarioParts};
+ghost use Rattle.bus_model.specs.BusRuns.{IsBusRun};
+
+use crate::frames::run_frame;
+use bus_rules::{Delivery, DropLine};
+use lwb_base::{Memory, NodeId};
+use plain_bus::{Cost, Network, place_of};
+use scenario_text::Scenario;
+use std::alloc::Global;
+use std::marker::Model;
+
+/// A scenario's run on the ideal single-hop bus, without clocks: what is delivered, what is lost before it is queued, and what
+/// it costs each node.
+#[derive(Drop)]
+pub struct Bus {
+    net: Network,
+    drops: Vec<DropLine>,
+}
+
+impl Model for Bus {
+    ghost use Rattle.bus_model.specs.BusRuns.{BusRun};
+
+    ghost Value = { BusRun };
+
+    ghost use Rattle.std.specs.Prelude.{◌≡◌, ◌<◌, length};
+    ghost use Rattle.std.specs.List.{AllPairs};
+
+    ghost view = { λ b. record { ids = b.net.ids; costs = b.net.costs; deliveries = b.net.deliveries; drops = b.drops.items } };
+
+    ghost invariant = { λ b. AllPairs (λ u v. u < v) b.net.ids × (length b.net.costs ≡ length b.net.ids) };
+}
+
+impl Bus {
+    /// The run of the scenario. `Err` means out of memory.
+    pub fn run(alloc: Global, s: &Scenario) -> Result<Bus, Memory>
+        ensures { IfOk result (IsBusRun s.now) }
+    {
+        let mut net = Network::new(alloc, s)?;
+        let mut drops = Vec::new(alloc);
+        let mut told = 0;
+        for frame in 0..s.frames() {
+            told = run_frame(alloc, &mut net, s, frame, told, &mut drops)?;
+        }
+        Ok(Bus { net, drops })
+    }
+
+    /// What a node costs; returns `None` if and only if it is not in the scenario.
+    pub fn cost(&self, node: NodeId) -> Option<Cost>
+        ensures { (s : ScenarioParts) → IsBusRun s self.now → result ≡ (if knows s.nodes node then Some (bus_cost s node) else None) }
+    {
+        let net = &self.net;
+        match place_of(&net.ids, node) {
+            Some(place) => Some(net.costs[place]),
+            None => None,
+        }
+    }
+
+    /// The deliveries, by frame, rank, slot and node.
+    pub fn deliveries(&self) -> &[Delivery]
+        ensures { result.now ≡ self.now.deliveries }
+    {
+        let net = &self.net;
+        &net.deliveries
+    }
+
+    /// The packets that were lost before they were queued, in the order of the script.
+    pub fn drops(&self) -> &[DropLine]
+        ensures { result.now ≡ self.now.drops }
+    {
+        &self.drops
+    }
+}

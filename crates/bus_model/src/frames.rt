@@ -1,0 +1,72 @@
+//! A frame of a scenario at all nodes.
+
+ghost use Rattle.std.specs.Prelude.{◌≡◌, ◌≤◌, ◌<◌, ◌+◌, ℕ, [], All, IfOk, OnOk, length, map, take};
+ghost use Rattle.bus_rules.specs.States.{State};
+ghost use Rattle.bus_terms.specs.Bus.{Cost as CostOf, before_frame, drops_below};
+ghost use Rattle.bus_terms.specs.FloodOfText.{ids};
+ghost use Rattle.scenario_text.specs.ScenarioParts.{ScenarioParts};
+ghost use Rattle.plain_bus.specs.Networks.{IsReady};
+ghost use Rattle.bus_model.specs.FrameNodes.{HavePower, IsAtFrame, IsCut, begun, ended_at, nodes_with};
+ghost use Rattle.bus_model.specs.RoundCosts.{with_scan};
+
+use crate::all_nodes::{begin_all, count_scans, end_all};
+use crate::rounds::run_rounds;
+use crate::script::tell_lines;
+use bus_rules::DropLine;
+use lwb_base::Memory;
+use plain_bus::Network;
+use scenario_text::Scenario;
+use std::alloc::Global;
+
+/// This frame at all nodes, which is below the number of frames: the script from its line `told` on, the rounds, and the end.
+/// What is lost before it is queued is added at the end of `drops`. Returns the place of the first line of a later frame. `Err`
+/// means out of memory.
+pub fn run_frame(
+    alloc: Global,
+    net: &mut Network,
+    s: &Scenario,
+    frame: u32,
+    told: usize,
+    drops: &mut Vec<DropLine>,
+) -> Result<usize, Memory>
+    requires frame { frame < s.now.frames }
+    requires few { s.now.frames ≤ 4096 }
+    requires at { IsAtFrame s.now frame net.old }
+    requires cut { IsCut s.now.script frame told }
+    requires power { HavePower s.now (before_frame s.now frame) told }
+    requires drops { drops.old.items ≡ drops_below s.now [] (take told s.now.script) }
+    ensures at { OnOk result (IsAtFrame s.now (frame + 1) net.new) }
+    ensures cut { IfOk result (IsCut s.now.script (frame + 1)) }
+    ensures power { IfOk result (HavePower s.now (before_frame s.now (frame + 1))) }
+    ensures drops { IfOk result (λ next. drops.new.items ≡ drops_below s.now [] (take next s.now.script)) }
+{
+    let next = tell_lines(net, s, frame, told, drops)?;
+    begin_rounds(net);
+    run_rounds(alloc, net, s, frame)?;
+    end_frame(net, frame);
+    Ok(next)
+}
+
+// The rounds of a frame begin.
+fn begin_rounds(net: &mut Network)
+    requires each { length net.old.nodes ≡ length net.old.costs }
+    requires few { All (λ c. c.scanned ≤ 4096) net.old.costs }
+    ensures nodes { net.new.nodes ≡ map begun net.old.nodes }
+    ensures costs { (s : ScenarioParts) (ranks : ℕ → ℕ) (states : ℕ → State) (cost : ℕ → CostOf) → net.old.nodes ≡ nodes_with s ranks states
+        → net.old.costs ≡ map cost (ids s.nodes)
+        → net.new.costs ≡ map (λ v. with_scan (states v) (cost v)) (ids s.nodes) }
+    ensures same { length net.new.costs ≡ length net.old.costs }
+    ensures rest { (net.new.ids ≡ net.old.ids) × (net.new.deliveries ≡ net.old.deliveries) }
+{
+    count_scans(&mut net.costs, &net.nodes);
+    begin_all(&mut net.nodes);
+}
+
+// The frame ends.
+fn end_frame(net: &mut Network, frame: u32)
+    requires { frame ≤ 16777215 }
+    ensures nodes { net.new.nodes ≡ map (ended_at frame) net.old.nodes }
+    ensures rest { (net.new.ids ≡ net.old.ids) × (net.new.costs ≡ net.old.costs) × (net.new.deliveries ≡ net.old.deliveries) }
+{
+    end_all(&mut net.nodes, frame);
+}

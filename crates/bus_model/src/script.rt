@@ -1,0 +1,90 @@
+//! What the script has for a frame.
+
+ghost use Rattle.std.specs.Prelude.{◌≡◌, ◌≤◌, ◌<◌, ◌+◌, ◌++◌, ℕ, Some, [], IfOk, OnOk, length};
+ghost use Rattle.std.specs.Prelude.{option_to_list, slice_index, slice_index_or, slice_set, take, true};
+ghost use Rattle.std.specs.List.{AllPairs};
+ghost use Rattle.bus_rules.specs.States.{State};
+ghost use Rattle.scenario_text.specs.ScenarioFacts.{IsAct};
+ghost use Rattle.scenario_text.specs.ScenarioGrammar.{IsScenario};
+ghost use Rattle.bus_terms.specs.Bus.{before_frame, drops_below, state_at};
+ghost use Rattle.bus_terms.specs.Flooding.{has};
+ghost use Rattle.bus_terms.specs.ScriptedStates.{lost_by};
+ghost use Rattle.plain_bus.specs.BusNodes.{BusNode as NodeOf, MayDo, loses_by};
+ghost use Rattle.plain_bus.specs.Networks.{IsReady};
+ghost use Rattle.bus_model.specs.FrameNodes.{HavePower, IsCut, nodes_with, prior_ranks, told};
+
+use bus_rules::DropLine;
+use lwb_base::Memory;
+use plain_bus::{Network, place_of};
+use scenario_text::{Act, Scenario, ScriptLine};
+
+/// The nodes carry out the script lines of this frame, from its line `from` on. What is lost by that is added at the end of
+/// `drops`. Returns the place of the first line of a later frame. `Err` means out of memory.
+pub fn tell_lines(
+    net: &mut Network,
+    s: &Scenario,
+    frame: u32,
+    from: usize,
+    drops: &mut Vec<DropLine>,
+) -> Result<usize, Memory>
+    requires cut { IsCut s.now.script frame from }
+    requires power { HavePower s.now (before_frame s.now frame) from }
+    requires nodes { net.old.nodes ≡ nodes_with s.now (prior_ranks s.now frame) (before_frame s.now frame) }
+    requires ready { IsReady s.now frame 1000000 net.old }
+    requires drops { drops.old.items ≡ drops_below s.now [] (take from s.now.script) }
+    ensures cut { IfOk result (IsCut s.now.script (frame + 1)) }
+    ensures power { IfOk result (HavePower s.now (state_at s.now frame)) }
+    ensures nodes { OnOk result (net.new.nodes ≡ nodes_with s.now (prior_ranks s.now frame) (state_at s.now frame)) }
+    ensures drops { IfOk result (λ next. drops.new.items ≡ drops_below s.now [] (take next s.now.script)) }
+    ensures ready { OnOk result ((m : ℕ) → IsReady s.now frame m net.old → IsReady s.now frame m net.new) }
+    ensures rest { OnOk result ((net.new.costs ≡ net.old.costs) × (net.new.deliveries ≡ net.old.deliveries)) }
+    ensures said { IsScenario s.now }
+{
+    let script = s.script();
+    for next in from..script.len() {
+        let line = &script[next];
+        if line.frame != frame {
+            return Ok(next);
+        }
+        tell_line(net, line, drops)?;
+    }
+    Ok(script.len())
+}
+
+// Its node is told this line.
+fn tell_line(net: &mut Network, line: &ScriptLine, drops: &mut Vec<DropLine>) -> Result<(), Memory>
+    requires ascending { AllPairs (λ a b. a < b) net.old.ids }
+    requires each { length net.old.nodes ≡ length net.old.ids }
+    requires known { has net.old.ids line.now.node ≡ true }
+    requires may { (i : ℕ) (d : NodeOf) → i < length net.old.nodes → slice_index net.old.ids i ≡ line.now.node
+        → IsAct (slice_index_or net.old.nodes i d).setup.profile line.now.act × MayDo line.now.act (slice_index_or net.old.nodes i d).state }
+    ensures nodes { OnOk result ((i : ℕ) × (i < length net.old.ids) × (slice_index net.old.ids i ≡ line.now.node)
+        × ((d : NodeOf) → (net.new.nodes ≡ slice_set net.old.nodes i (told line.now (slice_index_or net.old.nodes i d)))
+        × (drops.new.items ≡ drops.old.items ++ option_to_list (lost_by line.now line.now.act (slice_index_or net.old.nodes i d).state)))) }
+    ensures rest { OnOk result ((net.new.ids ≡ net.old.ids) × (net.new.costs ≡ net.old.costs) × (net.new.deliveries ≡ net.old.deliveries)) }
+{
+    let Some(place) = place_of(&net.ids, line.node) else {
+        return Ok(());
+    };
+    let node = &mut net.nodes[place];
+    let is_lost = node.tell(&line.act);
+    push_lost(drops, line, is_lost)
+}
+
+// The packet of a line is lost, or not.
+fn push_lost(drops: &mut Vec<DropLine>, line: &ScriptLine, is_lost: bool) -> Result<(), Memory>
+    ensures { OnOk result
+        ((x : State) → is_lost ≡ loses_by line.now.act x → drops.new.items ≡ drops.old.items ++ option_to_list (lost_by line.now line.now.act x)) }
+{
+    match &line.act {
+        Act::Put(stream, _) if is_lost => {
+            drops.push(DropLine {
+                frame: line.frame,
+                node: line.node,
+                stream: *stream,
+            })?;
+            Ok(())
+        }
+        _ => Ok(()),
+    }
+}

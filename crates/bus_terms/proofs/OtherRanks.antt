@@ -1,0 +1,80 @@
+-- A node of another rank, or one that is off, is left alone by a round.
+use Rattle.std.proofs.Common.{◌≡◌, ℕ, zero, suc, Bool, true, false, ◌==◌, ◌&&◌, ◌||◌, None, Option, refl, ap, sym, ◌∙◌, option_and_then, subst}
+use Rattle.std.proofs.lemmas.Bool.{false≢true}
+use Rattle.lwb_base.specs.Messages.{Plan}
+use Rattle.scenario_text.specs.ScenarioParts.{ScenarioParts}
+use Rattle.bus_rules.specs.declared.part.Part.{Part}
+use Rattle.bus_rules.specs.declared.tune.Tune.{Tune}
+use Rattle.bus_rules.specs.declared.tune.Tune.TheVariants.{Scan, Hold, Host}
+use Rattle.bus_rules.specs.Tuning.{rank_of, hosts_in, holds_in, scans}
+use Rattle.bus_rules.specs.Cores.{is_fresh}
+use Rattle.bus_rules.specs.Slots.{Message, Opened, part_of, is_schedule_part}
+use Rattle.bus_rules.specs.States.{State, StateOff, StateOn}
+use Rattle.bus_terms.specs.FloodOfText.{ids}
+use Rattle.bus_terms.specs.Flooding.{has}
+use Rattle.bus_terms.specs.Rounds.{Slot, opened_at, takes_part, said_in, slot_of, accepted_at, closed_by, left_by, after_slot, before_slot}
+use Rattle.bus_terms.proofs.ReceivedByPaths.{of_filtered}
+use Rattle.bus_terms.proofs.ReceivedInRounds.{accepted_none}
+
+pub not_member : (rank f : ℕ) (t : Tune) (fresh : Bool) → (rank_of t == rank) ≡ false
+    → (hosts_in rank f t || holds_in rank f t || (scans rank t && fresh)) ≡ false
+not_member rank f (Scan r w) fresh other = rw other refl
+not_member rank f (Hold r d) fresh other = rw other refl
+not_member rank f (Host r d) fresh other = rw other refl
+
+not_scanner : (rank : ℕ) (t : Tune) → (rank_of t == rank) ≡ false → scans rank t ≡ false
+not_scanner rank (Scan r w) other = other
+not_scanner rank (Hold r d) other = refl
+not_scanner rank (Host r d) other = refl
+
+-- of another rank, or off
+abbrev pub IsElsewhere : ℕ → State → Type 0
+IsElsewhere rank (StateOff boots) = Unit {0}
+IsElsewhere rank (StateOn c) = (rank_of c.tune == rank) ≡ false
+
+pub no_window : (s : ScenarioParts) (rank f : ℕ) (part : Part) (v : ℕ) (x : State) → IsElsewhere rank x → opened_at s rank f part v x ≡ None
+no_window s rank f part v (StateOff boots) other = refl
+no_window s rank f part v (StateOn c) other = rw (not_member rank f c.tune (is_fresh c) other) refl
+
+no_part : (rank : ℕ) (part : Part) (x : State) → IsElsewhere rank x → takes_part rank part x None ≡ true → ⊥
+no_part rank part (StateOff boots) other is = by_part (is_schedule_part part) is
+  where
+    by_part : (b : Bool) → (b && false) ≡ true → ⊥
+    by_part true is = false≢true is
+    by_part false is = false≢true is
+no_part rank part (StateOn c) other is = by_part (is_schedule_part part) (scans rank c.tune) (not_scanner rank c.tune other) is
+  where
+    by_part : (b t : Bool) → t ≡ false → (b && t) ≡ true → ⊥
+    by_part true t at is = false≢true (sym at ∙ is)
+    by_part false t at is = false≢true is
+
+slot_elsewhere : (s : ScenarioParts) (rank f : ℕ) (p : Plan) (j v : ℕ) (states : ℕ → State) → IsElsewhere rank (states v)
+    → after_slot s rank f p j states v ≡ states v
+slot_elsewhere s rank f p j v states other =
+    ap (λ (w : Option Opened). left_by (states v) (closed_by s f part v w (accepted_at x v) (states v))) window
+    ∙ ap (λ (m : Option Message). left_by (states v) (closed_by s f part v None m (states v))) nothing
+  where
+    part : Part
+    part = part_of p j
+
+    x : Slot
+    x = slot_of s rank f p j states
+
+    window : x.window v ≡ None
+    window = no_window s rank f part v (states v) other
+
+    outside : has x.flood.everyone v ≡ true → ⊥
+    outside there =
+        let passes = of_filtered (λ u. takes_part rank part (states u) (x.window u)) (ids s.nodes) v there in
+        no_part rank part (states v) other (ap (λ (w : Option Opened). takes_part rank part (states v) w) (sym window) ∙ passes)
+
+    nothing : accepted_at x v ≡ None
+    nothing = ap (λ (a : Option (ℕ × ℕ)). option_and_then (λ b. said_in (x.window b.0)) a) (accepted_none x.flood v (λ o k a. outside a.here))
+
+pub slots_elsewhere : (s : ScenarioParts) (rank f : ℕ) (p : Plan) (v : ℕ) (states : ℕ → State) → IsElsewhere rank (states v) → (j : ℕ)
+    → before_slot s rank f p states j v ≡ states v
+unfolding before_slot
+slots_elsewhere s rank f p v states other zero = refl
+slots_elsewhere s rank f p v states other (suc j) =
+    let before = slots_elsewhere s rank f p v states other j in
+    slot_elsewhere s rank f p j v (before_slot s rank f p states j) (subst (IsElsewhere rank) (sym before) other) ∙ before

@@ -1,0 +1,73 @@
+-- The network as one shared bus, frame by frame: what is delivered, what is lost before it is queued, and what it costs.
+use Rattle.std.specs.Prelude.{◌≡◌, ◌<◌, ℕ, zero, suc, List, [], ◌∷◌, ◌++◌, length, fold, flat_map, sum_by, count_by, option_to_list, AllPairs}
+use Rattle.std.specs.List.{range_with_len}
+use Rattle.scenario_text.specs.ScenarioParts.{ScenarioParts}
+use Rattle.scenario_text.specs.declared.script.ScriptLine.{ScriptLine}
+use Rattle.bus_rules.specs.declared.delivery.Delivery.{Delivery}
+use Rattle.bus_rules.specs.declared.delivery.DropLine.{DropLine}
+use Rattle.bus_rules.specs.States.{State, StateOff}
+use Rattle.bus_rules.specs.Tuning.{is_scan}
+use Rattle.bus_terms.specs.Costs.{slot_sent, slot_window, over_round}
+use Rattle.bus_terms.specs.Rounds.{Slot, rounds, rank_in, round_deliveries}
+use Rattle.bus_terms.specs.ScriptedStates.{after_line, ended, is_on, lost_by, scripted, told_above}
+
+-- one frame: the script, the rounds of all ranks, the end
+abbrev pub after_frame : ScenarioParts → ℕ → (ℕ → State) → ℕ → State
+after_frame s f states = ended s f (rounds s f (scripted s f states))
+
+-- each node before the script lines of frame f. All are off at first
+unfoldable pub before_frame : ScenarioParts → ℕ → ℕ → State
+before_frame s zero = λ (v : ℕ). StateOff 0
+before_frame s (suc f) = after_frame s f (before_frame s f)
+
+-- and behind them
+abbrev pub state_at : ScenarioParts → ℕ → ℕ → State
+state_at s f = scripted s f (before_frame s f)
+
+abbrev pub frames_of : ScenarioParts → List ℕ
+frames_of s = range_with_len 0 s.frames
+
+abbrev pub ranks_of : ScenarioParts → List ℕ
+ranks_of s = range_with_len 0 (length s.hosts)
+
+-- by frame, rank, slot and node
+abbrev pub bus_deliveries : ScenarioParts → List Delivery
+bus_deliveries s = flat_map (λ f. flat_map (λ rank. round_deliveries s rank f (state_at s f)) (ranks_of s)) (frames_of s)
+
+-- the node of a line just before it, where these lines stand above it
+abbrev pub before_line : ScenarioParts → List ScriptLine → ScriptLine → State
+before_line s above l = fold after_line (before_frame s l.frame l.node) (told_above above l)
+
+-- what these lines lose, where the others stand above them
+abbrev pub drops_below : ScenarioParts → List ScriptLine → List ScriptLine → List DropLine
+drops_below s above [] = []
+drops_below s above (l ∷ ls) = option_to_list (lost_by l l.act (before_line s above l)) ++ drops_below s (above ++ l ∷ []) ls
+
+-- in the order of the text
+abbrev pub bus_drops : ScenarioParts → List DropLine
+bus_drops s = drops_below s [] s.script
+
+-- how long a node sends and what its windows count, in ticks; and the number of frames in which it scans
+pub record Cost : Type 0 where
+  pub sent : ℕ
+  pub windows : ℕ
+  pub scanned : ℕ
+
+-- a node takes part in the round of its own rank alone
+abbrev pub over_frames : (Slot → ℕ) → ScenarioParts → ℕ → ℕ
+over_frames cost s v = sum_by (λ f. over_round cost s (rank_in (state_at s f v)) f (state_at s f)) (frames_of s)
+
+abbrev pub bus_cost : ScenarioParts → ℕ → Cost
+bus_cost s v = record {
+  sent = over_frames (λ x. slot_sent s.profile x v) s v;
+  windows = over_frames (λ x. slot_window s.profile x v) s v;
+  scanned = count_by (λ f. is_on (λ c. is_scan c.tune) (state_at s f v)) (frames_of s);
+}
+
+-- of two deliveries to one node from one stream of one boot the later one has the greater number
+abbrev pub InOrder : Delivery → Delivery → Type 0
+InOrder a b = a.node ≡ b.node → a.from ≡ b.from → a.boot ≡ b.boot → a.stream ≡ b.stream → a.seq < b.seq
+
+-- each stream in order, and no packet twice
+abbrev pub Ordered : List Delivery → Type 0
+Ordered ds = AllPairs InOrder ds

@@ -1,5 +1,0 @@
-use Rattle.std.proofs.Common.{◌≡◌}
-use Rattle.report_cases.proofs.core_tests.Driven.tell.Given as goal
-
-abbrev pub invariant-loop : goal.invariant-loop
-invariant-loop l = l.self.core.setup ≡ l.fn.self.core.setup
