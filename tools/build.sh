@@ -13,13 +13,14 @@ say() {
     echo "foldcairn: $*" >&2
 }
 
-# How many proofs go on at a time: one for each processor, and for each 2.5 GB of free memory.
+# How many crates are in work at a time. A proof takes a processor and up to 2.5 GB of memory; a crate that waits for those
+# below it takes neither, so there are half as many places more.
 at_once() {
     processors=$(getconf _NPROCESSORS_ONLN 2>/dev/null) || processors=1
     free=$(awk '$1 == "MemAvailable:" { print int($2 / 2500000) }' /proc/meminfo 2>/dev/null)
     [ -n "$free" ] && [ "$free" -lt "$processors" ] && processors=$free
     [ "$processors" -ge 1 ] || processors=1
-    echo "$processors"
+    echo "$((processors * 3 / 2))"
 }
 
 # The crates that the program stands on, itself included, as crates.txt lists them.
@@ -100,8 +101,9 @@ trap stopped INT TERM HUP
 needed=$(needed)
 jobs=$(at_once)
 say "proving and building the program, $jobs crates at a time: from nothing about 40 minutes on 4 cores and an hour on 2; 7 GB of memory, 7 GB of disk"
-# The built program is run once on the input that is stored beside it, so status 0 says that it is there.
-if ! build "$top" rt all check --jobs "$jobs" || ! build "$top/crates/foldcairn" rt run -- flood; then
+# In the folder of the program 'rt all' proves the program and what it stands on, and nothing else. The built program is run
+# once on the input that is stored beside it, so status 0 says that it is there.
+if ! build "$top/crates/foldcairn" rt all check --jobs "$jobs" || ! build "$top/crates/foldcairn" rt run -- flood; then
     say "the program could not be built; the end of $log:"
     tail -n 20 "$log" >&2
     exit 126

@@ -12,13 +12,22 @@ say() {
     echo "foldcairn: $*"
 }
 
-# The page that has the lines of the input of a command.
+# The page that has the lines of the input of a command. A text to be checked has a log from its first line 'log' on.
 page() {
     case $1 in
         deadlines) echo docs/DEADLINES.md ;;
+        check)
+            if [ -n "${number-}" ] && head -n "$number" "$input" | grep -q "$log_line"; then
+                echo docs/CHECK.md
+            else
+                echo docs/SCENARIO.md
+            fi
+            ;;
         *) echo docs/SCENARIO.md ;;
     esac
 }
+
+log_line='^[[:blank:]]*log[[:blank:]]*$'
 
 # The row of the page's table of lines that begins with the word: how the line is written, and its ranges. A flood has its
 # table at the end of the page.
@@ -66,6 +75,7 @@ lacking() {
         deadlines) words="slots frames stream" ;;
         *) words="frames sends host" ;;
     esac
+    [ "$1" != check ] || grep -q "$log_line" "$input" || printf ' %s' "a line 'log';"
     for word in $words; do
         grep -q "^[[:blank:]]*$word[[:blank:]]" "$input" || printf ' %s' "a '$word' line;"
     done
@@ -133,7 +143,7 @@ wrong_words() {
             shift
             wrong_demo "$@"
             ;;
-        run | log | bus | flood | deadlines)
+        run | log | bus | flood | check | deadlines)
             if [ $# -gt 2 ]; then
                 say "$1 takes one file at most, and $(($# - 1)) words come after it"
             elif [ -d "$2" ]; then

@@ -3,4 +3,4 @@ mod CheckedTextExamples
 mod DividedTexts
 mod CheckedTexts
 mod WorkedVerdicts
-mod OneVerdict
+pub mod OneVerdict

@@ -23,8 +23,12 @@ use Rattle.replay_tool.specs.Reports.{IsOfRun, IsFloodReport, Telling, OfScenari
 use Rattle.replay_tool.specs.RunReport.{report_lines, run_report, node_energy, energy_line}
 use Rattle.replay_tool.specs.Summary.{summary, number_line, sent_ticks, on_ticks}
 use Rattle.replay_tool.specs.BusReport.{bus_report}
+use Rattle.replay_tool.specs.CheckReport.{IsCheckReport, verdict_line}
 use Rattle.replay_tool.specs.DeadlineReport.{IsDeadlineReport}
-use Rattle.replay_tool.specs.declared.command.Command.TheVariants.{Flood, Run, Log, Bus, Demo, Deadlines}
+use Rattle.replay_tool.specs.declared.command.Command.TheVariants.{Flood, Run, Log, Bus, Demo, Check, Deadlines}
+use Rattle.air_check.specs.CheckedText.{checked_text}
+use Rattle.air_check.specs.Verdicts.{IsVerdict}
+use Rattle.air_check.specs.declared.verdict.Verdict.{Verdict}
 use Rattle.law_one_log.specs.OneLog.{OneCostLaw, OneFloodLogLaw, OneLogLaw, OneTextLaw}
 use Rattle.law_one_report.specs.OneReport.{OneReportLaw}
 use Rattle.law_one_report.proofs.FloodTexts.{flood_is_whole}
@@ -40,6 +44,7 @@ pub record Laws : Type 0 where
   pub drift : (s : ScenarioParts) → IsScenario s → (v : ℕ) → knows s.nodes v ≡ true → IsClock (scenario_clock s v)
   pub said : (seed n frames : ℕ) → IsSize n frames → IsSaid (made seed n frames)
   pub sound : (s : ScenarioParts) → IsScenario s → IsSoundScenario s
+  pub verdict : (s : ScenarioParts) (clocks : ℕ → ℕ → ℕ) (air : List Entry) (a b : Verdict) → IsVerdict s clocks air a → IsVerdict s clocks air b → a ≡ b
 
 -- what a text says, it says alone
 one_said : {X E : Type 0} (r : Result X E) (x y : X) → r ≡ Ok x → r ≡ Ok y → x ≡ y
@@ -87,6 +92,11 @@ module _ (laws : Laws) (s : ScenarioParts) (said : IsScenario s) where
       let of_b = lawful_run b also.law in
       (is.is ∙ alike a b of_a of_b ∙ sym also.is, laws.log s (scenario_clock s) a b of_a of_b)
 
+-- a log has one verdict
+one_check : Laws → (s : ScenarioParts) (log : List Entry) (text other : List ℕ) → IsCheckReport s log text → IsCheckReport s log other → text ≡ other
+one_check laws s log text other is also =
+    is.is ∙ ap verdict_line (laws.verdict s (scenario_clock s) log is.verdict also.verdict is.judged also.judged) ∙ sym also.is
+
 -- of the scenario that the bytes say
 module _ (laws : Laws) (bytes : List ℕ) (a b : List Entry) (text other : List ℕ) where
   of_scenario : (told : Telling) → ((s : ScenarioParts) (said : IsScenario s) → ToldAlike laws s said told)
@@ -115,6 +125,10 @@ one_report laws (Demo seed nodes frames) asked bytes a b text other is also =
     let s = made seed nodes frames in
     let said : IsScenario s = (canonical s, laws.said seed nodes frames asked.1.2) in
     one_run laws s said summary (sums_alike laws s said) a b text other is also
+one_report laws Check asked bytes a b text other is also =
+    let same : (is.0, is.1) ≡ (also.0, also.1) = one_said (checked_text bytes) (is.0, is.1) (also.0, also.1) is.2 also.2 in
+    (one_check laws is.0 is.1 text other is.3.1
+    (subst (λ (t : ScenarioParts × List Entry). IsCheckReport t.0 t.1 other) (sym same) also.3.1), no_logs laws bytes a b text other is.3.0 also.3.0)
 one_report laws Deadlines asked bytes a b text other is also =
     let here = subst (λ (p : Plan). IsDeadlineReport p other) (one_said _ also.0 is.0 also.1 is.1) also.2.1 in
     (one_plan_report is.0 text other is.2.1 here, no_logs laws bytes a b text other is.2.0 also.2.0)

@@ -10,7 +10,7 @@ use Rattle.replay_tool.specs.Commands.{Asks, reads, IsTextOf, HasFault}
 use Rattle.replay_tool.specs.CommandLine.{PartWritten, WholeRead, IsInput, IsFaultLine, IsComplete}
 use Rattle.replay_tool.specs.Reports.{IsReport}
 use Rattle.replay_tool.specs.declared.command.Command.{Command}
-use Rattle.replay_tool.specs.declared.command.Command.TheVariants.{Flood, Run, Log, Bus, Demo, Deadlines}
+use Rattle.replay_tool.specs.declared.command.Command.TheVariants.{Flood, Run, Log, Bus, Demo, Check, Deadlines}
 
 -- a part of a text that is due
 pub part_due : (a b : Option (List ℕ)) (Due : List ℕ → Type 0) (text : List ℕ) → Due text → PartWritten a b (λ t. t ≡ text) → PartWritten a b Due
@@ -42,6 +42,7 @@ is_text Run b air text report = ap result_err report.1
 is_text Log b air text report = ap result_err report.1
 is_text Bus b air text report = ap result_err report.1
 is_text (Demo seed nodes frames) b air text report = refl
+is_text Check b air text report = ap result_err report.2
 is_text Deadlines b air text report = ap result_err report.1
 
 -- a text has no fault
@@ -57,6 +58,7 @@ faulty_reads Flood b n k fault = refl
 faulty_reads Run b n k fault = refl
 faulty_reads Log b n k fault = refl
 faulty_reads Bus b n k fault = refl
+faulty_reads Check b n k fault = refl
 faulty_reads Deadlines b n k fault = refl
 faulty_reads (Demo seed nodes frames) b n k fault = absurd (text_or_fault (Demo seed nodes frames) b n k refl fault)
 

@@ -1,6 +1,7 @@
 pub mod DecimalWords
 pub mod Words
 pub mod Due
+pub mod CheckedLogs
 pub mod StatedRuns
 pub mod ReportLines
 pub mod NodeLines

@@ -6,8 +6,9 @@ use Rattle.scenario_text.specs.ScenarioGrammar.{scenario_of}
 use Rattle.text_readers.specs.declared.fault.FaultKind.{FaultKind}
 use Rattle.scenario_maker.specs.Made.{IsSize}
 use Rattle.deadline_plan.specs.DeadlineText.{plan_of}
+use Rattle.air_check.specs.CheckedText.{checked_text}
 use Rattle.replay_tool.specs.declared.command.Command.{Command}
-use Rattle.replay_tool.specs.declared.command.Command.TheVariants.{Flood, Run, Log, Bus, Demo, Deadlines}
+use Rattle.replay_tool.specs.declared.command.Command.TheVariants.{Flood, Run, Log, Bus, Demo, Check, Deadlines}
 
 -- the words ask for this command. A seed has at most 13 digits
 abbrev pub Asks : List (List ℕ) → Command → Type 0
@@ -17,6 +18,7 @@ Asks words Log = words ≡ codes "log" ∷ []
 Asks words Bus = words ≡ codes "bus" ∷ []
 Asks words (Demo seed nodes frames) =
     (words ≡ codes "demo" ∷ decimal seed ∷ decimal nodes ∷ decimal frames ∷ []) × (seed < 10 ^ 13) × IsSize nodes frames
+Asks words Check = words ≡ codes "check" ∷ []
 Asks words Deadlines = words ≡ codes "deadlines" ∷ []
 
 -- whether it reads its source
@@ -26,6 +28,7 @@ reads Run = true
 reads Log = true
 reads Bus = true
 reads (Demo seed nodes frames) = false
+reads Check = true
 reads Deadlines = true
 
 -- the first fault of the bytes that it reads, by its grammar
@@ -35,6 +38,7 @@ fault_of Run b = result_err (scenario_of b)
 fault_of Log b = result_err (scenario_of b)
 fault_of Bus b = result_err (scenario_of b)
 fault_of (Demo seed nodes frames) b = None
+fault_of Check b = result_err (checked_text b)
 fault_of Deadlines b = result_err (plan_of b)
 
 abbrev pub IsTextOf : Command → List ℕ → Type 0
@@ -51,4 +55,4 @@ abbrev pub IsReading : List (List ℕ) → Type 0
 IsReading words = (c : Command) × Asks words c × (reads c ≡ true)
 
 abbrev pub usage : List ℕ
-usage = codes "usage: flood | run | log | bus | demo SEED NODES FRAMES | deadlines\n"
+usage = codes "usage: flood | run | log | bus | demo SEED NODES FRAMES | check | deadlines\n"

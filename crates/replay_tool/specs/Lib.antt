@@ -3,6 +3,7 @@ pub mod RunReport
 pub mod BusReport
 pub mod Summary
 pub mod DeadlineReport
+pub mod CheckReport
 pub mod Commands
 pub mod Reports
 pub mod CommandLine

@@ -22,16 +22,21 @@ use Rattle.replay_tool.specs.FloodReport.{flood_report}
 use Rattle.replay_tool.specs.RunReport.{run_report}
 use Rattle.replay_tool.specs.BusReport.{bus_report}
 use Rattle.replay_tool.specs.Summary.{summary}
+use Rattle.air_check.specs.CheckedText.{checked_text}
+use Rattle.replay_tool.specs.CheckReport.{IsCheckReport}
 use Rattle.replay_tool.specs.DeadlineReport.{IsDeadlineReport}
 use Rattle.replay_tool.specs.declared.command.Command.{Command}
-use Rattle.replay_tool.specs.declared.command.Command.TheVariants.{Flood, Run, Log, Bus, Demo, Deadlines}
+use Rattle.replay_tool.specs.declared.command.Command.TheVariants.{Flood, Run, Log, Bus, Demo, Check, Deadlines}
 
--- the bytes are a text of a flood, of a scenario, or of streams with deadlines, of which this holds
+-- the bytes are a text of a flood, of a scenario, of a scenario with a log, or of streams with deadlines, of which this holds
 abbrev pub OfFlood : List ℕ → (FloodParts → Type 0) → Type 0
 OfFlood b P = (f : FloodParts) × (flood_of b ≡ Ok f) × P f
 
 abbrev pub OfScenario : List ℕ → (ScenarioParts → Type 0) → Type 0
 OfScenario b P = (s : ScenarioParts) × (scenario_of b ≡ Ok s) × P s
+
+abbrev pub OfChecked : List ℕ → (ScenarioParts → List Entry → Type 0) → Type 0
+OfChecked b P = (s : ScenarioParts) × (log : List Entry) × (checked_text b ≡ Ok (s, log)) × P s log
 
 abbrev pub OfPlan : List ℕ → (Plan → Type 0) → Type 0
 OfPlan b P = (p : Plan) × (plan_of b ≡ Ok p) × P p
@@ -65,4 +70,5 @@ IsReport Run b air text = OfScenario b (λ s. IsOfRun run_report s air text)
 IsReport Log b air text = OfScenario b (λ s. IsOfRun log_report s air text)
 IsReport Bus b air text = OfScenario b (λ s. (air ≡ []) × (text ≡ bus_report s))
 IsReport (Demo seed nodes frames) b air text = IsOfRun summary (made seed nodes frames) air text
+IsReport Check b air text = OfChecked b (λ s log. (air ≡ []) × IsCheckReport s log text)
 IsReport Deadlines b air text = OfPlan b (λ p. (air ≡ []) × IsDeadlineReport p text)

@@ -22,6 +22,8 @@ pub enum Command {
     /// The summary of the run of the scenario that a seed makes, of 2 to 64 nodes and 1 to 4,096 frames; nodes times frames
     /// is at most 16,384.
     Demo { seed: u64, nodes: u8, frames: u32 },
+    /// Whether a recorded log of a scenario is valid (`Lawful`), or what is wrong with it.
+    Check,
     /// What becomes of streams with deadlines, and the rounds of those that are admitted.
     Deadlines,
 }
@@ -33,9 +35,12 @@ impl Command {
     {
         match self {
             Command::Demo { .. } => false,
-            Command::Flood | Command::Run | Command::Log | Command::Bus | Command::Deadlines => {
-                true
-            },
+            Command::Flood
+            | Command::Run
+            | Command::Log
+            | Command::Bus
+            | Command::Check
+            | Command::Deadlines => true,
         }
     }
 }
@@ -52,6 +57,8 @@ pub fn command_of(words: &[String]) -> Option<Command>
         Some(Command::Log)
     } else if is_word(words, b"bus") {
         Some(Command::Bus)
+    } else if is_word(words, b"check") {
+        Some(Command::Check)
     } else if is_word(words, b"deadlines") {
         Some(Command::Deadlines)
     } else {

@@ -3,6 +3,7 @@
 
 mod answer;
 mod bus_answer;
+mod check_answer;
 mod command;
 mod cost_lines;
 mod deadline_answer;

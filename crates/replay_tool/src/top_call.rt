@@ -11,6 +11,7 @@ ghost use Rattle.replay_tool.specs.declared.command.Command.{Command as CommandO
 
 use crate::answer::Answer;
 use crate::bus_answer::bus_answer;
+use crate::check_answer::check_answer;
 use crate::command::{Command, command_of};
 use crate::deadline_answer::deadline_answer;
 use crate::demo_answer::demo_answer;
@@ -31,7 +32,7 @@ pub struct Outcome {
     pub air: Air,
 }
 
-const USAGE: &[u8; 68] = b"usage: flood | run | log | bus | demo SEED NODES FRAMES | deadlines\n";
+const USAGE: &[u8; 76] = b"usage: flood | run | log | bus | demo SEED NODES FRAMES | check | deadlines\n";
 
 const TOO_LONG: &[u8; 15] = b"fault too long\n";
 
@@ -41,7 +42,8 @@ const TOO_LONG: &[u8; 15] = b"fault too long\n";
 /// With status 0, and with 4 where the text is a report, of `run`, `log` and `demo`: the log is valid (`Lawful`); one node at
 /// most initiates in a data slot of a channel, transmissions of different steps never overlap there, relays of one data or
 /// schedule flood differ only by counter; and the printed deliveries and drops are those of the ideal single-hop bus, received
-/// by relay paths, each stream in order and no packet twice (`IsOfRun`).
+/// by relay paths, each stream in order and no packet twice (`IsOfRun`). The report of `check` is the verdict on the log that
+/// was read, and where that is `lawful`, the same holds of this log (`IsCheckReport`).
 pub fn top<S: Source, K: Sink>(
     alloc: Global,
     words: &[String],
@@ -121,6 +123,7 @@ fn answer(alloc: Global, command: Command, bytes: &[u8]) -> Result<Answer, Memor
             nodes,
             frames,
         } => demo_answer(alloc, seed, nodes, frames),
+        Command::Check => check_answer(alloc, bytes),
         Command::Deadlines => deadline_answer(alloc, bytes),
     }
 }

@@ -93,7 +93,8 @@ const LONG_PAYLOAD_OF_THE_FIRST: &[&str] = &[
 
 const RATE_OUT_OF_RANGE: &[&str] = &["frames 6\n", BASE, "rate 1 0 21\n"];
 
-pub const USAGE: &str = "usage: flood | run | log | bus | demo SEED NODES FRAMES | deadlines\n";
+pub const USAGE: &str =
+    "usage: flood | run | log | bus | demo SEED NODES FRAMES | check | deadlines\n";
 
 pub const CASES: &[Case] = &[
     Case {
@@ -477,6 +478,7 @@ pub const REFUSED_WORDS: &[&[&str]] = &[
     &["floods"],
     &["run", "extra"],
     &["flood", "flood"],
+    &["check", "extra"],
     &["deadlines", "extra"],
     &["demo"],
     &["demo", "7", "2"],

@@ -9,6 +9,10 @@ mod calls;
 #[cfg(test)]
 mod cases;
 #[cfg(test)]
+mod check_cases;
+#[cfg(test)]
+mod check_tests;
+#[cfg(test)]
 mod core_tests;
 #[cfg(test)]
 mod end_tests;

@@ -1,0 +1,70 @@
+#!/bin/sh
+# Times `check`. First a valid log: the scenario that bench/made.py draws from seed 7 for 64 nodes, over as many frames as its
+# text and its log fill 4 MiB, against `run` on the scenario alone. Then texts of 4 MiB that are made to cost much: all
+# receptions of one node at one tick, at a node that is on and at one that is off; and transmissions of all nodes at one tick.
+# It prints processor times: the least of three runs.
+# Usage: bench/check.sh PROGRAM, where PROGRAM is the proved program. It needs python3, for bench/made.py.
+set -eu
+
+program=${1:?the program}
+bench=$(cd "$(dirname "$0")" && pwd)
+folder=$(mktemp -d)
+trap 'rm -rf "$folder"' EXIT
+limit=4194304
+
+# The least processor time in milliseconds of three calls of a command with its input.
+milliseconds() {
+    for round in 1 2 3; do
+        ( "$program" "$1" < "$2" > "$folder/answer"; times ) |
+            awk 'END { gsub(/[ms]/, " "); print 60000 * ($1 + $3) + 1000 * ($2 + $4) }'
+    done | sort -n | head -n 1
+}
+
+# 64 nodes over 256 frames, of which node 1 is on; none hosts but node 64, which is off. Then the log.
+alone() {
+    awk 'BEGIN {
+        print "frames 256"
+        print "sends 1"
+        for (id = 1; id <= 64; id++) print "node", id, 0
+        print "host 0 64"
+        for (id = 2; id <= 64; id++) print "pair 1", id
+        print "on 0 1"
+        print "log"
+    }'
+}
+
+# receptions NODE: as many as the text has room for, of packets that differ, all at one tick.
+receptions() {
+    awk -v node="$1" -v lines="$2" 'BEGIN {
+        for (i = 0; i < lines; i++) printf "heard 0 %d %d 1000000 1030720 %06x00000000\n", node, 2 + i % 63, i % 16777216
+    }'
+}
+
+transmissions() {
+    awk -v lines="$1" 'BEGIN {
+        for (i = 0; i < lines; i++) printf "sent 0 %d 1000000 1030720 %06x00000000\n", 1 + i % 64, i % 16777216
+    }'
+}
+
+frames=64
+while [ "$frames" -gt 0 ]; do
+    python3 "$bench/made.py" 7 64 "$frames" > "$folder/scenario"
+    { cat "$folder/scenario"; echo log; "$program" log < "$folder/scenario"; } > "$folder/text"
+    [ "$(wc -c < "$folder/text")" -gt "$limit" ] || break
+    frames=$((frames - 1))
+done
+run=$(milliseconds run "$folder/scenario")
+check=$(milliseconds check "$folder/text")
+echo "valid: $frames frames, $(wc -c < "$folder/text") bytes, $(cat "$folder/answer")"
+awk -v run="$run" -v check="$check" 'BEGIN {
+    printf "valid: %.3f seconds of processor time, run %.3f, %.1f times as much\n", check / 1000, run / 1000, check / run
+}'
+
+for kind in "receptions 1" "receptions 64" transmissions; do
+    # One line has some 45 bytes.
+    { alone; $kind 80000; } | head -c "$limit" | sed '$d' > "$folder/text"
+    time=$(milliseconds check "$folder/text")
+    awk -v kind="$kind" -v ms="$time" -v said="$(cat "$folder/answer")" 'BEGIN {
+        printf "%s: %.3f seconds of processor time, %s\n", kind, ms / 1000, said
+    }'
+done
