@@ -70,6 +70,7 @@ impl Device {
         ensures whole { (made : Made) → begun self.old.setup t (whole self.old made) ≡ whole self.new (with_sent result made) }
         ensures time { (now : ℕ) → HappenedBy now self.old → HappenedBy now self.new }
         ensures node { IsSameNode self.old self.new }
+        ensures core { self.new.core ≡ self.old.core }
     {
         let packet = self.take_ordered(t)?;
         let listening = self.listening?;
