@@ -52,4 +52,5 @@ mod SentPackets
 mod PlacedWindows
 mod WindowCharges
 mod SentTimes
+mod SaidSendings
 mod BusLaws
