@@ -7,6 +7,7 @@ pub mod LeastPaths
 pub mod SendingCounts
 pub mod ReceivedByPaths
 pub mod ReceivedInRounds
+pub mod DeliveredSteps
 pub mod OtherRanks
 pub mod KeptRanks
 pub mod NumbersKept

@@ -53,4 +53,6 @@ mod PlacedWindows
 mod WindowCharges
 mod SentTimes
 mod SaidSendings
+mod BusDeliveries
 mod BusLaws
+mod ReceivedInRuns
