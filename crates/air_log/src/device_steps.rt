@@ -93,12 +93,12 @@ impl Device {
         ensures packet { result ≡ packet_due t self.old.ordered }
         ensures after { self.new ≡ record self.old { ordered = if is_some result then None else self.old.ordered } }
     {
-        let ordered = self.ordered.take()?;
-        if ordered.tick == t {
-            Some(ordered.packet)
-        } else {
-            self.ordered = Some(ordered);
-            None
+        match &self.ordered {
+            Some(ordered) if ordered.tick == t => {
+                let ordered = self.ordered.take()?;
+                Some(ordered.packet)
+            }
+            Some(_) | None => None,
         }
     }
 
