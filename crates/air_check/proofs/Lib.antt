@@ -1,4 +1,6 @@
 mod LogTextExamples
 mod CheckedTextExamples
+mod DividedTexts
+mod CheckedTexts
 mod WorkedVerdicts
 mod OneVerdict

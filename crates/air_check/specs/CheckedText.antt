@@ -27,11 +27,15 @@ abbrev pub log_in : ScenarioParts → ℕ → List (List ℕ) → Result (List E
 log_in s n [] = Err (n + 1, Missing)
 log_in s n (first ∷ ls) = after_lines (after_log_line s.nodes) (n + 2) [] ls
 
+-- how many lines are above the first line `log`
+abbrev pub count_above : List (List ℕ) → ℕ
+count_above ls = length (take_while (λ l. not (is_log l)) ls)
+
 -- the scenario and its log, or the first fault and its line. The first line `log` divides them
 abbrev pub checked_text : List ℕ → Result (ScenarioParts × List Entry) (ℕ × FaultKind)
 checked_text bytes =
     let ls = lines bytes in
-    let above = length (take_while (λ l. not (is_log l)) ls) in do
+    let above = count_above ls in do
       s ← scenario_in (take above ls)
       air ← log_in s above (drop above ls)
       Ok (s, air)

@@ -1,3 +1,4 @@
+pub mod LineEnds
 pub mod FaultNames
 pub mod Faults
 pub mod Words
