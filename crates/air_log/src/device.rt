@@ -180,9 +180,10 @@ impl Device {
         ensures whole { (made : Made) → whole self.old made ≡ whole self.new (with_tuned result made) }
         ensures own { IfSome result (λ e. e.node ≡ self.old.setup.id) }
         ensures none { self.new.closed ≡ None }
-        ensures core { IsCoreAt self.new.core self.new.power }
+        ensures power { IsCoreAt self.new.core self.new.power }
         ensures time { (t : ℕ) → HappenedBy t self.old → HappenedBy t self.new }
         ensures node { IsSameNode self.old self.new }
+        ensures core { self.new.core ≡ self.old.core }
     {
         let closed = self.closed;
         self.closed = None;
@@ -229,6 +230,7 @@ impl Device {
         ensures own { IfSome result (λ e. e.node ≡ self.old.setup.id) }
         ensures time { HappenedBy t self.new }
         ensures node { IsSameNode self.old self.new }
+        ensures core { self.new.core ≡ self.old.core }
     {
         if self.listens_to(rank) {
             return None;
@@ -246,6 +248,7 @@ impl Device {
         ensures off { self.new.listening ≡ None }
         ensures time { HappenedBy t self.old → HappenedBy t self.new }
         ensures node { IsSameNode self.old self.new }
+        ensures core { self.new.core ≡ self.old.core }
     {
         let Some(listening) = self.listening else {
             return None;
@@ -280,6 +283,7 @@ impl Device {
         ensures whole { (made : Made) → EndedBefore t made.tuned → retuned rank t (whole self.old made) ≡ whole self.new made }
         ensures time { HappenedBy t self.new }
         ensures node { IsSameNode self.old self.new }
+        ensures core { self.new.core ≡ self.old.core }
     {
         let closed = self.closed;
         match closed {

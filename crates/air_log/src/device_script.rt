@@ -1,9 +1,9 @@
 //! What script lines do to a device.
 
-ghost use Rattle.std.specs.Prelude.{◌≡◌, ◌≤◌, ◌<◌, ℕ, Some, None, IfSome, length, if◌then◌else◌};
+ghost use Rattle.std.specs.Prelude.{◌≡◌, ◌≤◌, ◌<◌, ℕ, Some, None, IfSome, length, false, if◌then◌else◌};
 ghost use Rattle.lwb_base.specs.declared.event.Event.TheVariants.{Boot};
 ghost use Rattle.scenario_text.specs.declared.script.Act.TheVariants.{On, Off, Declare, Leave, Put as PutAct};
-ghost use Rattle.air_log.specs.Devices.{Made, event};
+ghost use Rattle.air_log.specs.Devices.{Made, event, is_on};
 ghost use Rattle.air_log.specs.ScriptedDevices.{after_act};
 ghost use Rattle.air_log.specs.DeviceStates.{whole, with_tuned, with_drop, HappenedBy, IsSameNode, CanBoot};
 
@@ -40,6 +40,7 @@ impl Device {
         ensures own { IfSome result (λ e. e.node ≡ self.old.setup.id) }
         ensures time { HappenedBy t self.old → HappenedBy t self.new }
         ensures node { IsSameNode self.old self.new }
+        ensures core { self.new.core ≡ self.old.core }
     {
         if !self.on {
             return None;
@@ -58,6 +59,7 @@ impl Device {
             → after_act clock self.old.setup t frame (whole self.old made) (Declare stream interval) self.old.power ≡ whole self.new made }
         ensures time { (now : ℕ) → HappenedBy now self.old → HappenedBy now self.new }
         ensures node { IsSameNode self.old self.new }
+        ensures off { is_on self.old.power ≡ false → self.new ≡ self.old }
     {
         if self.on {
             self.core.declare(stream, interval);
@@ -71,6 +73,7 @@ impl Device {
             → after_act clock self.old.setup t frame (whole self.old made) (Leave stream) self.old.power ≡ whole self.new made }
         ensures time { (now : ℕ) → HappenedBy now self.old → HappenedBy now self.new }
         ensures node { IsSameNode self.old self.new }
+        ensures off { is_on self.old.power ≡ false → self.new ≡ self.old }
     {
         if self.on {
             self.core.leave(stream);
@@ -86,6 +89,7 @@ impl Device {
             ≡ whole self.new (with_drop result (record { frame = frame; node = self.old.setup.id; stream = stream }) made) }
         ensures time { (now : ℕ) → HappenedBy now self.old → HappenedBy now self.new }
         ensures node { IsSameNode self.old self.new }
+        ensures off { is_on self.old.power ≡ false → self.new ≡ self.old }
     {
         if !self.on {
             return true;

@@ -70,6 +70,7 @@ impl Device {
         ensures whole { (made : Made) → begun self.old.setup t (whole self.old made) ≡ whole self.new (with_sent result made) }
         ensures time { (now : ℕ) → HappenedBy now self.old → HappenedBy now self.new }
         ensures node { IsSameNode self.old self.new }
+        ensures core { self.new.core ≡ self.old.core }
     {
         let packet = self.take_ordered(t)?;
         let listening = self.listening?;
@@ -92,12 +93,12 @@ impl Device {
         ensures packet { result ≡ packet_due t self.old.ordered }
         ensures after { self.new ≡ record self.old { ordered = if is_some result then None else self.old.ordered } }
     {
-        let ordered = self.ordered.take()?;
-        if ordered.tick == t {
-            Some(ordered.packet)
-        } else {
-            self.ordered = Some(ordered);
-            None
+        match &self.ordered {
+            Some(ordered) if ordered.tick == t => {
+                let ordered = self.ordered.take()?;
+                Some(ordered.packet)
+            }
+            Some(_) | None => None,
         }
     }
 

@@ -2,7 +2,6 @@ pub mod SlotsInTurn
 pub mod RanksInTurn
 pub mod KeptStates
 pub mod PowerKept
-pub mod RanksKept
 pub mod LinesTold
 pub mod LinesAllowed
 pub mod FramesInTurn

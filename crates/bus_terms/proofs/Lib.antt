@@ -7,13 +7,17 @@ pub mod LeastPaths
 pub mod SendingCounts
 pub mod ReceivedByPaths
 pub mod ReceivedInRounds
+pub mod DeliveredSteps
 pub mod OtherRanks
+pub mod KeptRanks
 pub mod NumbersKept
 pub mod ListsInTurn
 pub mod OrderedDeliveries
 -- for this crate alone
 mod WorkedFloods
 mod WorkedBuses
+mod SameRounds
+mod AnyRankOrder
 pub mod NumberedStreams
 pub mod NumbersSaid
 pub mod ReachByDistance

@@ -63,7 +63,7 @@ said_somewhere : (x : Slot) (a : Option (ℕ × ℕ)) (m : Message) → option_a
 said_somewhere x None m is = absurd (cc)
 said_somewhere x (Some a) m is = (a.0, is)
 
-mapped : (g : Data → Delivery) (d : Option Data) (a : Delivery) → option_map g d ≡ Some a → (e : Data) × (d ≡ Some e) × (g e ≡ a)
+pub mapped : (g : Data → Delivery) (d : Option Data) (a : Delivery) → option_map g d ≡ Some a → (e : Data) × (d ≡ Some e) × (g e ≡ a)
 mapped g None a is = absurd (cc)
 mapped g (Some e) a is = (e, refl, cc)
 
@@ -82,7 +82,7 @@ delivered_from s rank f p j v a is =
     (ap (λ (b : Delivery). b.node) (sym found.2), subst (λ (b : Delivery). IsSaidIn s rank f p j b) found.2 at)
 
 -- a data slot is one of the round
-data_in_round : (p : Plan) (j owner : ℕ) → part_of p j ≡ DataSlot owner → j ≤ last_slot p
+pub data_in_round : (p : Plan) (j owner : ℕ) → part_of p j ≡ DataSlot owner → j ≤ last_slot p
 data_in_round p j owner is =
     elim (cases_lt (length p.owners) j) [
       | inl after ↦ absurd (no_data (j == 0) (nat_le j (length p.owners)) (beyond after) is)

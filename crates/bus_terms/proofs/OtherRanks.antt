@@ -1,5 +1,5 @@
 -- A node of another rank, or one that is off, is left alone by a round.
-use Rattle.std.proofs.Common.{◌≡◌, ℕ, zero, suc, Bool, true, false, ◌==◌, ◌&&◌, ◌||◌, None, Option, refl, ap, sym, ◌∙◌, option_and_then, subst}
+use Rattle.std.proofs.Common.{◌≡◌, ℕ, zero, suc, Bool, true, false, ◌==◌, ◌&&◌, ◌||◌, ◌+◌, Some, None, Option, refl, ap, sym, ◌∙◌, option_and_then, subst}
 use Rattle.std.proofs.lemmas.Bool.{false≢true}
 use Rattle.lwb_base.specs.Messages.{Plan}
 use Rattle.scenario_text.specs.ScenarioParts.{ScenarioParts}
@@ -8,11 +8,13 @@ use Rattle.bus_rules.specs.declared.tune.Tune.{Tune}
 use Rattle.bus_rules.specs.declared.tune.Tune.TheVariants.{Scan, Hold, Host}
 use Rattle.bus_rules.specs.Tuning.{rank_of, hosts_in, holds_in, scans}
 use Rattle.bus_rules.specs.Cores.{is_fresh}
+use Rattle.bus_rules.specs.Plans.{last_slot}
 use Rattle.bus_rules.specs.Slots.{Message, Opened, part_of, is_schedule_part}
 use Rattle.bus_rules.specs.States.{State, StateOff, StateOn}
 use Rattle.bus_terms.specs.FloodOfText.{ids}
 use Rattle.bus_terms.specs.Flooding.{has}
-use Rattle.bus_terms.specs.Rounds.{Slot, opened_at, takes_part, said_in, slot_of, accepted_at, closed_by, left_by, after_slot, before_slot}
+use Rattle.bus_terms.specs.Rounds.{Slot, opened_at, takes_part, said_in, slot_of, accepted_at, closed_at, closed_by, left_by, after_round, after_slot}
+use Rattle.bus_terms.specs.Rounds.{before_slot, round, round_plan}
 use Rattle.bus_terms.proofs.ReceivedByPaths.{of_filtered}
 use Rattle.bus_terms.proofs.ReceivedInRounds.{accepted_none}
 
@@ -36,7 +38,7 @@ pub no_window : (s : ScenarioParts) (rank f : ℕ) (part : Part) (v : ℕ) (x : 
 no_window s rank f part v (StateOff boots) other = refl
 no_window s rank f part v (StateOn c) other = rw (not_member rank f c.tune (is_fresh c) other) refl
 
-no_part : (rank : ℕ) (part : Part) (x : State) → IsElsewhere rank x → takes_part rank part x None ≡ true → ⊥
+pub no_part : (rank : ℕ) (part : Part) (x : State) → IsElsewhere rank x → takes_part rank part x None ≡ true → ⊥
 no_part rank part (StateOff boots) other is = by_part (is_schedule_part part) is
   where
     by_part : (b : Bool) → (b && false) ≡ true → ⊥
@@ -48,11 +50,11 @@ no_part rank part (StateOn c) other is = by_part (is_schedule_part part) (scans 
     by_part true t at is = false≢true (sym at ∙ is)
     by_part false t at is = false≢true is
 
-slot_elsewhere : (s : ScenarioParts) (rank f : ℕ) (p : Plan) (j v : ℕ) (states : ℕ → State) → IsElsewhere rank (states v)
-    → after_slot s rank f p j states v ≡ states v
-slot_elsewhere s rank f p j v states other =
-    ap (λ (w : Option Opened). left_by (states v) (closed_by s f part v w (accepted_at x v) (states v))) window
-    ∙ ap (λ (m : Option Message). left_by (states v) (closed_by s f part v None m (states v))) nothing
+-- such a node accepts nothing
+pub accepts_nothing : (s : ScenarioParts) (rank f : ℕ) (p : Plan) (j v : ℕ) (states : ℕ → State) → IsElsewhere rank (states v)
+    → accepted_at (slot_of s rank f p j states) v ≡ None
+accepts_nothing s rank f p j v states other =
+    ap (λ (a : Option (ℕ × ℕ)). option_and_then (λ b. said_in (x.window b.0)) a) (accepted_none x.flood v (λ o k a. outside a.here))
   where
     part : Part
     part = part_of p j
@@ -60,16 +62,23 @@ slot_elsewhere s rank f p j v states other =
     x : Slot
     x = slot_of s rank f p j states
 
-    window : x.window v ≡ None
-    window = no_window s rank f part v (states v) other
-
     outside : has x.flood.everyone v ≡ true → ⊥
     outside there =
         let passes = of_filtered (λ u. takes_part rank part (states u) (x.window u)) (ids s.nodes) v there in
-        no_part rank part (states v) other (ap (λ (w : Option Opened). takes_part rank part (states v) w) (sym window) ∙ passes)
+        no_part rank part (states v) other
+        (ap (λ (w : Option Opened). takes_part rank part (states v) w) (sym (no_window s rank f part v (states v) other)) ∙ passes)
 
-    nothing : accepted_at x v ≡ None
-    nothing = ap (λ (a : Option (ℕ × ℕ)). option_and_then (λ b. said_in (x.window b.0)) a) (accepted_none x.flood v (λ o k a. outside a.here))
+-- and no window of it closes
+pub closes_nothing : (s : ScenarioParts) (rank f : ℕ) (p : Plan) (j v : ℕ) (states : ℕ → State) → IsElsewhere rank (states v)
+    → closed_at s f (slot_of s rank f p j states) states v ≡ None
+closes_nothing s rank f p j v states other =
+    ap (λ (w : Option Opened). closed_by s f (part_of p j) v w (accepted_at (slot_of s rank f p j states) v) (states v))
+    (no_window s rank f (part_of p j) v (states v) other)
+    ∙ ap (λ (m : Option Message). closed_by s f (part_of p j) v None m (states v)) (accepts_nothing s rank f p j v states other)
+
+pub slot_elsewhere : (s : ScenarioParts) (rank f : ℕ) (p : Plan) (j v : ℕ) (states : ℕ → State) → IsElsewhere rank (states v)
+    → after_slot s rank f p j states v ≡ states v
+slot_elsewhere s rank f p j v states other = ap (left_by (states v)) (closes_nothing s rank f p j v states other)
 
 pub slots_elsewhere : (s : ScenarioParts) (rank f : ℕ) (p : Plan) (v : ℕ) (states : ℕ → State) → IsElsewhere rank (states v) → (j : ℕ)
     → before_slot s rank f p states j v ≡ states v
@@ -78,3 +87,10 @@ slots_elsewhere s rank f p v states other zero = refl
 slots_elsewhere s rank f p v states other (suc j) =
     let before = slots_elsewhere s rank f p v states other j in
     slot_elsewhere s rank f p j v (before_slot s rank f p states j) (subst (IsElsewhere rank) (sym before) other) ∙ before
+
+pub round_elsewhere : (s : ScenarioParts) (rank f v : ℕ) (states : ℕ → State) → IsElsewhere rank (states v) → round s rank f states v ≡ states v
+round_elsewhere s rank f v states other = by_plan (round_plan s rank f states)
+  where
+    by_plan : (o : Option Plan) → after_round s rank f states o v ≡ states v
+    by_plan None = refl
+    by_plan (Some p) = slots_elsewhere s rank f p v states other (last_slot p + 1)

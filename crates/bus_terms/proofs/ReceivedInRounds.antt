@@ -76,10 +76,10 @@ module _ (s : ScenarioParts) (rank f owner : ℕ) where
       (initiators_are : x.flood.initiators ≡ filter (λ v. is_some (said_in (x.window v))) (ids s.nodes))
       (everyone_is : x.flood.everyone ≡ filter (λ v. takes_part rank (DataSlot owner) (states v) (x.window v)) (ids s.nodes))
       (rise : AllPairs (λ a b. a < b) (ids s.nodes)) where
-    says_data : (v : ℕ) (m : Message) → said_in (x.window v) ≡ Some m → (v ≡ node_of owner) × ((d : Data) × (m ≡ DataOf d))
+    pub says_data : (v : ℕ) (m : Message) → said_in (x.window v) ≡ Some m → (v ≡ node_of owner) × ((d : Data) × (m ≡ DataOf d))
     says_data v m is = said_in_data v (states v) m (ap said_in (sym (window_is v)) ∙ is)
 
-    some_said : (w : Option Message) → is_some w ≡ true → (m : Message) × (w ≡ Some m)
+    pub some_said : (w : Option Message) → is_some w ≡ true → (m : Message) × (w ≡ Some m)
     some_said None is = absurd (false≢true is)
     some_said (Some m) is = (m, refl)
 
@@ -87,14 +87,14 @@ module _ (s : ScenarioParts) (rank f owner : ℕ) where
     owner_alone v is = (let m = some_said (said_in (x.window v)) is in (says_data v m.0 m.1).0)
 
     -- nobody initiates, or the owner's node alone
-    initiators : (x.flood.initiators ≡ []) ⊎ ((x.flood.initiators ≡ node_of owner ∷ []) × (is_some (said_in (x.window (node_of owner))) ≡ true))
+    pub initiators : (x.flood.initiators ≡ []) ⊎ ((x.flood.initiators ≡ node_of owner ∷ []) × (is_some (said_in (x.window (node_of owner))) ≡ true))
     initiators =
         elim (one_at_most (λ v. is_some (said_in (x.window v))) (node_of owner) (ids s.nodes) rise owner_alone) [
           | inl none ↦ inl (initiators_are ∙ none)
           | inr one ↦ inr (initiators_are ∙ one.0, one.1)
         ]
 
-    takes : (v : ℕ) → has (ids s.nodes) v ≡ true → is_some (x.window v) ≡ true → has x.flood.everyone v ≡ true
+    pub takes : (v : ℕ) → has (ids s.nodes) v ≡ true → is_some (x.window v) ≡ true → has x.flood.everyone v ≡ true
     takes v there opens =
         subst (λ (l : List ℕ). has l v ≡ true) (sym everyone_is) (in_filtered _ (ids s.nodes) v there (by_window (x.window v) opens))
       where
@@ -133,7 +133,7 @@ module _ (s : ScenarioParts) (rank f owner : ℕ) where
             false≢true (sym listens ∙ or_left (node_of owner == node_of owner) _ (eq-eqb (node_of owner) (node_of owner) refl))
 
     module _ (one : x.flood.initiators ≡ node_of owner ∷ []) (says : is_some (said_in (x.window (node_of owner))) ≡ true) where
-      owner_there : has x.flood.everyone (node_of owner) ≡ true
+      pub owner_there : has x.flood.everyone (node_of owner) ≡ true
       owner_there =
           let kept = ap (λ (l : List ℕ). has l (node_of owner)) (sym initiators_are ∙ one) ∙ or_left (node_of owner == node_of owner) _
           (eq-eqb (node_of owner) (node_of owner) refl) in
@@ -144,7 +144,7 @@ module _ (s : ScenarioParts) (rank f owner : ℕ) where
           opens (Some o) is = refl
 
       -- what is accepted comes from the owner's node
-      from_owner : (v : ℕ) (a : ℕ × ℕ) → accepted x.flood v ≡ Some a → Accepts x.flood v (node_of owner) a.1
+      pub from_owner : (v : ℕ) (a : ℕ × ℕ) → accepted x.flood v ≡ Some a → Accepts x.flood v (node_of owner) a.1
       from_owner v a is =
           let accepts = (accepted_first x.flood v a.0 a.1).0 is in
           let same : a.0 ≡ node_of owner = first ((moment x.flood STEPS).heard v) ((has_one x.flood (node_of owner) STEPS one).heard v)

@@ -5,5 +5,6 @@ pub mod ScriptedStates
 pub mod Rounds
 pub mod Costs
 pub mod Bus
+pub mod RankOrders
 pub mod Received
 pub mod Distances

@@ -10,4 +10,4 @@ pub use bus_laws::each_stream_is_delivered_in_order;
 pub use flood_laws::{
     accepts_by_distance, accepts_by_the_least_relay_path, accepts_the_first_hearing,
 };
-pub use round_laws::data_is_received_by_relay_paths;
+pub use round_laws::{data_is_received_by_relay_paths, ranks_go_in_any_order};

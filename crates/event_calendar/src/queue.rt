@@ -1,6 +1,6 @@
 //! A sorted queue of the orders of one class.
 
-ghost use Rattle.std.specs.Prelude.{◌≡◌, ◌<◌, ◌≤◌, ℕ, List, [], Contains, length, slice_get, slice_index_or, IfOk};
+ghost use Rattle.std.specs.Prelude.{◌≡◌, ◌<◌, ◌≤◌, ℕ, List, [], Contains, length, slice_get, slice_index_or, IfOk, true};
 ghost use Rattle.event_calendar.specs.declared.entry.Entry.{Entry as EntryOf};
 ghost use Rattle.event_calendar.specs.Waiting.{IsBefore, IsInOrder, IsAdded, IsRemoved};
 
@@ -50,12 +50,10 @@ impl Queue {
         requires apart { Contains self.old.entries entry → ⊥ }
         ensures { IsAdded entry self.old self.new }
     {
-        let at = self.place_of(&entry);
-        if at == self.entries.len() {
+        if self.comes_last(&entry) {
             self.entries.push_back_reserved(entry);
-        } else if self.entries.insert(at, entry).is_err() {
-            // there is room
-            unreachable!();
+        } else {
+            self.insert(entry);
         }
     }
 
@@ -66,16 +64,63 @@ impl Queue {
         requires there { Contains self.old.entries entry }
         ensures { IsRemoved entry self.old self.new }
     {
-        let at = self.index_of(&entry);
-        if at == 0 {
+        if self.comes_first(&entry) {
             self.entries.pop_front();
         } else {
-            self.entries.remove(at);
+            self.remove_later(entry);
         }
     }
 
-    // How many orders come before that one. A new order mostly comes last, or nearly so.
+    // Whether each order comes before that one, as a new order mostly comes last.
     #[inline(always)]
+    fn comes_last(&self, entry: &Entry) -> bool
+        requires { IsInOrder self.now.entries }
+        ensures { result ≡ true → (k : ℕ) (d : EntryOf) → k < length self.now.entries → IsBefore (slice_index_or self.now.entries k d) entry.now }
+    {
+        match self.entries.back() {
+            Some(last) => last.is_before(entry),
+            None => true,
+        }
+    }
+
+    // Whether that order is the first, as one that is removed mostly is.
+    #[inline(always)]
+    fn comes_first(&self, entry: &Entry) -> bool
+        ensures { result ≡ true → (0 < length self.now.entries) × ((d : EntryOf) → slice_index_or self.now.entries 0 d ≡ entry.now) }
+    {
+        match self.entries.front() {
+            Some(first) => *first == *entry,
+            None => false,
+        }
+    }
+
+    // Adds an order that comes before others. It stands alone, so that the usual order is added in a few instructions.
+    #[inline(never)]
+    fn insert(&mut self, entry: Entry)
+        requires room { length self.old.entries < self.old.room }
+        requires order { IsInOrder self.old.entries }
+        requires apart { Contains self.old.entries entry → ⊥ }
+        ensures { IsAdded entry self.old self.new }
+    {
+        let at = self.place_of(&entry);
+        if self.entries.insert(at, entry).is_err() {
+            // there is room
+            unreachable!();
+        }
+    }
+
+    // Removes an order that stands after others.
+    #[inline(never)]
+    fn remove_later(&mut self, entry: Entry)
+        requires order { IsInOrder self.old.entries }
+        requires there { Contains self.old.entries entry }
+        ensures { IsRemoved entry self.old self.new }
+    {
+        let at = self.index_of(&entry);
+        self.entries.remove(at);
+    }
+
+    // How many orders come before that one, which are most of them.
     fn place_of(&self, entry: &Entry) -> usize
         requires order { IsInOrder self.now.entries }
         requires apart { Contains self.now.entries entry.now → ⊥ }
@@ -94,8 +139,7 @@ impl Queue {
         0
     }
 
-    // Where that order stands. It is mostly the first.
-    #[inline(always)]
+    // Where that order stands.
     fn index_of(&self, entry: &Entry) -> usize
         requires there { Contains self.now.entries entry.now }
         ensures bound { result < length self.now.entries }

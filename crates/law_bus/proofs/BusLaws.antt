@@ -1,6 +1,6 @@
 -- The laws of the bus from those of slots, floods and rounds.
 use Rattle.law_terms.specs.RunLaws.{AnyClocksLaw, DeliveriesLaw, DropsLaw, RunLaw}
-use Rattle.law_terms.specs.SlotLaws.{CoresLaw, SlotLaw, WindowsLaw}
+use Rattle.law_terms.specs.SlotLaws.{CoresLaw, SentLaw, SlotLaw, WindowsLaw}
 use Rattle.law_terms.specs.SlotSteps.{SlotHeardLaw}
 use Rattle.law_bus.proofs.SlotsAreFloods.{slots_are_runs}
 use Rattle.law_bus.proofs.HeardSlots.{slots_heard, slots_started}
@@ -8,6 +8,7 @@ use Rattle.law_bus.specs.AllSlots.{AllSlotsLaw}
 use Rattle.law_bus.specs.ScannedFrames.{ScansLaw}
 use Rattle.law_bus.proofs.CoresOfWindows.{all_slots, cores_law, run_law, windows_law}
 use Rattle.law_bus.proofs.SameDeliveries.{any_clocks_law, deliveries_law, drops_law}
+use Rattle.law_bus.proofs.SaidSendings.{sent_law}
 use Rattle.law_bus.proofs.SameScans.{scans_law}
 
 -- each slot is a run of the theorem on floods, so it gives on the air what it gives on the bus
@@ -24,6 +25,9 @@ slots_go = all_slots heard
 pub slots_are_floods : SlotLaw
 slots_are_floods s clocks air lawful f rank j p round within =
     slots_started slots_are_runs s clocks air lawful f rank j p round within (slots_go s clocks air lawful f rank j p round within).0
+
+pub nothing_else : SentLaw
+nothing_else = sent_law heard slots_are_runs
 
 pub windows_open : WindowsLaw
 windows_open = windows_law heard

@@ -3,8 +3,8 @@ use Rattle.std.proofs.Common.{◌≡◌, ℕ, ◌<◌, List, Bool, true, false, 
 use Rattle.lwb_base.specs.Messages.{Plan}
 use Rattle.bus_rules.specs.declared.delivery.Delivery.{Delivery}
 use Rattle.bus_rules.specs.declared.part.Part.{Part}
-use Rattle.bus_rules.specs.Cores.{Core, Setup}
-use Rattle.bus_rules.specs.Slots.{Data, Message, ScheduleOf, DataOf, RequestOf, Opened, Closed, closed, delivery_of, opened, part_of}
+use Rattle.bus_rules.specs.Cores.{Core}
+use Rattle.bus_rules.specs.Slots.{Data, Message, Opened, Closed, delivery_of, opened, part_of}
 use Rattle.bus_rules.specs.States.{State, StateOn}
 use Rattle.node_core.specs.Rows.{accepted_in}
 use Rattle.scenario_text.specs.ScenarioParts.{ScenarioParts}
@@ -16,23 +16,11 @@ use Rattle.law_windows.specs.WindowDeliveries.{at_closing}
 use Rattle.bus_terms.specs.ScriptedStates.{setup_in}
 use Rattle.bus_terms.specs.Rounds.{accepted_at, before_slot, closed_by, delivered_at}
 use Rattle.bus_terms.specs.Bus.{state_at}
+use Rattle.bus_terms.proofs.DeliveredSteps.{closed_data, said_data}
 use Rattle.law_terms.specs.LawfulRuns.{IsLawfulRun}
 use Rattle.law_terms.specs.SlotLaws.{IsWindowOf, bus_slot}
 use Rattle.law_terms.specs.SlotSteps.{IsSlotStart, IsSlotHeard}
 use Rattle.law_bus.proofs.SlotsAtNodes.{window_is, no_window, not_member, up}
-
--- the data that a message says
-abbrev pub said_data : Option Message → Option Data
-said_data None = None
-said_data (Some (ScheduleOf y)) = None
-said_data (Some (DataOf d)) = Some d
-said_data (Some (RequestOf a)) = None
-
-closed_data : (S : Setup) (f : ℕ) (part : Part) (begun : Bool) (c : Core) (m : Option Message) → (closed S f part begun c m).delivered ≡ said_data m
-closed_data S f part begun c None = refl
-closed_data S f part begun c (Some (ScheduleOf y)) = refl
-closed_data S f part begun c (Some (DataOf d)) = refl
-closed_data S f part begun c (Some (RequestOf a)) = refl
 
 abbrev data_by : ScenarioParts → ℕ → Part → ℕ → Option Opened → Option Message → State → Option Data
 data_by s f part v w m x = option_and_then (λ (c : Closed). c.delivered) (closed_by s f part v w m x)

@@ -52,4 +52,7 @@ mod SentPackets
 mod PlacedWindows
 mod WindowCharges
 mod SentTimes
+mod SaidSendings
+mod BusDeliveries
 mod BusLaws
+mod ReceivedInRuns

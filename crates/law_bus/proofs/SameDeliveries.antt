@@ -1,7 +1,6 @@
 -- What is delivered in a lawful run, and what is lost before it is queued, is that of the bus.
-use Rattle.std.proofs.Common.{◌≡◌, ℕ, ◌+◌, ◌<◌, ◌≤◌, ◌==◌, eq-eqb, List, [], ◌∷◌, Bool, true, false, Some, None, Option, option_to_list, inl, inr, All}
-use Rattle.std.proofs.Common.{Contains, flat_map, length, get_or, refl, sym, ◌∙◌, ap, subst, arith}
-use Rattle.std.specs.Option.{option_map_or}
+use Rattle.std.proofs.Common.{◌≡◌, ℕ, ◌<◌, ◌≤◌, ◌==◌, eq-eqb, List, [], ◌∷◌, Bool, true, false, Some, None, Option, option_to_list, inl, inr, All}
+use Rattle.std.proofs.Common.{Contains, flat_map, get_or, refl, sym, ◌∙◌, ap, subst, arith}
 use Rattle.std.specs.List.{AllByRecursion}
 use Rattle.std.proofs.lemmas.List.Elements.{Contains-append_left, Contains-append_right}
 use Rattle.lwb_base.specs.Messages.{Plan}
@@ -11,7 +10,7 @@ use Rattle.bus_rules.specs.Plans.{last_slot}
 use Rattle.scenario_text.specs.ScenarioParts.{ScenarioParts}
 use Rattle.scenario_text.specs.FloodParts.{knows}
 use Rattle.scenario_text.specs.declared.lines.NodeLine.{NodeLine}
-use Rattle.radio_model.proofs.Members.{any_of, from_filter, from_flat, from_map, in_filter, in_flat, in_map, not_in_none, of_option}
+use Rattle.radio_model.proofs.Members.{any_of, from_flat, in_flat, in_map, not_in_none, of_option}
 use Rattle.air_log.specs.declared.entry.Entry.{Entry}
 use Rattle.air_log.specs.Deliveries.{delivered_at as delivered_in_air, deliveries_of}
 use Rattle.air_log.specs.Devices.{Device}
@@ -24,8 +23,8 @@ use Rattle.law_safety.proofs.RunFacts.{frame_lasts}
 use Rattle.law_windows.specs.WindowDeliveries.{at_closing, delivered_by, delivered_in}
 use Rattle.law_windows.proofs.WindowFacts.{deliveries_of_windows}
 use Rattle.bus_terms.specs.FloodOfText.{ids}
-use Rattle.bus_terms.specs.Rounds.{delivered_at, round_deliveries, round_plan, slot_deliveries, slots_of}
-use Rattle.bus_terms.specs.Bus.{bus_deliveries, bus_drops, frames_of, ranks_of, state_at}
+use Rattle.bus_terms.specs.Rounds.{delivered_at}
+use Rattle.bus_terms.specs.Bus.{bus_deliveries, bus_drops, state_at}
 use Rattle.bus_terms.proofs.ListsInTurn.{InTurn, pairs_in_turn, pieces_in_turn}
 use Rattle.law_windows.proofs.Strangers.{at_rest_always}
 use Rattle.law_terms.specs.LawfulRuns.{IsLawfulRun}
@@ -33,6 +32,7 @@ use Rattle.law_terms.specs.RunLaws.{AnyClocksLaw, DeliveriesLaw, DropsLaw}
 use Rattle.law_terms.specs.SlotLaws.{IsAligned, IsRound, IsWindowOf}
 use Rattle.law_terms.specs.SlotSteps.{IsSlotStart, IsSlotHeard, SlotHeardLaw}
 use Rattle.law_terms.proofs.SameDrops.{IsStart, drops_same}
+use Rattle.law_bus.proofs.BusDeliveries.{from_bus, in_bus}
 use Rattle.law_bus.proofs.CoresOfWindows.{all_slots, cores_law}
 use Rattle.law_bus.proofs.DeliveredInSlots.{delivered_nowhere, delivered_same}
 use Rattle.law_bus.proofs.DeliveriesInTurn.{bus_in_turn, from_windows, node_apart, node_places}
@@ -41,7 +41,6 @@ use Rattle.law_bus.proofs.FramesInTurn.{frame_before}
 use Rattle.law_bus.proofs.RunsOfLogs.{run, known_by}
 use Rattle.law_bus.proofs.SlotsAtNodes.{look_up}
 use Rattle.law_bus.proofs.WindowsInTurn.{closing_of}
-use Rattle.law_bus.proofs.NumbersOfRanges.{in_range, from_range}
 
 -- what a window delivers is among what its node delivers
 in_windows : (S : Setup) (ws : List WindowLog) (w : WindowLog) (c : Closing) (a : Delivery) → Contains ws w → w.closed ≡ Some c → at_closing S w ≡ Some a
@@ -86,9 +85,6 @@ module _ (heards : SlotHeardLaw) (s : ScenarioParts) (clocks : ℕ → ℕ → �
       (λ n m less a b first second. places_apart a b (λ same. let one = same.node in omega (arith, less, first, second, one)))
       s.nodes (pairs_in_turn (λ (n m : NodeLine). n.node < m.node) s.nodes lawful.sound.ascending)
 
-  abbrev of_round : ℕ → ℕ → List Delivery
-  of_round f rank = round_deliveries s rank f (state_at s f)
-
   -- each of them is of the bus
   of_bus : (v : ℕ) (w : WindowLog) (c : Closing) (a : Delivery) → Contains (ids s.nodes) v → Contains (logs v) w → w.closed ≡ Some c
       → at_closing (setup_of s v) w ≡ Some a → Contains (bus_deliveries s) a
@@ -100,18 +96,7 @@ module _ (heards : SlotHeardLaw) (s : ScenarioParts) (clocks : ℕ → ℕ → �
       let both = all_slots heards s clocks air lawful w.frame w.rank w.slot aligned.plan round within in
       let here : IsWindowOf s clocks air w.frame w.rank w.slot v w = record { there = there; frame = refl; channel = refl; slot = refl } in
       let same = delivered_same s clocks air lawful w.frame round.in_run w.rank w.slot aligned.plan both.0 both.1 v w here c closed in
-      let in_slot : Contains (slot_deliveries s w.rank w.frame aligned.plan (state_at s w.frame) w.slot) a =
-      in_filter (delivered_at s w.rank w.frame aligned.plan (state_at s w.frame) w.slot) (ids s.nodes) v a named (same ∙ is) in
-      let in_plan : Contains (flat_map (slot_deliveries s w.rank w.frame aligned.plan (state_at s w.frame)) (slots_of aligned.plan)) a =
-      in_flat (slot_deliveries s w.rank w.frame aligned.plan (state_at s w.frame)) (slots_of aligned.plan) w.slot a
-      (in_range 0 (last_slot aligned.plan + 1) w.slot (omega arith) (omega (arith, within))) in_slot in
-      let in_round : Contains (of_round w.frame w.rank) a =
-      subst (λ (o : Option Plan). Contains (option_map_or (λ q. flat_map (slot_deliveries s w.rank w.frame q (state_at s w.frame)) (slots_of q)) o []) a)
-      (sym round.plan) in_plan in
-      let in_frame : Contains (flat_map (of_round w.frame) (ranks_of s)) a =
-      in_flat (of_round w.frame) (ranks_of s) w.rank a (in_range 0 (length s.hosts) w.rank (omega arith) (let k = round.hosted in omega (arith, k))) in_round in
-      in_flat (λ (g : ℕ). flat_map (of_round g) (ranks_of s)) (frames_of s) w.frame a
-      (in_range 0 s.frames w.frame (omega arith) (let k = round.in_run in omega (arith, k))) in_frame
+      in_bus s w.frame w.rank w.slot v aligned.plan round within named a (same ∙ is)
 
   there : (a : Delivery) → Contains all a → Contains (bus_deliveries s) a
   there a within =
@@ -152,23 +137,10 @@ module _ (heards : SlotHeardLaw) (s : ScenarioParts) (clocks : ℕ → ℕ → �
     in_all : Contains all a
     in_all = in_flat (delivered_in_air s clocks air) s.nodes n a named (subst (λ (u : ℕ). Contains (made u) a) (sym at) in_made)
 
-  from_plan : (f rank : ℕ) (in_run : f < s.frames) (hosted : rank < length s.hosts) (a : Delivery) (o : Option Plan) → round_plan s rank f (state_at s f) ≡ o
-      → Contains (option_map_or (λ q. flat_map (slot_deliveries s rank f q (state_at s f)) (slots_of q)) o []) a → Contains all a
-  from_plan f rank in_run hosted a None is within = absurd (not_in_none a within)
-  from_plan f rank in_run hosted a (Some p) is within =
-      let slot = from_flat (slot_deliveries s rank f p (state_at s f)) (slots_of p) a within in
-      let node = from_filter (delivered_at s rank f p (state_at s f) slot.0) (ids s.nodes) a slot.2 in
-      let below = (from_range 0 (last_slot p + 1) slot.0 slot.1).1 in
-      let line = from_map (λ (m : NodeLine). m.node) s.nodes node.0 node.1 in
-      in_all f rank slot.0 node.0 p (record { in_run = in_run; hosted = hosted; plan = is }) (omega (arith, below)) a line.0 line.1 line.2 node.2
-
   here : (a : Delivery) → Contains (bus_deliveries s) a → Contains all a
   here a within =
-      let frame = from_flat (λ (g : ℕ). flat_map (of_round g) (ranks_of s)) (frames_of s) a within in
-      let rank = from_flat (of_round frame.0) (ranks_of s) a frame.2 in
-      let below = (from_range 0 s.frames frame.0 frame.1).1 in
-      let hosted = (from_range 0 (length s.hosts) rank.0 rank.1).1 in
-      from_plan frame.0 rank.0 (omega (arith, below)) (omega (arith, hosted)) a (round_plan s rank.0 frame.0 (state_at s frame.0)) refl rank.2
+      let made = from_bus s a within in
+      in_all made.frame made.rank made.slot made.line.node made.plan made.round made.within a made.line made.named refl made.delivered
 
   pub same_deliveries : deliveries_of s clocks air ≡ bus_deliveries s
   same_deliveries = sym (put_in_order all (bus_deliveries s) all_apart (bus_in_turn s lawful.sound) there here)

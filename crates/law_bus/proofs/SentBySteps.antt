@@ -42,7 +42,7 @@ pair k n = (k, n)
 abbrev some_pair : ℕ → ℕ → Option (ℕ × ℕ)
 some_pair k n = Some (k, n)
 
-some_message : (o : Option Message) → is_some o ≡ true → (m : Message) × (o ≡ Some m)
+pub some_message : (o : Option Message) → is_some o ≡ true → (m : Message) × (o ≡ Some m)
 some_message None is = absurd (false≢true is)
 some_message (Some m) is = (m, refl)
 

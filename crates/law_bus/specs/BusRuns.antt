@@ -5,15 +5,15 @@ use Rattle.scenario_text.specs.ScenarioParts.{ScenarioParts}
 use Rattle.scenario_text.specs.FloodParts.{knows}
 use Rattle.bus_rules.specs.declared.part.Part.TheVariants.{Data}
 use Rattle.bus_rules.specs.Slots.{part_of}
-use Rattle.bus_rules.specs.States.{State}
 use Rattle.bus_terms.specs.Bus.{Ordered, bus_cost, bus_deliveries, bus_drops}
-use Rattle.bus_terms.specs.Received.{IsReceived}
 use Rattle.air_log.specs.declared.entry.Entry.{Entry}
 use Rattle.air_log.specs.Safe.{Safe}
 use Rattle.air_log.specs.Deliveries.{deliveries_of}
 use Rattle.air_log.specs.Drops.{drops_of}
 use Rattle.energy_account.specs.Energies.{energy_of}
 use Rattle.law_terms.specs.LawfulRuns.{IsLawfulRun}
+use Rattle.law_terms.specs.SlotLaws.{IsRound}
+use Rattle.law_bus.specs.ReceivedInRuns.{IsReceivedInSlot}
 use Rattle.law_bus.specs.RunEnergies.{cost_in}
 
 -- no two steps meet, what is delivered and lost is the bus's, each stream comes in order, data is received by relay paths, and
@@ -23,8 +23,8 @@ pub record IsBusRun (s : ScenarioParts) (clocks : ℕ → ℕ → ℕ) (air : Li
   pub delivered : deliveries_of s clocks air ≡ bus_deliveries s
   pub lost : drops_of s clocks air ≡ bus_drops s
   pub in_order : Ordered (deliveries_of s clocks air)
-  pub received : (rank f : ℕ) (p : Plan) (states : ℕ → State) (j owner : ℕ) → part_of p j ≡ Data owner
-      → IsReceived s rank f p states j owner
+  pub received : (f rank j : ℕ) (p : Plan) → IsRound s f rank p → (owner : ℕ) → part_of p j ≡ Data owner
+      → IsReceivedInSlot s clocks air f rank p j owner
   pub costs : (v : ℕ) → knows s.nodes v ≡ true → cost_in (energy_of s clocks air v) ≡ bus_cost s v
 
 -- each lawful run is

@@ -7,4 +7,5 @@ pub mod RunLaws
 pub mod ScannerLaws
 pub mod WindowSendings
 pub mod RunEnergies
+pub mod ReceivedInRuns
 pub mod BusRuns

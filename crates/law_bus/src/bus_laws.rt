@@ -1,7 +1,7 @@
 //! What every valid (`Lawful`) run of a sound scenario, over all clocks of the drift law, has in common with the bus. Each law
 //! is the contract of a function that does nothing.
 
-ghost use Rattle.law_terms.specs.SlotLaws.{CoresLaw, SlotLaw, WindowsLaw};
+ghost use Rattle.law_terms.specs.SlotLaws.{CoresLaw, SentLaw, SlotLaw, WindowsLaw};
 ghost use Rattle.law_terms.specs.RunLaws.{AnyClocksLaw, DeliveriesLaw, DropsLaw, RunLaw};
 ghost use Rattle.law_bus.specs.AllSlots.{AllSlotsLaw};
 ghost use Rattle.law_bus.specs.ScannedFrames.{ScansLaw};
@@ -11,6 +11,12 @@ ghost use Rattle.law_bus.specs.BusRuns.{LawfulRunsAreTheBus};
 /// who does so in that step of the bus's flood.
 pub fn slots_are_floods_of_the_bus()
     ensures { SlotLaw }
+{}
+
+/// Nothing else is on the air: each transmission is the message of an initiator of a slot of the bus, with a counter, and its
+/// node sends it in the step of that counter in the flood of the slot.
+pub fn nothing_else_is_sent()
+    ensures { SentLaw }
 {}
 
 /// After the script lines of each frame each node is the bus's: off after as many boots, or on with the same boot, tune,

@@ -71,8 +71,9 @@ abbrev pub SlotLaw : Type 0
 SlotLaw = (s : ScenarioParts) (clocks : ℕ → ℕ → ℕ) (air : List Entry) → IsLawfulRun s clocks air
     → (f rank j : ℕ) (p : Plan) → IsRound s f rank p → j ≤ last_slot p → IsSlot s clocks air f rank p j
 
--- nothing else is sent
-pub record IsSaidIn (s : ScenarioParts) (air : List Entry) (x : Sending) : Type 0 where
+-- nothing else is sent: what is sent is the message of an initiator of the slot that its packet names, and its node sends that in the
+-- step of its counter in the flood of this slot
+pub record IsSaidIn (s : ScenarioParts) (x : Sending) : Type 0 where
   pub plan : Plan
   pub round : IsRound s (frame_of s.profile x) x.rank plan
   pub slot : slot_byte x ≤ last_slot plan
@@ -82,10 +83,11 @@ pub record IsSaidIn (s : ScenarioParts) (air : List Entry) (x : Sending) : Type 
   pub counter : ℕ
   pub few : counter ≤ 11
   pub packet : x.packet ≡ slice_set (bytes_of message (slot_byte x)) 2 counter
+  pub sends : Sends (bus_slot s (frame_of s.profile x) x.rank plan (slot_byte x)).flood x.node counter origin
 
 abbrev pub SentLaw : Type 0
 SentLaw = (s : ScenarioParts) (clocks : ℕ → ℕ → ℕ) (air : List Entry) → IsLawfulRun s clocks air
-    → (x : Sending) → Contains (sendings_of air) x → IsSaidIn s air x
+    → (x : Sending) → Contains (sendings_of air) x → IsSaidIn s x
 
 -- the cores round a window are the bus's before and after its slot
 pub record IsAligned (s : ScenarioParts) (v : ℕ) (w : WindowLog) : Type 0 where

@@ -1,8 +1,7 @@
 -- The induction over the slots of a round: what is claimed before each of them, the step, and the end.
-use Rattle.std.specs.Prelude.{◌≡◌, ℕ, zero, suc, ◌<◌, ◌≤◌, List, true, Some, None, is_some, length}
+use Rattle.std.specs.Prelude.{◌≡◌, ℕ, zero, suc, ◌<◌, ◌≤◌, List, true, Some, None, is_some}
 use Rattle.lwb_base.specs.Messages.{Plan}
 use Rattle.scenario_text.specs.ScenarioParts.{ScenarioParts}
-use Rattle.scenario_text.specs.ScenarioFacts.{IsSoundScenario}
 use Rattle.scenario_text.specs.FloodParts.{knows}
 use Rattle.bus_rules.specs.Plans.{last_slot}
 use Rattle.bus_rules.specs.Cores.{Core, is_member}
@@ -11,8 +10,8 @@ use Rattle.air_log.specs.declared.entry.Entry.{Entry}
 use Rattle.air_log.specs.Trails.{at_frame}
 use Rattle.air_log.specs.Lawful.{heard_by}
 use Rattle.air_log.specs.WindowLogs.{WindowLog, Closing}
-use Rattle.bus_rules.specs.States.{State, StateOn}
-use Rattle.bus_terms.specs.Rounds.{accepted_at, round, rounds, said_in}
+use Rattle.bus_rules.specs.States.{StateOn}
+use Rattle.bus_terms.specs.Rounds.{accepted_at, round, said_in}
 use Rattle.bus_terms.specs.Bus.{state_at}
 use Rattle.air_log.specs.Devices.{seen}
 use Rattle.law_terms.specs.LawfulRuns.{IsLawfulRun}
@@ -66,12 +65,3 @@ abbrev pub FirstSlotLaw : Type 0
 FirstSlotLaw = (s : ScenarioParts) (clocks : ℕ → ℕ → ℕ) (air : List Entry) → IsLawfulRun s clocks air → (f : ℕ)
     → IsFrameStart s clocks air f
     → (rank : ℕ) (p : Plan) → IsRound s f rank p → IsSlotStart s clocks air f rank p zero
-
--- of the bus alone: ranks one after another come to the same
-unfoldable pub rank_by_rank : ScenarioParts → ℕ → (ℕ → State) → ℕ → ℕ → State
-rank_by_rank s f states zero = states
-rank_by_rank s f states (suc rank) = round s rank f (rank_by_rank s f states rank)
-
-abbrev pub AnyOrderLaw : Type 0
-AnyOrderLaw = (s : ScenarioParts) → IsSoundScenario s → (f v : ℕ) → f < s.frames
-    → rank_by_rank s f (state_at s f) (length s.hosts) v ≡ rounds s f (state_at s f) v

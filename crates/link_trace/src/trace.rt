@@ -1,4 +1,4 @@
-ghost use Rattle.std.specs.Prelude.{◌≡◌, ◌<◌, [], length, slice_index, OnOk, OnErr, Ok, true, false};
+ghost use Rattle.std.specs.Prelude.{◌≡◌, ◌<◌, [], length, slice_index, IfOk, OnOk, OnErr, Ok, true, false};
 ghost use Rattle.std.specs.List.{list_any};
 ghost use Rattle.link_trace.specs.Passes.{is_link, is_loss, is_cut, is_capture};
 ghost use Rattle.link_trace.specs.Order.{Ascends, by_link, by_loss, by_cut, by_capture, with_link, with_loss, with_cut, with_capture};
@@ -62,6 +62,22 @@ impl Trace {
             starts: Starts::new(alloc),
             alloc,
         }
+    }
+
+    /// A trace of the same lines that is not sealed.
+    pub fn unsealed_copy(&self, alloc: Global) -> Result<Trace, Memory>
+        ensures { IfOk result (λ t. t ≡ unsealed self.now.lines) }
+    {
+        Ok(Trace {
+            links: Vec::from_slice(alloc, &self.links)?,
+            losses: Vec::from_slice(alloc, &self.losses)?,
+            cuts: Vec::from_slice(alloc, &self.cuts)?,
+            captures: Vec::from_slice(alloc, &self.captures)?,
+            nodes: Vec::new(alloc),
+            masks: Vec::new(alloc),
+            starts: Starts::new(alloc),
+            alloc,
+        })
     }
 
     /// Adds a link, which unseals the trace. Returns `Ok(false)` if and only if it is there already, and then nothing changes.

@@ -1,2 +1,3 @@
 mod ListsOfTheBus
 mod RunsOfTheBus
+mod CoresOfNodes

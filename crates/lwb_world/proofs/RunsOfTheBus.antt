@@ -20,7 +20,7 @@ has_run clocks old new has =
         cores = made.cores;
       };
       charges = has.charges;
-      nodes = has.nodes;
+      setups = has.setups;
     }
 
 -- where it ended with Ok

@@ -1,9 +1,10 @@
 //! The world: the nodes of a scenario in true time.
 
-ghost use Rattle.std.specs.Prelude.{◌≡◌, false, IfOk, OnOk, length, replicate, option_copied};
+ghost use Rattle.std.specs.Prelude.{◌≡◌, false, IfOk, IfSome, OnOk, length, replicate, option_copied};
 ghost use Rattle.bus_terms.specs.Bus.{bus_deliveries, bus_drops};
 ghost use Rattle.event_calendar.specs.Orders.{nothing_due};
 ghost use Rattle.air_log.specs.ClockLists.{clocks_by};
+ghost use Rattle.air_log.specs.Trails.{setup_of};
 ghost use Rattle.world_engine.specs.Runs.{orders_left};
 ghost use Rattle.world_engine.specs.Worlds.{new_world, core_of};
 ghost use Rattle.lwb_world.specs.Worlds.{HasRun, IsLeftByRun};
@@ -103,9 +104,11 @@ impl<'a, C: DriftClock> World<'a, C> {
         self.engine.charges()
     }
 
-    /// The core that the world drives for a node. None comes exactly for a node that is not in the scenario.
+    /// The core that the world drives for a node. Returns `None` if and only if the scenario does not have the node. After a
+    /// run that ended with Ok it is set up as the scenario says for this node.
     pub fn node(&self, node: NodeId) -> Option<&Node>
-        ensures { option_copied result ≡ core_of self.now.0.cores node }
+        ensures core { option_copied result ≡ core_of self.now.0.cores node }
+        ensures setup { IsLeftByRun self.now.0 → IfSome (option_copied result) (λ c. c.setup ≡ setup_of self.now.0.scenario node) }
     {
         self.engine.node(node)
     }

@@ -158,6 +158,9 @@ impl Node {
         ensures delivery { result ≡ self.old.delivery }
         ensures once { self.new ≡ record self.old { delivery = None } }
     {
+        if self.delivery.is_none() {
+            return None;
+        }
         self.delivery.take()
     }
 }

@@ -6,6 +6,7 @@ pub mod StepsCounted
 pub mod TextFloods
 -- for this crate alone
 pub mod Picks
+pub mod PlacesSeen
 pub mod OffersRead
 pub mod HeardByMasks
 pub mod SteppedByMasks

@@ -1,24 +1,26 @@
 -- What the senders of a mask give, read off their stations.
-use Rattle.std.proofs.Common.{◌≡◌, ◌<◌, ◌+◌, ℕ, List, Bool, true, false, not, inl, inr, Option, Some, None, is_some, refl, sym, ◌∙◌, ap, subst, length, get_or}
-use Rattle.std.proofs.Common.{◌==◌, if◌then◌else◌, arith}
+use Rattle.std.proofs.Common.{◌≡◌, ◌<◌, ℕ, List, Bool, true, false, not, inl, inr, Option, Some, None, is_some, refl, sym, ◌∙◌, ap, length, get_or}
+use Rattle.std.proofs.Common.{◌==◌, if◌then◌else◌}
 use Rattle.std.specs.Int.{bit_at}
 use Rattle.std.specs.Option.{option_map_or}
-use Rattle.std.specs.Prelude.{◌⊎◌}
-use Rattle.std.proofs.lemmas.Bool.{false≢true, cond-false, eq-eqb, eqb-true, cases_lt}
+use Rattle.std.proofs.lemmas.Bool.{false≢true, cond-true, eq-eqb, eqb-true}
 use Rattle.std.proofs.lemmas.List.{get_or_default}
-use Rattle.std.proofs.lemmas.Nat.Bits.{bit_at-zero}
-use Rattle.bus_terms.proofs.Options.{inspect, not_both, some_injective}
+use Rattle.bus_terms.proofs.Options.{inspect, not_both, sends_parts, some_injective}
 use Rattle.plain_bus.specs.FloodMasks.{AreOffers, IsOffer, AllOffer, sent_at}
 use Rattle.plain_bus.specs.declared.station.Station.{Station}
 
 anyone : Station
 anyone = record { node = 0; sends = None; times = 0; heard = None }
 
-no_bit : (i : ℕ) → (bit_at 0 i == 1) ≡ false
-no_bit i = ap (λ (n : ℕ). n == 1) (bit_at-zero i)
+-- what is known of the station at a place
+abbrev pub SendsNone : List Station → ℕ → Type 0
+SendsNone xs k = (d : Station) → k < length xs → (get_or xs k d).sends ≡ None
 
-pub empty_mask : (xs : List Station) (k : ℕ) (d : Station) → sent_at xs 0 k d ≡ None
-empty_mask xs k d = cond-false (bit_at 0 k == 1) (get_or xs k d).sends None (no_bit k)
+abbrev pub SendsOnly : List Station → ℕ → ℕ → Type 0
+SendsOnly xs origin k = (d : Station) (o : ℕ) → k < length xs → (get_or xs k d).sends ≡ Some o → o ≡ origin
+
+abbrev pub IsNot : List Station → ℕ → ℕ → Type 0
+IsNot xs node k = (d : Station) → k < length xs → (get_or xs k d).node ≡ node → ⊥
 
 module _ (give : ℕ → Option ℕ) (xs : List Station) (from : ℕ) (are : AreOffers give xs from) where
   -- whoever gives is one of the stations
@@ -27,20 +29,29 @@ module _ (give : ℕ → Option ℕ) (xs : List Station) (from : ℕ) (are : Are
       let at = are.only u o is in
       (at.0, at.1, sym (are.each at.0 anyone at.1) ∙ ap give (at.2 anyone) ∙ is, at.2 anyone)
 
-  pub nothing_given : ((k : ℕ) (d : Station) → k < length xs → sent_at xs from k d ≡ None) → (u : ℕ) → give u ≡ None
+  -- and it is of the mask
+  bit_of : (k o : ℕ) → sent_at xs from k anyone ≡ Some o → (bit_at from k ≡ 1) × ((get_or xs k anyone).sends ≡ Some o)
+  bit_of k o sent = let parts = sends_parts (bit_at from k == 1) (get_or xs k anyone).sends o sent in (eqb-true (bit_at from k) 1 parts.0, parts.1)
+
+  pub nothing_given : ((k : ℕ) → k < length xs → bit_at from k ≡ 1 → SendsNone xs k) → (u : ℕ) → give u ≡ None
   nothing_given none u = elim (inspect (give u)) [
     | inl is ↦ is
-    | inr some ↦ (let at = given_at u some.0 some.1 in absurd (not_both (sent_at xs from at.0 anyone) some.0 (none at.0 anyone at.1) at.2))
+    | inr some ↦
+        (let at = given_at u some.0 some.1 in
+        let one = bit_of at.0 some.0 at.2 in
+        absurd (not_both (get_or xs at.0 anyone).sends some.0 (none at.0 at.1 one.0 anyone at.1) one.1))
   ]
 
-  pub all_given : (origin : ℕ) → ((k : ℕ) (d : Station) (o : ℕ) → k < length xs → sent_at xs from k d ≡ Some o → o ≡ origin) → (u o : ℕ) → give u ≡ Some o
-      → o ≡ origin
-  all_given origin all u o is = let at = given_at u o is in all at.0 anyone o at.1 at.2
+  pub all_given : (origin : ℕ) → ((k : ℕ) → k < length xs → bit_at from k ≡ 1 → SendsOnly xs origin k) → (u o : ℕ) → give u ≡ Some o → o ≡ origin
+  all_given origin all u o is =
+      let at = given_at u o is in
+      let one = bit_of at.0 o at.2 in
+      all at.0 at.1 one.0 anyone o at.1 one.1
 
-  pub absent_gives : (node : ℕ) → ((k : ℕ) (d : Station) → k < length xs → (get_or xs k d).node ≡ node → ⊥) → give node ≡ None
+  pub absent_gives : (node : ℕ) → ((k : ℕ) → k < length xs → bit_at from k ≡ 1 → IsNot xs node k) → give node ≡ None
   absent_gives node absent = elim (inspect (give node)) [
     | inl is ↦ is
-    | inr some ↦ (let at = given_at node some.0 some.1 in absurd (absent at.0 anyone at.1 at.3))
+    | inr some ↦ (let at = given_at node some.0 some.1 in absurd (absent at.0 at.1 (bit_of at.0 some.0 at.2).0 anyone at.1 at.3))
   ]
 
   module _ (i : ℕ) (x : Station) (w : Option ℕ) (below : i < length xs) (at : x ≡ get_or xs i x) (sent : w ≡ (if bit_at from i == 1 then x.sends else None))
@@ -65,26 +76,20 @@ module _ (give : ℕ → Option ℕ) (xs : List Station) (from : ℕ) (are : Are
           of_sent None is differs = absurd (false≢true differs)
           of_sent (Some o) is differs = (x.node, o, gives ∙ is, same o differs)
 
--- one station more
-module _ (xs : List Station) (from i : ℕ) (x : Station) (w : Option ℕ) (below : i < length xs) (at : x ≡ get_or xs i x)
-    (sent : w ≡ (if bit_at from i == 1 then x.sends else None)) where
-  sent_here : (d : Station) → sent_at xs from i d ≡ w
-  sent_here d =
-      ap (λ (y : Station). if bit_at from i == 1 then y.sends else None) (get_or_default xs i d x below ∙ sym at) ∙ sym sent
+module _ (xs : List Station) (from i : ℕ) (x : Station) (below : i < length xs) (at : x ≡ get_or xs i x) where
+  same_station : (d : Station) → get_or xs i d ≡ x
+  same_station d = get_or_default xs i d x below ∙ sym at
 
-  last : (k : ℕ) → k < i + 1 → (k < i) ⊎ (k ≡ i)
-  last k near = elim (cases_lt k i) [ inl before ↦ inl before | inr after ↦ inr (omega arith) ]
+  -- a node of the mask
+  pub sent_of : bit_at from i ≡ 1 → x.sends ≡ (if bit_at from i == 1 then x.sends else None)
+  sent_of one = sym (cond-true (bit_at from i == 1) x.sends None (eq-eqb (bit_at from i) 1 one))
 
   none_of : (o : Option ℕ) → is_some o ≡ false → o ≡ None
   none_of None is = refl
   none_of (Some o) is = absurd (cc)
 
-  pub none_more : is_some w ≡ false → ((k : ℕ) (d : Station) → k < i → sent_at xs from k d ≡ None) → (k : ℕ) (d : Station) → k < i + 1
-      → sent_at xs from k d ≡ None
-  none_more none before k d near = elim (last k near) [
-    | inl less ↦ before k d less
-    | inr same ↦ rw same (sent_here d ∙ none_of w none)
-  ]
+  pub sends_none : is_some x.sends ≡ false → SendsNone xs i
+  sends_none none d inside = ap (λ (y : Station). y.sends) (same_station d) ∙ none_of x.sends none
 
   agree : (origin o : ℕ) (u : Option ℕ) → option_map_or (λ p. not (p == origin)) u false ≡ false → u ≡ Some o → o ≡ origin
   agree origin o None same is = absurd (cc)
@@ -94,20 +99,8 @@ module _ (xs : List Station) (from i : ℕ) (x : Station) (w : Option ℕ) (belo
       true_is true is = refl
       true_is false is = absurd (cc)
 
-  pub all_more : (origin : ℕ) → option_map_or (λ p. not (p == origin)) w false ≡ false
-      → ((k : ℕ) (d : Station) (o : ℕ) → k < i → sent_at xs from k d ≡ Some o → o ≡ origin)
-      → (k : ℕ) (d : Station) (o : ℕ) → k < i + 1 → sent_at xs from k d ≡ Some o → o ≡ origin
-  all_more origin same before k d o near is = elim (last k near) [
-    | inl less ↦ before k d o less is
-    | inr here ↦ agree origin o w same (sym (sent_here d) ∙ subst (λ (j : ℕ). sent_at xs from j d ≡ Some o) here is)
-  ]
+  pub sends_only : (origin : ℕ) → option_map_or (λ p. not (p == origin)) x.sends false ≡ false → SendsOnly xs origin i
+  sends_only origin same d o inside is = agree origin o x.sends same (ap (λ (y : Station). y.sends) (sym (same_station d)) ∙ is)
 
-  pub absent_more : (node : ℕ) → (x.node == node) ≡ false → ((k : ℕ) (d : Station) → k < i → (get_or xs k d).node ≡ node → ⊥) → (k : ℕ) (d : Station)
-      → k < i + 1 → (get_or xs k d).node ≡ node → ⊥
-  absent_more node other before k d near is = elim (last k near) [
-    | inl less ↦ before k d less is
-    | inr here ↦
-        (let found : x.node ≡ node = ap (λ (y : Station). y.node) (at ∙ get_or_default xs i x d below)
-        ∙ subst (λ (j : ℕ). (get_or xs j d).node ≡ node) here is in
-        false≢true (sym other ∙ eq-eqb x.node node found))
-  ]
+  pub is_not : (node : ℕ) → (x.node == node) ≡ false → IsNot xs node i
+  is_not node other d inside is = false≢true (sym other ∙ eq-eqb x.node node (ap (λ (y : Station). y.node) (sym (same_station d)) ∙ is))

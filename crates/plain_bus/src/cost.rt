@@ -4,7 +4,7 @@ ghost use Rattle.std.specs.Prelude.{◌≡◌, ◌≤◌, ◌<◌, ◌+◌, ℕ,
 ghost use Rattle.std.specs.List.{last_or};
 ghost use Rattle.plain_bus.specs.SlotCosts.{steps_at, with_slot, window_charge, IsBelow};
 
-use crate::station::has_bit;
+use crate::bits::has_bit;
 use bus_rules::until_last_sending;
 use lwb_base::Profile;
 use std::marker::Model;

@@ -4,8 +4,9 @@ ghost use Rattle.std.specs.Prelude.{◌≡◌, ◌<◌, ◌≤◌, length, slice
 ghost use Rattle.bus_terms.specs.Flooding.{Setting, Moment, hears as hears_in, agrees as agrees_with};
 ghost use Rattle.plain_bus.specs.FloodMasks.{AreAt, IsFlood, IsKnown, may_hear_at, takes_at};
 
+use crate::bits::has_bit;
 use crate::offers::picked;
-use crate::station::{Flood, Station, Stations, has_bit};
+use crate::station::{Flood, Station, Stations};
 use link_trace::Trace;
 use lwb_base::NodeId;
 

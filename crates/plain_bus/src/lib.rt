@@ -3,6 +3,7 @@
 #![tactic(auto)]
 
 mod accepting;
+mod bits;
 mod charging;
 mod closing;
 mod cost;

@@ -6,35 +6,26 @@ ghost use Rattle.std.specs.Option.{option_map_or};
 ghost use Rattle.bus_terms.specs.Flooding.{Setting, Moment, offer, pick};
 ghost use Rattle.plain_bus.specs.FloodMasks.{AreOffers, IsOffer, AllOffer, IsFlood, IsKnown};
 
-use crate::station::{Flood, Station, has_bit};
+use crate::bits::{lowest, without_bit};
+use crate::station::{Flood, Station};
 use link_trace::Trace;
 use lwb_base::NodeId;
-
-// What the node at that place sends, if it is one of the mask.
-fn sent(station: &Station, from: u64, place: u8) -> Option<NodeId>
-    requires { place < 64 }
-    ensures { result ≡ (if bit_at from place == 1 then station.now.sends else None) }
-{
-    if has_bit(from, place) {
-        station.sends
-    } else {
-        None
-    }
-}
 
 // One of the origins that the nodes of the mask send; None where they send nothing.
 fn first_sent(stations: &[Station], from: u64) -> Option<NodeId>
     requires few { length stations.now ≤ 64 }
     ensures { (give : ℕ → Option ℕ) → AreOffers give stations.now from → IsOffer give result }
 {
-    if from == 0 {
-        return None;
-    }
-    for (i, station) in stations.iter().enumerate() {
-        let sent = sent(station, from, i as u8);
-        if sent.is_some() {
-            return sent;
+    let mut rest = from;
+    while rest != 0 {
+        let place = lowest(rest);
+        let Some(station) = stations.get(usize::from(place)) else {
+            return None;
+        };
+        if station.sends.is_some() {
+            return station.sends;
         }
+        rest = without_bit(rest, place);
     }
     None
 }
@@ -54,10 +45,16 @@ fn all_send(stations: &[Station], from: u64, origin: NodeId) -> bool
     requires few { length stations.now ≤ 64 }
     ensures { (give : ℕ → Option ℕ) → AreOffers give stations.now from → AllOffer give origin result }
 {
-    for (i, station) in stations.iter().enumerate() {
-        if differs(sent(station, from, i as u8), origin) {
+    let mut rest = from;
+    while rest != 0 {
+        let place = lowest(rest);
+        let Some(station) = stations.get(usize::from(place)) else {
+            return true;
+        };
+        if differs(station.sends, origin) {
             return false;
         }
+        rest = without_bit(rest, place);
     }
     true
 }
@@ -67,10 +64,16 @@ fn sent_by(stations: &[Station], from: u64, node: NodeId) -> Option<NodeId>
     requires few { length stations.now ≤ 64 }
     ensures { (give : ℕ → Option ℕ) → AreOffers give stations.now from → result ≡ give node }
 {
-    for (i, station) in stations.iter().enumerate() {
+    let mut rest = from;
+    while rest != 0 {
+        let place = lowest(rest);
+        let Some(station) = stations.get(usize::from(place)) else {
+            return None;
+        };
         if station.node == node {
-            return sent(station, from, i as u8);
+            return station.sends;
         }
+        rest = without_bit(rest, place);
     }
     None
 }

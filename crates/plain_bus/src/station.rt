@@ -1,7 +1,6 @@
 //! The nodes of a flood at the beginning of a step.
 
 ghost use Rattle.std.specs.Prelude.{◌≡◌, ◌<◌, ◌==◌, ◌∷◌, [], ◌++◌, length};
-ghost use Rattle.std.specs.Int.{bit_at};
 
 use arrayvec::ArrayVec;
 use lwb_base::NodeId;
@@ -48,13 +47,4 @@ impl Default for Station {
 pub struct Stations {
     pub each: ArrayVec<Station, 64>,
     pub senders: u64,
-}
-
-/// Whether the bit of that place is set.
-#[tactic(auto, using(std::proofs::lemmas::Nat::Bits::shr_and_one))]
-pub(crate) fn has_bit(mask: u64, place: u8) -> bool
-    requires { place < 64 }
-    ensures { result ≡ (bit_at mask place == 1) }
-{
-    (mask >> place) & 1 == 1
 }

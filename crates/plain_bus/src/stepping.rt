@@ -6,8 +6,9 @@ ghost use Rattle.link_trace.specs.Sealed.{Traced};
 ghost use Rattle.scenario_text.specs.FloodParts.{IsSealed};
 ghost use Rattle.plain_bus.specs.FloodMasks.{AreAt, AreSenders, IsFlood, IsKnown, station_at, station_after, station_first, with_sender};
 
+use crate::bits::has_bit;
 use crate::hearing::hears;
-use crate::station::{Flood, Station, Stations, has_bit};
+use crate::station::{Flood, Station, Stations};
 use arrayvec::ArrayVec;
 use link_trace::Trace;
 use lwb_base::NodeId;

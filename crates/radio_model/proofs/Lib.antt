@@ -41,3 +41,5 @@ pub mod HearersInOrder
 pub mod SameHistory
 pub mod Named
 pub mod WorkedHearings
+mod OverlapWindows
+mod Received

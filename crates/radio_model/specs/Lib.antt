@@ -7,3 +7,4 @@ pub mod Marks
 pub mod Meetings
 pub mod Recent
 pub mod Holding
+pub mod Receptions

@@ -19,4 +19,5 @@ mod summary;
 mod top_call;
 
 pub use scenario_clocks::scenario_clocks_keep_the_drift_law;
+pub use scenario_maker::laws::made_scenarios_are_accepted;
 pub use top_call::{Outcome, top};

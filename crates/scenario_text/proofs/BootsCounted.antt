@@ -116,7 +116,7 @@ more_turned (Declare x y) s = omega arith
 more_turned (Leave x) s = omega arith
 more_turned (Put x b) s = omega arith
 
-never_less : (v : ℕ) (s : Bool × ℕ) (ls : List ScriptLine) → s.1 ≤ (turned v s ls).1
+pub never_less : (v : ℕ) (s : Bool × ℕ) (ls : List ScriptLine) → s.1 ≤ (turned v s ls).1
 never_less v s [] = omega arith
 never_less v s (l ∷ ls) =
     let here : s.1 ≤ (if l.node == v then turned_by l.act s else s).1 =

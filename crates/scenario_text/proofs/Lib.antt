@@ -32,4 +32,6 @@ pub mod DraftKept
 pub mod RatesInTurn
 pub mod SaidParts
 pub mod BootsCounted
+pub mod BootsTold
+pub mod LinesAdded
 pub mod RatesInOrder

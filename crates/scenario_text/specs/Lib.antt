@@ -9,3 +9,4 @@ pub mod Canonical
 pub mod ScenarioDrafts
 pub mod ScenarioFacts
 pub mod PartsInOrder
+pub mod AddedLines

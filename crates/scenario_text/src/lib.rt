@@ -1,6 +1,8 @@
 //! Texts of floods and scenarios: what they say, and the first line that is rejected.
 #![tactic(auto)]
 
+mod added_lines;
+mod boots;
 mod flood;
 mod flood_draft;
 mod flood_line;
@@ -23,6 +25,7 @@ mod scenario_line;
 mod script;
 mod script_writers;
 
+pub use added_lines::with_script;
 pub use flood::parse_flood;
 pub use flood_text::FloodText;
 pub use lines::{NodeLine, RateLine};

@@ -26,7 +26,8 @@ pub fn read(p: &Packet) -> Option<Schedule>
 /// The rank of the host, where these bytes spell a schedule. Whether they spell one is not tested: other bytes give some
 /// number up to 15, or None.
 pub fn named_host(p: &Packet) -> Option<u8>
-    ensures { (s : Said) → spells p.now s ≡ true → result ≡ Some s.plan.rank }
+    ensures rank { (s : Said) → spells p.now s ≡ true → result ≡ Some s.plan.rank }
+    ensures range { IfSome result (λ n. n ≤ 15) }
 {
     let [kind, _, _, head, ..] = p.bytes() else {
         return None;

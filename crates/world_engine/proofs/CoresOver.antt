@@ -22,6 +22,7 @@ use Rattle.world_engine.specs.Moments.{Before}
 use Rattle.world_engine.specs.Running.{IsRunning}
 use Rattle.world_engine.specs.Runs.{IsCoreOf}
 use Rattle.world_engine.specs.Worlds.{core_of}
+use Rattle.world_engine.proofs.ActsInTurn.{same_ids}
 use Rattle.world_engine.proofs.NodePlaces.{place_of_known, distinct_ids, at_contains, of_image, same_some}
 use Rattle.world_engine.proofs.TrailsOver.{at_place, ids_are}
 
@@ -54,7 +55,7 @@ core_is x (PowerOn n) is = is
 module _ (s : ScenarioParts) (clocks : ℕ → ℕ → ℕ) (w : FieldState) (due : List Due) (closed : FieldState) (sound : IsSoundScenario s)
     (running : IsRunning s clocks s.script (run_end s) Before w due) (over : IsClosed (run_end s) w due closed) where
   distinct : Distinct (map id_of closed.devices)
-  distinct = subst Distinct (sym (over.ids ∙ ids_are s clocks w due closed running over)) (distinct_ids s.nodes sound.ascending)
+  distinct = subst Distinct (sym (same_ids closed w over.setups ∙ ids_are s clocks w due closed running over)) (distinct_ids s.nodes sound.ascending)
 
   core_at : (p : ℕ) (n : NodeLine) → slice_get s.nodes p ≡ Some n
       → IsCoreOf (core_of (map core_in closed.devices) n.node) (trail_in s clocks closed.air n.node).power
@@ -65,7 +66,7 @@ module _ (s : ScenarioParts) (clocks : ℕ → ℕ → ℕ) (w : FieldState) (du
       (image_at power_of closed.devices w.devices p state over.powers end.shows.there) in
       let x : DeviceState = with_power.0 in
       let id : x.setup.id ≡ n.node = image_is id_of x (slice_get closed.devices p) state.setup.id with_power.1
-      (image_at id_of closed.devices w.devices p state over.ids end.shows.there) ∙ ap (λ q. q.id) end.shows.setup in
+      (image_at id_of closed.devices w.devices p state (same_ids closed w over.setups) end.shows.there) ∙ ap (λ q. q.id) end.shows.setup in
       let core : core_of (map core_in closed.devices) n.node ≡ Some (core_in x) = ap (core_of (map core_in closed.devices)) (sym id)
       ∙ found_at closed.devices distinct p x with_power.1 in
       let power : (trail_in s clocks closed.air n.node).power ≡ x.power = ap (λ (d : Device). d.power) end.is

@@ -18,7 +18,6 @@ use Rattle.air_log.proofs.Elements.{map_contains}
 use Rattle.air_log.specs.DeviceStates.{DeviceState, whole, one_more, with_tuned, IsCoreAt}
 use Rattle.world_engine.specs.Fields.{FieldState, IsField, IsLogged, entries_of, setup_of, id_of, power_of, ids_of}
 use Rattle.world_engine.specs.FieldSteps.{GoesSilent, IsClosed}
-use Rattle.world_engine.proofs.ActsInTurn.{same_ids}
 use Rattle.world_engine.proofs.DevicePlaces.{at_set, at_other, map_stays, contains_at, apart_at}
 use Rattle.world_engine.proofs.DeviceSteps.{hearings_tuned, sendings_tuned, sent_same, tuned_own, tuned_other, entries_own}
 
@@ -209,6 +208,6 @@ all_closed t i old due new is end = record {
   cores = λ p d below. is.cores p (get_or new.devices p d)
       (let long = ap length is.setups in omega (arith, long, length-map new.devices setup_of, length-map old.devices setup_of))
       (slice_get-get_or new.devices p d below);
-  ids = same_ids new old is.setups;
+  setups = is.setups;
   entries = is.entries;
 }

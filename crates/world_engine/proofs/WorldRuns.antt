@@ -17,12 +17,11 @@ use Rattle.world_engine.specs.Counting.{all_scans_before, AreCharges}
 use Rattle.world_engine.specs.Fields.{FieldState, IsShown}
 use Rattle.world_engine.specs.FieldSteps.{IsClosed}
 use Rattle.world_engine.specs.Moments.{Before}
-use Rattle.world_engine.specs.Running.{IsRunning}
+use Rattle.world_engine.specs.Running.{IsRunning, setup_by}
 use Rattle.world_engine.specs.Runs.{IsEngineRun, orders_left}
-use Rattle.world_engine.specs.Worlds.{WorldState, HasEngineRun, core_of, core_id, line_id}
+use Rattle.world_engine.specs.Worlds.{WorldState, HasEngineRun, core_of, core_setup}
 use Rattle.world_engine.proofs.ChargesOver.{charges_over}
 use Rattle.world_engine.proofs.KnownAtPlaces.{shown_within}
-use Rattle.world_engine.proofs.LineSteps.{ids_of_nodes}
 use Rattle.world_engine.proofs.RunOver.{run_over}
 use Rattle.world_engine.proofs.RunsOnAir.{hearing_followed}
 use Rattle.world_engine.proofs.TrailsGoOn.{AreClocks}
@@ -58,10 +57,10 @@ module _ (s : ScenarioParts) (sound : IsSoundScenario s) (clocks : ℕ → ℕ �
         (subst (λ (l : FieldState). AreCharges l.sums scanned charges) rest are)
         ∙ ap (λ (l : FieldState). charges_in s clocks l.air) (sym rest)
 
-    -- and the ids of its cores
-    pub cores_left : (left : FieldState) → left ≡ record closed { deliveries = [] } → map core_id (map core_in left.devices) ≡ map line_id s.nodes
+    -- and the set-ups of its cores
+    pub cores_left : (left : FieldState) → left ≡ record closed { deliveries = [] } → map core_setup (map core_in left.devices) ≡ map (setup_by s) s.nodes
     cores_left left rest =
-        ap (λ (l : FieldState). map core_id (map core_in l.devices)) rest ∙ map-map core_id core_in closed.devices ∙ over.ids ∙ ids_of_nodes s w due run.places
+        ap (λ (l : FieldState). map core_setup (map core_in l.devices)) rest ∙ map-map core_setup core_in closed.devices ∙ over.setups ∙ run.places.setups
 
 -- what is said of the world before the run, once it is known what that world is
 module _ {C : Type 0} (R : C → ℕ → ℕ) (before old : WorldState × List C) (same : before ≡ old) where

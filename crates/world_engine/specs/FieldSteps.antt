@@ -138,7 +138,7 @@ pub record IsClosed (t : ℕ) (old : FieldState) (old_due : List Due) (new : Fie
   pub sums : new.sums ≡ old.sums
   pub powers : map power_of new.devices ≡ map power_of old.devices
   pub cores : All (λ d. IsCoreAt d.core d.power) new.devices
-  pub ids : ids_of new ≡ ids_of old
+  pub setups : setups_of new ≡ setups_of old
   pub entries : (e : Entry) → Contains new.air e → Contains old.air e ⊎ Contains (ids_of old) (node_of e)
 
 -- nothing has happened yet to the nodes of the scenario

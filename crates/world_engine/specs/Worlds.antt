@@ -5,11 +5,13 @@ use Rattle.scenario_text.specs.ScenarioParts.{ScenarioParts}
 use Rattle.scenario_text.specs.declared.lines.NodeLine.{NodeLine}
 use Rattle.bus_rules.specs.declared.delivery.Delivery.{Delivery}
 use Rattle.bus_rules.specs.declared.delivery.DropLine.{DropLine}
+use Rattle.bus_rules.specs.Cores.{Setup}
 use Rattle.node_core.specs.Nodes.{NodeState, rebooted}
 use Rattle.air_log.specs.declared.entry.Entry.{Entry}
 use Rattle.air_log.specs.declared.charge.NodeCharge.{NodeCharge}
 use Rattle.air_log.specs.NodeCharges.{charges_in}
 use Rattle.air_log.specs.Trails.{setup_of}
+use Rattle.world_engine.specs.Running.{setup_by}
 use Rattle.world_engine.specs.Runs.{IsEngineRun}
 
 -- ran: the run was begun; charges and cores: those of the nodes by ascending ids
@@ -27,11 +29,8 @@ abbrev pub core_of : List NodeState → ℕ → Option NodeState
 core_of [] v = None
 core_of (c ∷ cs) v = if c.setup.id == v then Some c else core_of cs v
 
-abbrev pub core_id : NodeState → ℕ
-core_id c = c.setup.id
-
-abbrev pub line_id : NodeLine → ℕ
-line_id n = n.node
+abbrev pub core_setup : NodeState → Setup
+core_setup c = c.setup
 
 -- a core as it is made
 abbrev pub new_core : ScenarioParts → NodeLine → NodeState
@@ -47,5 +46,5 @@ pub record HasEngineRun (clocks : ℕ → ℕ → ℕ) (old new : WorldState) : 
   pub ran : new.ran ≡ true
   pub run : IsEngineRun old.scenario clocks new.air new.deliveries new.drops (core_of new.cores)
   pub charges : new.charges ≡ charges_in old.scenario clocks new.air
-  -- each node of the scenario has a core, and no other
-  pub nodes : map core_id new.cores ≡ map line_id old.scenario.nodes
+  -- each node of the scenario has a core that is set up for it, and there is no other
+  pub setups : map core_setup new.cores ≡ map (setup_by old.scenario) old.scenario.nodes

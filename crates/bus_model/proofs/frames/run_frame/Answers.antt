@@ -8,7 +8,7 @@ use Rattle.scenario_text.proofs.SoundScenarios.{sound}
 use Rattle.bus_model.specs.FrameNodes.{begun, ended_at, frame_deliveries, nodes_with, prior_ranks}
 use Rattle.bus_model.specs.RoundCosts.{cost_after, with_scan}
 use Rattle.bus_model.proofs.FramesInTurn.{nodes_begun, nodes_ended, costs_more, delivered_more, power_next, all_few, ready_begun, ready_ended}
-use Rattle.bus_model.proofs.RanksKept.{ranked}
+use Rattle.bus_terms.proofs.KeptRanks.{hosted}
 use Rattle.bus_model.proofs.SlotsInTurn.{ready_more}
 use Rattle.bus_model.proofs.frames.run_frame.Goals as goal
 
@@ -50,7 +50,7 @@ returns-clause-at c =
     let begins = c.begin_rounds.ensures in
     let ran = c.in_ok-run_rounds.ensures in
     let ends = c.end_frame.ensures in
-    let in_rank = ranked s (sound s told.said) f in
+    let in_rank = hosted s (sound s told.said) f in
     let first : c.tell_lines.new.net.costs ≡ map (cost_after s f) (ids s.nodes) = told.rest.0 ∙ c.requires.at.costs_are in
     let begun_nodes : c.begin_rounds.new.net.nodes ≡ nodes_with s (ranks_in st) st = begins.nodes ∙ ap (map begun) told.nodes
     ∙ nodes_begun s f (prior_ranks s f) st in

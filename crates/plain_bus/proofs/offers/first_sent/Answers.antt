@@ -1,24 +1,17 @@
-use Rattle.std.proofs.Common.{ℕ, ◌∙◌, sym, arith, subst}
-use Rattle.plain_bus.proofs.OffersRead.{empty_mask, nothing_given, first_given, none_more}
-use Rattle.plain_bus.specs.FloodMasks.{AreOffers}
+use Rattle.std.proofs.Common.{◌≤◌, length, arith}
+use Rattle.plain_bus.proofs.OffersRead.{SendsNone, nothing_given}
+use Rattle.plain_bus.proofs.PlacesSeen.{all_seen, seen_below}
 use Rattle.plain_bus.proofs.offers.first_sent.Goals as goal
 
-pub returns-then-from-eq0 : goal.returns-then-from-eq0
-returns-then-from-eq0 c give are =
-    nothing_given give c.args.stations.now 0 (subst (λ (n : ℕ). AreOffers give c.args.stations.now n) c.if-from-eq0.true are)
-    (λ k d near. empty_mask c.args.stations.now k d)
-
-pub returns-then-is_some : goal.returns-then-is_some
-returns-then-is_some c give are =
-    first_given give c.args.stations.now c.args.from are c.loop-i.i c.index-stations-i.result c.sent-sent.result c.loop-i-test.true c.index-stations-i.is
-    c.sent-sent.ensures
-    (sym c.is_some.ensures ∙ c.if-is_some.true)
+pub returns-in_default : goal.returns-in_default
+returns-in_default c give are =
+    let xs = c.args.stations.now in
+    let out : length xs ≤ c.lowest-place.result = omega (arith, c.from.ensures, c.in_default.ensures.lookup) in
+    nothing_given give xs c.args.from are
+    (seen_below (SendsNone xs) c.args.from c.loop-rest.rest c.loop-rest.invariant c.lowest-place.result (length xs) c.lowest-place.ensures.first out)
 
 pub returns : goal.returns
-returns c give are = nothing_given give c.args.stations.now c.args.from are (λ k d near. c.loop-i.invariant k d (omega arith))
-
-pub loop-i-preserved : goal.loop-i-preserved
-loop-i-preserved c =
-    none_more c.args.stations.now c.args.from c.loop-i.i c.index-stations-i.result c.sent-sent.result c.loop-i-test.true c.index-stations-i.is
-    c.sent-sent.ensures
-    (sym c.is_some.ensures ∙ c.if-is_some.false) c.loop-i.invariant
+returns c give are =
+    let xs = c.args.stations.now in
+    nothing_given give xs c.args.from are
+    (λ k near one. all_seen (SendsNone xs) c.args.from c.loop-rest.rest c.loop-rest.invariant c.loop-rest-test.false k one)

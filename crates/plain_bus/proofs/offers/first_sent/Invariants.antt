@@ -1,7 +1,9 @@
-use Rattle.std.proofs.Common.{◌≡◌, ◌<◌, ℕ, None}
-use Rattle.plain_bus.specs.FloodMasks.{sent_at}
-use Rattle.plain_bus.specs.declared.station.Station.{Station}
+use Rattle.plain_bus.proofs.OffersRead.{SendsNone}
+use Rattle.plain_bus.proofs.PlacesSeen.{AreSeen}
 use Rattle.plain_bus.proofs.offers.first_sent.Given as goal
 
-abbrev pub invariant-loop-i : goal.invariant-loop-i
-invariant-loop-i l = (k : ℕ) (d : Station) → k < l.i → sent_at l.stations l.from k d ≡ None
+abbrev pub invariant-loop-rest : goal.invariant-loop-rest
+invariant-loop-rest l = AreSeen (SendsNone l.stations) l.from l.rest
+
+abbrev pub decreases-loop-rest : goal.decreases-loop-rest
+decreases-loop-rest l = l.rest

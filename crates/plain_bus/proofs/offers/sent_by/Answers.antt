@@ -1,18 +1,17 @@
-use Rattle.std.proofs.Common.{◌∙◌, sym, ap, refl, arith}
-use Rattle.std.proofs.lemmas.Bool.{eqb-true}
-use Rattle.plain_bus.proofs.OffersRead.{absent_gives, gives, absent_more}
+use Rattle.std.proofs.Common.{◌≤◌, sym, length, arith}
+use Rattle.plain_bus.proofs.OffersRead.{IsNot, absent_gives}
+use Rattle.plain_bus.proofs.PlacesSeen.{all_seen, seen_below}
 use Rattle.plain_bus.proofs.offers.sent_by.Goals as goal
 
-pub returns-then-eq : goal.returns-then-eq
-returns-then-eq c give are =
-    let x = c.index-stations-i.result in
-    sym (gives give c.args.stations.now c.args.from are c.loop-i.i x c.sent.result c.loop-i-test.true c.index-stations-i.is c.sent.ensures)
-    ∙ ap give (eqb-true x.node c.args.node (sym c.eq.ensures ∙ c.if-eq.true))
+pub returns-in_default : goal.returns-in_default
+returns-in_default c give are =
+    let xs = c.args.stations.now in
+    let out : length xs ≤ c.lowest-place.result = omega (arith, c.from.ensures, c.in_default.ensures.lookup) in
+    sym (absent_gives give xs c.args.from are c.args.node
+    (seen_below (IsNot xs c.args.node) c.args.from c.loop-rest.rest c.loop-rest.invariant c.lowest-place.result (length xs) c.lowest-place.ensures.first out))
 
 pub returns : goal.returns
-returns c give are = sym (absent_gives give c.args.stations.now c.args.from are c.args.node (λ k d near. c.loop-i.invariant k d (omega arith)))
-
-pub loop-i-preserved : goal.loop-i-preserved
-loop-i-preserved c =
-    absent_more c.args.stations.now c.args.from c.loop-i.i c.index-stations-i.result _ c.loop-i-test.true c.index-stations-i.is refl c.args.node
-    (sym c.eq.ensures ∙ c.if-eq.false) c.loop-i.invariant
+returns c give are =
+    let xs = c.args.stations.now in
+    sym (absent_gives give xs c.args.from are c.args.node
+    (λ k near one. all_seen (IsNot xs c.args.node) c.args.from c.loop-rest.rest c.loop-rest.invariant c.loop-rest-test.false k one))

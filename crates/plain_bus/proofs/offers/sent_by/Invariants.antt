@@ -1,6 +1,9 @@
-use Rattle.std.proofs.Common.{◌≡◌, ◌<◌, ℕ, get_or}
-use Rattle.plain_bus.specs.declared.station.Station.{Station}
+use Rattle.plain_bus.proofs.OffersRead.{IsNot}
+use Rattle.plain_bus.proofs.PlacesSeen.{AreSeen}
 use Rattle.plain_bus.proofs.offers.sent_by.Given as goal
 
-abbrev pub invariant-loop-i : goal.invariant-loop-i
-invariant-loop-i l = (k : ℕ) (d : Station) → k < l.i → (get_or l.stations k d).node ≡ l.node → ⊥
+abbrev pub invariant-loop-rest : goal.invariant-loop-rest
+invariant-loop-rest l = AreSeen (IsNot l.stations l.node) l.from l.rest
+
+abbrev pub decreases-loop-rest : goal.decreases-loop-rest
+decreases-loop-rest l = l.rest

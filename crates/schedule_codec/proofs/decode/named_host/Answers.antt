@@ -5,20 +5,20 @@ use Rattle.schedule_codec.proofs.Heads.{names_host}
 use Rattle.schedule_codec.proofs.decode.named_host.Goals as goal
 use Rattle.schedule_codec.proofs.decode.named_host.Goals.{then-kind-eq1, else-kind-eq1}
 
-pub returns-in_default : goal.returns-in_default
-returns-in_default c =
+pub returns-in_default-clause-rank : goal.returns-in_default-clause-rank
+returns-in_default-clause-rank c =
     λ s is.
     let long = (names_host c.bytes.result.now s (ap (λ l. spells l s) c.bytes.ensures.value ∙ is)).long in
     absurd (omega arith)
 
-pub returns-then-kind-eq4 : goal.returns-then-kind-eq4
-returns-then-kind-eq4 c =
+pub returns-then-kind-eq4-clause-rank : goal.returns-then-kind-eq4-clause-rank
+returns-then-kind-eq4-clause-rank c =
     λ s is.
     let named = names_host c.bytes.result.now s (ap (λ l. spells l s) c.bytes.ensures.value ∙ is) in
     ap (λ (n : ℕ). Some n) named.host
 
-pub returns-else-kind-eq4 : goal.returns-else-kind-eq4
-returns-else-kind-eq4 c =
+pub returns-else-kind-eq4-clause-rank : goal.returns-else-kind-eq4-clause-rank
+returns-else-kind-eq4-clause-rank c =
     λ s is.
     let named = names_host c.bytes.result.now s (ap (λ l. spells l s) c.bytes.ensures.value ∙ is) in
     let kind = get_or c.bytes.result.now 0 0 in

@@ -1,44 +1,17 @@
-use Rattle.std.proofs.Common.{◌≡◌, ◌≤◌, List, remove, slice_index_or, Option, Some, None, OnSome, length, sym, ◌∙◌, ap, arith}
+use Rattle.std.proofs.Common.{◌≡◌, ◌≤◌, List, remove, ◌∙◌, ap, arith}
 use Rattle.event_calendar.specs.declared.entry.Entry.{Entry}
 use Rattle.event_calendar.specs.Waiting.{Waiting}
 use Rattle.event_calendar.proofs.OrdersThatWait.{removed}
 use Rattle.event_calendar.proofs.queue.Queue.remove.Goals as goal
 
-when_some : (o : Option Entry) (x : Entry) (P : Type 0) → o ≡ Some x → OnSome o P → P
-when_some None x P is holds = absurd (cc)
-when_some (Some y) x P is holds = holds
-
-pub returns-then-at-eq0 : goal.returns-then-at-eq0
-returns-then-at-eq0 c =
+pub returns-then-comes_first : goal.returns-then-comes_first
+returns-then-comes_first c =
     let xs = c.args.self.now.entries in
     let items = c.self.inside.entries.items in
     let after = c.pop_front.new.self in
-    let at = c.index_of-at.result in
     let same : items ≡ xs = ap (λ (w : Waiting). w.entries) c.self.view_is in
     let room = ap (λ (w : Waiting). w.room) c.self.view_is in
-    let first : after.items ≡ remove items 0 = c.pop_front.ensures.rest in
-    let front : at ≡ 0 = omega (arith, c.if-at-eq0.true) in
-    let is : after.items ≡ remove xs at =
-    first ∙ ap (λ (l : List Entry). remove l 0) same ∙ ap (remove xs) (sym front) in
+    let is : after.items ≡ remove xs 0 = c.pop_front.ensures.rest ∙ ap (λ (l : List Entry). remove l 0) same in
     let grows : c.args.self.now.room ≤ after.cap = omega (arith, room, c.pop_front.ensures.capacity) in
-    let there = c.index_of-at.ensures in
-    removed xs after.items at after.cap c.args.self.now.room c.args.entry c.requires.order there.bound
-    (there.there c.args.entry) is grows
-
-pub returns-else-at-eq0 : goal.returns-else-at-eq0
-returns-else-at-eq0 c =
-    let xs = c.args.self.now.entries in
-    let items = c.self.inside.entries.items in
-    let after = c.remove.new.self in
-    let at = c.index_of-at.result in
-    let e = c.args.entry in
-    let same : items ≡ xs = ap (λ (w : Waiting). w.entries) c.self.view_is in
-    let size = ap length same in
-    let room = ap (λ (w : Waiting). w.room) c.self.view_is in
-    let ok = c.self.inside.entries.ok in
-    let there = c.index_of-at.ensures in
-    let some = c.remove.ensures.succeeds e (omega (arith, there.bound, size, ok.0)) in
-    let taken = when_some c.remove.result (slice_index_or items at e) (after.items ≡ remove items at) some c.remove.ensures.items in
-    let is : after.items ≡ remove xs at = taken ∙ ap (λ (l : List Entry). remove l at) same in
-    let grows : c.args.self.now.room ≤ after.cap = omega (arith, room, c.remove.ensures.capacity) in
-    removed xs after.items at after.cap c.args.self.now.room e c.requires.order there.bound (there.there e) is grows
+    let first = c.comes_first.ensures c.if-comes_first.true in
+    removed xs after.items 0 after.cap c.args.self.now.room c.args.entry c.requires.order first.0 (first.1 c.args.entry) is grows

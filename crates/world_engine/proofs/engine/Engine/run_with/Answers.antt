@@ -41,7 +41,7 @@ returns-clause-run g c =
     let left = run_left s (sound s c.profile-profile.ensures.said) (clocks_by g.C.DriftClock.readings s.nodes cs) w due run
     (c.from.result * c.frame.result) end c.close.new.self c.in_ok-close.ensures
     drifts c.take_deliveries.new.self c.take_deliveries.ensures.rest c.in_ok-deliveries.deliveries.items c.in_ok-deliveries.ensures.taken in
-    let ids = cores_left s (sound s c.profile-profile.ensures.said) (clocks_by g.C.DriftClock.readings s.nodes cs) w due run
+    let setups = cores_left s (sound s c.profile-profile.ensures.said) (clocks_by g.C.DriftClock.readings s.nodes cs) w due run
     (c.from.result * c.frame.result) end c.close.new.self c.in_ok-close.ensures
     c.take_deliveries.new.self c.take_deliveries.ensures.rest in
     let scanned : c.in_ok-scanned.scanned.items ≡ all_scans_before s (clocks_by g.C.DriftClock.readings s.nodes cs) w.air s.frames =
@@ -51,7 +51,7 @@ returns-clause-run g c =
     (c.from.result * c.frame.result) end c.close.new.self c.in_ok-close.ensures
     (all_drift g.C.DriftClock.readings g.met.C.DriftClock.keeps_drift_law s.nodes cs) c.take_deliveries.new.self c.take_deliveries.ensures.rest
     c.as_slice.result.now (c.as_slice.ensures.value ∙ scanned) c.in_ok-charges.charges.items c.in_ok-charges.ensures in
-    has_run g.C.DriftClock.readings _ c.args.self.now c.self.view_is _ (record { scenario = refl; ran = refl; run = left.0; charges = charges; nodes = ids })
+    has_run g.C.DriftClock.readings _ c.args.self.now c.self.view_is _ (record { scenario = refl; ran = refl; run = left.0; charges = charges; setups = setups })
 
 pub returns-clause-left : goal.returns-clause-left
 returns-clause-left g c =

@@ -65,5 +65,5 @@ returns c =
           (λ (e : TunedEntry). e.node ≡ u.id)) c.silence-before.ensures.node.setup c.hand_out-last.ensures.own;
       none = c.hand_out-last.ensures.none;
       setup = c.hand_out-last.ensures.node.setup ∙ c.silence-before.ensures.node.setup;
-      core = c.hand_out-last.ensures.core;
+      core = c.hand_out-last.ensures.power;
     }) c.log_tuning-2.ensures

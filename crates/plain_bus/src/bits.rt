@@ -1,0 +1,34 @@
+//! Masks of places, one bit for each.
+
+ghost use Rattle.std.specs.Prelude.{◌≡◌, ◌≢◌, ℕ, ◌<◌, ◌==◌};
+ghost use Rattle.std.specs.Int.{bit_at};
+
+/// Whether the bit of that place is set.
+#[tactic(auto, using(std::proofs::lemmas::Nat::Bits::shr_and_one))]
+pub(crate) fn has_bit(mask: u64, place: u8) -> bool
+    requires { place < 64 }
+    ensures { result ≡ (bit_at mask place == 1) }
+{
+    (mask >> place) & 1 == 1
+}
+
+/// The lowest place whose bit is set.
+pub(crate) fn lowest(mask: u64) -> u8
+    requires { 0 < mask }
+    ensures below { result < 64 }
+    ensures set { bit_at mask result ≡ 1 }
+    ensures first { (i : ℕ) → i < result → bit_at mask i ≡ 0 }
+{
+    mask.trailing_zeros() as u8
+}
+
+/// The mask without that bit, which is set in it.
+pub(crate) fn without_bit(mask: u64, place: u8) -> u64
+    requires place { place < 64 }
+    requires set { bit_at mask place ≡ 1 }
+    ensures less { result < mask }
+    ensures cleared { bit_at result place ≡ 0 }
+    ensures others { (i : ℕ) → i ≢ place → bit_at result i ≡ bit_at mask i }
+{
+    mask & !(1 << place)
+}

@@ -1,0 +1,72 @@
+use Rattle.std.proofs.Common.{◌≡◌, ◌≤◌, ◌<◌, ◌++◌, ℕ, false, length, map, List, IsPermutation, ap, subst, sym, ◌∙◌, arith, refl, rules}
+use Rattle.link_trace.specs.Sealed.{Traced}
+use Rattle.scenario_text.specs.AddedLines.{IsMerged}
+use Rattle.scenario_text.specs.Canonical.{IsSaid}
+use Rattle.scenario_text.specs.PartsInOrder.{IsInOrder, script_lines}
+use Rattle.scenario_text.specs.ScenarioFacts.{turned}
+use Rattle.scenario_text.specs.ScenarioParts.{ScenarioParts}
+use Rattle.scenario_text.specs.declared.lines.NodeLine.{NodeLine}
+use Rattle.scenario_text.specs.declared.script.ScriptLine.{ScriptLine}
+use Rattle.scenario_text.proofs.EachPair.{pairs_climb}
+use Rattle.scenario_text.proofs.LinesAdded.{one_with_script, same_parts, still_in_order}
+use Rattle.scenario_text.proofs.NodeIds.{nodes_seal}
+use Rattle.scenario_text.proofs.OrderedParts.{said_in_order, in_order_said}
+use Rattle.scenario_text.proofs.added_lines.with_script.Goals as goal
+
+pub returns-then-len-script_room-clause-none : goal.returns-then-len-script_room-clause-none
+returns-then-len-script_room-clause-none c =
+    λ t is room.
+    let s = c.args.s.now in
+    let sc = c.in_ok-script.script.items in
+    let merged : IsMerged s.script c.args.added.now sc =
+    subst (λ (old : List ScriptLine). IsMerged old c.args.added.now sc) c.script.ensures.value c.in_ok-script.ensures.merged in
+    let same : t ≡ record s { script = sc } = one_with_script s c.args.added.now sc t merged is in
+    let lines : script_lines (record s { script = sc }) ≤ 20000 = subst (λ (u : ScenarioParts). script_lines u ≤ 20000) same room.lines in
+    let many = c.if-len-script_room.true in
+    let others = c.script_room.ensures in
+    let long : c.len.result ≡ length sc = search rules in
+    omega (arith, lines, many, others, long)
+
+pub returns-then-not-has_few_boots-clause-none : goal.returns-then-not-has_few_boots-clause-none
+returns-then-not-has_few_boots-clause-none c =
+    λ t is room.
+    let s = c.args.s.now in
+    let sc = c.in_ok-script.script.items in
+    let merged : IsMerged s.script c.args.added.now sc =
+    subst (λ (old : List ScriptLine). IsMerged old c.args.added.now sc) c.script.ensures.value c.in_ok-script.ensures.merged in
+    let same : t ≡ record s { script = sc } = one_with_script s c.args.added.now sc t merged is in
+    let few : (v : ℕ) → (turned v (false, 0) sc).1 ≤ 200 =
+    subst (λ (u : ScenarioParts). (v : ℕ) → (turned v (false, 0) u.script).1 ≤ 200) same room.boots in
+    c.if-not-has_few_boots.ensures.many refl
+    (subst (λ (ls : List ScriptLine). (v : ℕ) → (turned v (false, 0) ls).1 ≤ 200) (sym c.deref.ensures.value) few)
+
+pub seal-requires : goal.seal-requires
+seal-requires c =
+    let s = c.args.s.now in
+    let is : IsInOrder s = in_order_said s c.nodes.ensures.said in
+    nodes_seal s.nodes c.deref-2.result.now (pairs_climb (λ a b. a.node < b.node) s.nodes is.nodes_ascend) is.node_count.0 is.node_count.1
+    (c.deref-2.ensures.value ∙ c.in_ok-ids.ensures ∙ ap (map (λ (n : NodeLine). n.node)) c.nodes.ensures.value)
+
+pub of_parts-requires-clause-said : goal.of_parts-requires-clause-said
+of_parts-requires-clause-said c =
+    let s = c.args.s.now in
+    let sc = c.in_ok-script.script.items in
+    let is : IsInOrder s = in_order_said s c.nodes.ensures.said in
+    let merged : IsMerged s.script c.args.added.now sc =
+    subst (λ (old : List ScriptLine). IsMerged old c.args.added.now sc) c.script.ensures.value c.in_ok-script.ensures.merged in
+    let shuffled : IsPermutation (s.script ++ c.args.added.now) sc =
+    subst (λ (old : List ScriptLine). IsPermutation (old ++ c.args.added.now) sc) c.script.ensures.value c.in_ok-script.ensures.permutation in
+    let few = c.if-len-script_room.false in
+    let room = c.script_room.ensures in
+    let lines : script_lines (record s { script = sc }) ≤ 20000 = omega (arith, few, room, c.len.ensures, c.deref.ensures.len, ap length c.deref.ensures.value) in
+    let boots : (v : ℕ) → (turned v (false, 0) sc).1 ≤ 200 =
+    subst (λ (ls : List ScriptLine). (v : ℕ) → (turned v (false, 0) ls).1 ≤ 200) c.deref.ensures.value (c.if-not-has_few_boots.ensures.few refl) in
+    subst IsSaid (sym (
+    same_parts s c.profile.result c.frames.result c.sends.result c.in_ok-from_slice.field-0.items c.in_ok-from_slice-2.field-0.items
+    c.in_ok-from_slice-3.field-0.items c.seal.new.self.lines sc c.profile.ensures.value c.frames.ensures.value c.sends.ensures
+    (c.in_ok-from_slice.ensures.items ∙ c.nodes-2.ensures.value) (c.in_ok-from_slice-2.ensures.items ∙ c.rates.ensures)
+    (c.in_ok-from_slice-3.ensures.items ∙ c.hosts.ensures.value)
+    (ap (λ (t : Traced). t.lines) c.in_ok-seal.ensures.sealed ∙ ap (λ (t : Traced). t.lines) c.in_ok-trace.ensures ∙ c.trace.ensures.value)))
+    (said_in_order (record s { script = sc })
+    (still_in_order s c.args.added.now sc is shuffled c.requires.in_range merged.ascends c.in_ok-script.ensures.bytes
+    (record { lines = lines; boots = boots })))

@@ -1,0 +1,127 @@
+//! A scenario with more lines in its script.
+
+ghost use Rattle.std.specs.Prelude.{◌≡◌, ◌≤◌, ◌<◌, ◌+◌, ◌++◌, true, false, length, All, AllPairs, IfOk, OnOk, IfSome, IfNone, IsPermutation};
+ghost use Rattle.scenario_text.specs.AddedLines.{IsMerged, IsWithScript, HasRoom};
+ghost use Rattle.scenario_text.specs.PartsInOrder.{carried, script_lines};
+ghost use Rattle.scenario_text.specs.ScenarioFacts.{IsScriptLine};
+ghost use Rattle.scenario_text.specs.ScenarioParts.{ScenarioParts};
+
+use crate::boots::has_few_boots;
+use crate::known_nodes::ids;
+use crate::{Act, Scenario, ScriptLine};
+use lwb_base::{Memory, Payload};
+use std::alloc::Global;
+
+/// The scenario with these lines added to its script, each after all lines of its frame that stand there, and in the
+/// order given. They are known nodes' lines in ascending frames below the number of frames. Returns `None` if and only
+/// if a text would be refused for the result's number of lines: a node would boot more than 200 times, or there would be
+/// more than 20,000 script lines of all kinds.
+pub fn with_script(
+    alloc: Global,
+    s: &Scenario,
+    added: &[ScriptLine],
+) -> Result<Option<Scenario>, Memory>
+    requires in_range { All (IsScriptLine s.now) added.now }
+    requires ascending { AllPairs (λ a b. a.frame ≤ b.frame) added.now }
+    ensures some { IfOk result (λ o. IfSome o (λ t. IsWithScript s.now added.now t × HasRoom t)) }
+    ensures none { IfOk result (λ o. IfNone o ((t : ScenarioParts) → IsWithScript s.now added.now t → HasRoom t → ⊥)) }
+{
+    let script = merged(alloc, s.script(), added)?;
+    if script.len() > script_room(s) {
+        return Ok(None);
+    }
+    if !has_few_boots(&script) {
+        return Ok(None);
+    }
+    let mut trace = s.trace().unsealed_copy(alloc)?;
+    trace.seal(&ids(alloc, s.nodes())?)?;
+    Ok(Some(Scenario::of_parts(
+        &s.profile(),
+        s.frames(),
+        s.sends(),
+        Vec::from_slice(alloc, s.nodes())?,
+        Vec::from_slice(alloc, s.rates())?,
+        Vec::from_slice(alloc, s.hosts())?,
+        trace,
+        script,
+    )))
+}
+
+// How many lines of the script may stand beside the other script lines of the scenario.
+fn script_room(s: &Scenario) -> usize
+    ensures { result + script_lines s.now ≡ 20000 + length s.now.script }
+{
+    let trace = s.trace();
+    let script = s.script().len();
+    let others = s.rates().len()
+        + trace.losses().len()
+        + trace.cuts().len()
+        + trace.captures().len();
+    20_000 - (script + others) + script
+}
+
+// The lines of both by frame, and of each frame the old ones first.
+fn merged(
+    alloc: Global,
+    old: &[ScriptLine],
+    added: &[ScriptLine],
+) -> Result<Vec<ScriptLine>, Memory>
+    ensures merged { IfOk result (λ all. IsMerged old.now added.now all.items) }
+    ensures permutation { IfOk result (λ all. IsPermutation (old.now ++ added.now) all.items) }
+    ensures bytes { IfOk result (λ all. All (λ l. All (λ b. b < 256) (carried l.act)) all.items) }
+{
+    let mut all = Vec::new(alloc);
+    copy_lines(&mut all, old)?;
+    copy_lines(&mut all, added)?;
+    all.sort_by_key(|line| line.frame)?;
+    Ok(all)
+}
+
+fn copy_lines(all: &mut Vec<ScriptLine>, lines: &[ScriptLine]) -> Result<(), Memory>
+    ensures lines { OnOk result (all.new.items ≡ all.old.items ++ lines.now) }
+    ensures bytes { OnOk result (All (λ l. All (λ b. b < 256) (carried l.act)) lines.now) }
+{
+    for line in lines {
+        all.push(copied(line))?;
+    }
+    Ok(())
+}
+
+fn copied(line: &ScriptLine) -> ScriptLine
+    ensures same { result ≡ line.now }
+    ensures bytes { All (λ b. b < 256) (carried line.now.act) }
+{
+    ScriptLine {
+        frame: line.frame,
+        node: line.node,
+        act: copied_act(&line.act),
+    }
+}
+
+fn copied_act(act: &Act) -> Act
+    ensures same { result ≡ act.now }
+    ensures bytes { All (λ b. b < 256) (carried act.now) }
+{
+    match act {
+        Act::On => Act::On,
+        Act::Off => Act::Off,
+        Act::Declare(stream, interval) => Act::Declare(*stream, *interval),
+        Act::Leave(stream) => Act::Leave(*stream),
+        Act::Put(stream, payload) => Act::Put(*stream, copied_payload(payload)),
+    }
+}
+
+fn copied_payload(payload: &Payload) -> Payload
+    ensures same { result ≡ payload.now }
+    ensures bytes { All (λ b. b < 256) payload.now }
+{
+    of_bytes(payload.bytes())
+}
+
+fn of_bytes(bytes: &[u8]) -> Payload
+    requires { length bytes.now ≤ 96 }
+    ensures same { result ≡ bytes.now }
+    ensures bytes { All (λ b. b < 256) bytes.now }
+{
+    Payload::new(bytes).unwrap()
+}
