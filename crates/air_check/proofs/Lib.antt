@@ -2,3 +2,9 @@ mod LogTextExamples
 mod CheckedTextExamples
 mod WorkedVerdicts
 mod OneVerdict
+mod InOrder
+mod OwnTrails
+mod NodeLogs
+mod FoundClocks
+mod IdsInOrder
+mod SameEntries

@@ -1,4 +1,6 @@
 pub mod LogGrammar
 pub mod CheckedText
 pub mod Verdicts
+pub mod NodeLogs
+pub mod NodeClocks
 pub mod WorkedVerdicts
