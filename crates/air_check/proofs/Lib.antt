@@ -2,3 +2,13 @@ mod LogTextExamples
 mod CheckedTextExamples
 mod WorkedVerdicts
 mod OneVerdict
+mod Received
+mod TunedTimes
+mod Windows
+mod Given
+mod Gathered
+mod Marked
+mod DueOnes
+mod RightEntries
+mod MissingOnes
+mod Extended
