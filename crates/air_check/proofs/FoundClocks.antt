@@ -32,9 +32,11 @@ has_id v n = n.node == v
 pub found_known : (ns : List NodeLine) (v i : ℕ) → i < length ns → IsBinarySearchResult (λ n. nat_cmp n.node v) ns (Ok i) → knows ns v ≡ true
 found_known [] v i less found = absurd (omega (arith, less))
 found_known (n ∷ ns) v i less found =
-    any_of (has_id v) (n ∷ ns) (get_or (n ∷ ns) i n) (Contains-get_or (n ∷ ns) i n less) (eq-eqb (get_or (n ∷ ns) i n).node v (same (get_or (n ∷ ns) i n).node v (found n)))
+    any_of (has_id v) (n ∷ ns) (get_or (n ∷ ns) i n) (Contains-get_or (n ∷ ns) i n less)
+    (eq-eqb (get_or (n ∷ ns) i n).node v (same (get_or (n ∷ ns) i n).node v (found n)))
 
-rising : (ns : List NodeLine) → AllPairs (λ a b. a.node < b.node) ns → (i j : ℕ) (d : NodeLine) → i ≤ j → j < length ns → (get_or ns i d).node ≤ (get_or ns j d).node
+rising : (ns : List NodeLine) → AllPairs (λ a b. a.node < b.node) ns → (i j : ℕ) (d : NodeLine) → i ≤ j → j < length ns
+    → (get_or ns i d).node ≤ (get_or ns j d).node
 rising ns ascending i j d le inside = elim (cases_lt i j) [
   | inl before ↦ omega (arith, ascending i j d before inside)
   | inr later ↦ (let at : i ≡ j = omega (arith, le, later) in rw at (omega arith))
@@ -43,7 +45,8 @@ rising ns ascending i j d le inside = elim (cases_lt i j) [
 higher : (a b v : ℕ) → a ≤ b → Rattle.std.specs.Ordering.ordering_index (nat_cmp a v) ≤ Rattle.std.specs.Ordering.ordering_index (nat_cmp b v)
 higher a b v le = grind (arith, nat_tests)
 
-pub none_known : (ns : List NodeLine) (v i : ℕ) → AllPairs (λ a b. a.node < b.node) ns → IsBinarySearchResult (λ n. nat_cmp n.node v) ns (Err i) → knows ns v ≡ false
+pub none_known : (ns : List NodeLine) (v i : ℕ) → AllPairs (λ a b. a.node < b.node) ns → IsBinarySearchResult (λ n. nat_cmp n.node v) ns (Err i)
+    → knows ns v ≡ false
 none_known ns v i ascending parted = elim (cases_Bool (knows ns v)) [
   | inl there ↦ absurd (
       let w = some_of (has_id v) ns there in

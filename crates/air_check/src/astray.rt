@@ -16,7 +16,7 @@ use std::alloc::Global;
 use std::mem;
 
 /// The least id whose transmissions or tunings in the log are not those of its trace. `None` if and only if those of all ids are.
-pub fn first_astray(alloc: Global, s: &Scenario, air: &Air) -> Result<Option<NodeId>, Memory>
+pub(crate) fn first_astray(alloc: Global, s: &Scenario, air: &Air) -> Result<Option<NodeId>, Memory>
     ensures astray { IfOk result (λ o. IfSome o (λ v. IsFirstAstray s.now (scenario_clock s.now) air.now v)) }
     ensures followed { IfOk result (λ o. IfNone o (FollowsTrails s.now (scenario_clock s.now) air.now)) }
 {

@@ -19,7 +19,8 @@ loop-id-init c =
     record {
       ids = are.ids;
       left = λ v from. are.each v;
-      followed = follows_at_zero c.args.s.now (scenario_clock c.args.s.now) c.args.air.now (sound c.args.s.now c.nodes.ensures.said) c.in_ok-logs.logs.items are;
+      followed = follows_at_zero c.args.s.now (scenario_clock c.args.s.now) c.args.air.now (sound c.args.s.now c.nodes.ensures.said)
+          c.in_ok-logs.logs.items are;
     }
 
 pub returns-then-not-branch-clause-astray : goal.returns-then-not-branch-clause-astray

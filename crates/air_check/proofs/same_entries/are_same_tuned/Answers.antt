@@ -9,6 +9,7 @@ use Rattle.air_check.proofs.same_entries.are_same_tuned.Goals as goal
 
 pub returns : goal.returns
 returns c =
-    let is : Decides c.eq.result (c.args.made.now ≡ c.args.logged.now) = slice_eq-Decides equal_tuned c.args.made.now c.args.logged.now c.eq.result c.eq.ensures in
+    let is : Decides c.eq.result (c.args.made.now ≡ c.args.logged.now) =
+    slice_eq-Decides equal_tuned c.args.made.now c.args.logged.now c.eq.result c.eq.ensures in
     Decides-like c.eq.result (λ (same : c.args.made.now ≡ c.args.logged.now). ap (λ (l : List TunedEntry). map tuning_of l) same)
     (one_tuned c.args.made.now c.args.logged.now) is
