@@ -4,3 +4,20 @@ mod DividedTexts
 mod CheckedTexts
 mod WorkedVerdicts
 pub mod OneVerdict
+mod InOrder
+mod LawfulVerdicts
+mod OwnTrails
+mod NodeLogs
+mod FoundClocks
+mod IdsInOrder
+mod SameEntries
+mod Received
+mod TunedTimes
+mod Windows
+mod Given
+mod Gathered
+mod Marked
+mod DueOnes
+mod RightEntries
+mod MissingOnes
+mod Extended

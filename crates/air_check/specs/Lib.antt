@@ -2,4 +2,10 @@ pub mod LogGrammar
 pub mod CheckedText
 pub mod Divisions
 pub mod Verdicts
+pub mod NodeLogs
+pub mod NodeClocks
 pub mod WorkedVerdicts
+pub mod Receptions
+pub mod Tunings
+pub mod Indexes
+pub mod Flags

@@ -14,7 +14,7 @@ use Rattle.radio_model.specs.OnAir.{Hearing}
 use Rattle.air_log.specs.declared.entry.Entry.{Entry}
 use Rattle.air_log.specs.declared.entry.HeardEntry.{HeardEntry}
 use Rattle.air_log.specs.Entries.{hearing_in}
-use Rattle.air_log.specs.Lawful.{comes_before, put_in, by_end, hearings_by, heard_by, reception_of}
+use Rattle.air_log.specs.Lawful.{comes_before, put_in, by_end, hearings_by, reception_of}
 use Rattle.air_log.specs.Trails.{Reception}
 use Rattle.air_log.specs.LogText.{placed, in_order}
 use Rattle.air_log.specs.Courses.{Ascends, end_of, hearing_of, reception_in, only_of, hearing_with}
@@ -101,10 +101,9 @@ same_receptions : (hs : List HeardEntry) → map reception_in hs ≡ map recepti
 same_receptions [] = refl
 same_receptions (h ∷ hs) = ap (λ (rs : List Reception). reception_in h ∷ rs) (same_receptions hs)
 
--- what is picked and sorted is what the trail takes
-pub received : (air : List Entry) (v : ℕ) (picks sorts : List HeardEntry) → map hearing_of picks ≡ hearings_by air v → sorts ≡ in_order before picks
-    → map reception_in sorts ≡ heard_by air v
-received air v picks sorts is sorted =
+-- what is sorted is what the trail takes
+pub received : (picks sorts : List HeardEntry) → sorts ≡ in_order before picks → map reception_in sorts ≡ map reception_of (by_end (map hearing_of picks))
+received picks sorts sorted =
     same_receptions sorts
     ∙ ap (λ (hs : List HeardEntry). map reception_of (map hearing_of hs)) sorted
-    ∙ ap (map reception_of) (sym (sorted_same picks) ∙ ap by_end is)
+    ∙ ap (map reception_of) (sym (sorted_same picks))

@@ -1,6 +1,7 @@
 -- kept for the crates above
 pub mod Elements
 pub mod StableSorts
+pub mod StrictOrders
 pub mod DeliveryOrder
 pub mod SameSendings
 pub mod LoggedEntries

@@ -41,7 +41,7 @@ module _ (Q : List Sending → Type 0) where
 
 -- one more that comes after all
 module _ {X : Type 0} (R : X → X → Type 0) where
-  pairs_push : (xs : List X) (y : X) → AllPairs R xs → All (λ x. R x y) xs → AllPairs R (xs ++ y ∷ [])
+  pub pairs_push : (xs : List X) (y : X) → AllPairs R xs → All (λ x. R x y) xs → AllPairs R (xs ++ y ∷ [])
   pairs_push [] y pairs last = λ i j d less within. absurd (omega (arith, less, within))
   pairs_push (x ∷ xs) y pairs last =
       AllPairs-cons R x (xs ++ y ∷ [])

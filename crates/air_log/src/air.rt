@@ -56,8 +56,9 @@ impl Air {
     {
         self.entries.get(i)
     }
+
     /// All entries.
-    pub(crate) fn entries(&self) -> &[Entry]
+    pub fn entries(&self) -> &[Entry]
         ensures { result.now ≡ self.now }
     {
         self.entries.as_slice()

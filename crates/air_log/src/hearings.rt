@@ -2,23 +2,18 @@
 
 ghost use Rattle.std.specs.Prelude.{◌≡◌, OnOk, IfOk, map, ◌++◌, option_to_list};
 ghost use Rattle.std.specs.Option.{option_map};
-ghost use Rattle.air_log.specs.Lawful.{heard_by, hearings_by};
+ghost use Rattle.air_log.specs.Lawful.{by_end, hearings_by, reception_of};
 ghost use Rattle.air_log.specs.Courses.{Ascends, end_of, reception_in, hearing_of, hearing_with};
 
 use crate::{Entry, HeardEntry};
 use lwb_base::{Memory, NodeId};
 use std::alloc::Global;
 
-// The hearings of a node, by end, then sender, then place in the air.
-pub(crate) fn heard_by(
-    alloc: Global,
-    entries: &[Entry],
-    node: NodeId,
-) -> Result<Vec<HeardEntry>, Memory>
-    ensures heard { IfOk result (λ hs. map reception_in hs.items ≡ heard_by entries.now node) }
+// These hearings by end, then sender, then place in the list.
+pub(crate) fn in_turn(mut heard: Vec<HeardEntry>) -> Result<Vec<HeardEntry>, Memory>
+    ensures taken { IfOk result (λ hs. map reception_in hs.items ≡ map reception_of (by_end (map hearing_of heard.items))) }
     ensures ascends { IfOk result (λ hs. Ascends end_of hs.items) }
 {
-    let mut heard = hearings_by(alloc, entries, node)?;
     heard.sort_by_key(|hearing| place(hearing))?;
     Ok(heard)
 }
@@ -30,7 +25,12 @@ fn place(hearing: &HeardEntry) -> (u64, u8)
     (hearing.end, hearing.from.number())
 }
 
-fn hearings_by(alloc: Global, entries: &[Entry], node: NodeId) -> Result<Vec<HeardEntry>, Memory>
+// The hearings of a node, as they stand in the air.
+pub(crate) fn hearings_by(
+    alloc: Global,
+    entries: &[Entry],
+    node: NodeId,
+) -> Result<Vec<HeardEntry>, Memory>
     ensures { IfOk result (λ hs. map hearing_of hs.items ≡ hearings_by entries.now node) }
 {
     let mut heard = Vec::new(alloc);

@@ -23,5 +23,5 @@ pub use device::Device;
 pub use entry::{Entry, HeardEntry, SentEntry, TunedEntry};
 pub use printing::{text, write_text};
 pub use trail::Trail;
-pub use trails::trail_of;
+pub use trails::{trail_of, trail_over};
 pub use window_sum::WindowSum;

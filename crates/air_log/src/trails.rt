@@ -9,14 +9,14 @@ ghost use Rattle.air_log.specs.DeviceStates.{CanBoot};
 ghost use Rattle.air_log.specs.Charges.{scans_with};
 ghost use Rattle.air_log.specs.Devices.{Device as DeviceOf, seen_power};
 ghost use Rattle.air_log.specs.ScriptedDevices.{after_line};
-ghost use Rattle.air_log.specs.Lawful.{heard_by};
+ghost use Rattle.air_log.specs.Lawful.{by_end, heard_by, reception_of};
 ghost use Rattle.air_log.specs.Trails.{Reception, setup_of, frame_start, tune_of, lines_at, heard as heard_at, at_frame, before_tick};
 ghost use Rattle.air_log.specs.TrailsTold.{trail_told};
-ghost use Rattle.air_log.specs.Courses.{Shows, IsShown, Goes, IsShownEnding, IsCut, Ascends, AlarmsEnd, frame_of, end_of};
+ghost use Rattle.air_log.specs.Courses.{Shows, IsShown, Goes, IsShownEnding, IsCut, Ascends, AlarmsEnd, frame_of, end_of, hearing_of};
 ghost use Rattle.air_log.specs.Courses.{reception_in, before_alarms_in, after_lines, least_of, least_due};
 
 use crate::course::Course;
-use crate::hearings::heard_by;
+use crate::hearings::{hearings_by, in_turn};
 use crate::{Air, HeardEntry, Trail};
 use bus_rules::Tune;
 use lwb_base::{Event, Memory, NodeId};
@@ -35,8 +35,22 @@ pub fn trail_of<C: DriftClock>(
 ) -> Result<Trail, Memory>
     ensures { IfOk result (λ t. t ≡ trail_told s.now node (C.readings clock.now) (heard_by a.now node)) }
 {
+    let heard = hearings_by(alloc, a.entries(), node)?;
+    trail_over(alloc, s, node, clock, heard)
+}
+
+/// The same over receptions that were picked out of a log, in any order.
+pub fn trail_over<C: DriftClock>(
+    alloc: Global,
+    s: &Scenario,
+    node: NodeId,
+    clock: &C,
+    heard: Vec<HeardEntry>,
+) -> Result<Trail, Memory>
+    ensures { IfOk result (λ t. t ≡ trail_told s.now node (C.readings clock.now) (map reception_of (by_end (map hearing_of heard.items)))) }
+{
     let length = s.profile().frame();
-    let heard = heard_by(alloc, a.entries(), node)?;
+    let heard = in_turn(heard)?;
     let mut course = Course::new(alloc, s, node)?;
     let mut tunes = Vec::new(alloc);
     let mut scanned = 0;

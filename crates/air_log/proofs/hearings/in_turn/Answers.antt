@@ -3,15 +3,15 @@ use Rattle.std.proofs.lemmas.List.Sorted.{answers_always}
 use Rattle.air_log.specs.LogText.{in_order}
 use Rattle.air_log.proofs.StableSorts.{sorted_by_insertion}
 use Rattle.air_log.proofs.HearingsInAir.{place_of, before, is_order, sorted_ascends, received}
-use Rattle.air_log.proofs.hearings.heard_by.Goals as goal
+use Rattle.air_log.proofs.hearings.in_turn.Goals as goal
 
-pub returns-clause-heard : goal.returns-clause-heard
-returns-clause-heard c =
-    let sorted : c.sort_by_key.new.self.items ≡ in_order before c.in_ok-heard.heard.items =
-    sorted_by_insertion before is_order c.in_ok-heard.heard.items c.sort_by_key.new.self.items
+pub returns-clause-taken : goal.returns-clause-taken
+returns-clause-taken c =
+    let sorted : c.sort_by_key.new.self.items ≡ in_order before c.args.heard.items =
+    sorted_by_insertion before is_order c.args.heard.items c.sort_by_key.new.self.items
     (c.in_ok-sort_by_key.ensures.sorted place_of (answers_always _ _ _ (λ f a r g h. search rules)))
     (c.sort_by_key.ensures.stable place_of (answers_always _ _ _ (λ f a r g h. search rules))) in
-    received c.args.entries.now c.args.node c.in_ok-heard.heard.items c.sort_by_key.new.self.items c.in_ok-heard.ensures sorted
+    received c.args.heard.items c.sort_by_key.new.self.items sorted
 
 pub returns-clause-ascends : goal.returns-clause-ascends
 returns-clause-ascends c =

@@ -1,0 +1,46 @@
+-- What is received by an index of a log is given.
+use Rattle.std.proofs.Common.{◌≡◌, ℕ, ◌<◌, ◌≤◌, ◌^◌, ◌↔◌, List, All, Contains, get_or, true, Bool, arith, ap, inl, inr, ◌*◌}
+use Rattle.std.proofs.lemmas.List.Elements.{All-contains, Contains-get_or}
+use Rattle.std.proofs.Math.Nat.{mul-le-mul_right, mul-le-mul_left}
+use Rattle.lwb_base.specs.Profile.{Numbers}
+use Rattle.scenario_text.specs.ScenarioGrammar.{IsScenario}
+use Rattle.scenario_text.proofs.SoundScenarios.{sound}
+use Rattle.scenario_text.specs.ScenarioParts.{ScenarioParts}
+use Rattle.radio_model.specs.Hearing.{Scene, Hears}
+use Rattle.radio_model.specs.OnAir.{Sending}
+use Rattle.air_log.specs.declared.entry.Entry.{Entry}
+use Rattle.air_log.specs.HearsAir.{scene_of}
+use Rattle.air_log.specs.Trails.{run_end}
+use Rattle.air_check.specs.Indexes.{IsIndex}
+use Rattle.air_check.specs.Receptions.{AreNear}
+use Rattle.air_check.specs.Verdicts.{IsGiven}
+use Rattle.air_check.specs.declared.index.Index.{Index}
+
+pub near_early : (sent near : List Sending) (x : Sending) (end : ℕ) → AreNear sent x near → All (λ (y : Sending). y.start < end) sent → end ≤ 2 ^ 46
+    → All (λ (y : Sending). y.start ≤ 2 ^ 46) near
+near_early sent near x end are early by k d below =
+    let so = All-contains (λ (y : Sending). y.start < end) sent (get_or near k d) early (are.among (get_or near k d) (Contains-get_or near k d below)) in
+    omega (arith, so, by)
+
+pub near_in_air : (air : List Entry) (s : ScenarioParts) (i : Index) (near : List Sending) (x : Sending) → IsIndex air i → AreNear i.sent.items x near
+    → AreNear (scene_of s.profile s.trace air).sendings x near
+near_in_air air s i near x is are = record {
+  among = λ y there. is.sent y (are.among y there);
+  all = λ y there meets. are.all y (is.all_sent y there) meets;
+}
+
+pub given_so : (s : ScenarioParts) (air : List Entry) (v : ℕ) (x : Sending) (result : Bool) → x.end < run_end s
+    → (result ≡ true ↔ Hears (scene_of s.profile s.trace air) v x) → (result ≡ true ↔ IsGiven s air v x)
+given_so s air v x result ends hears = (λ so. record { ends = ends; heard = hears.0 so }, λ given. hears.1 given.heard)
+
+pub short_run : (s : ScenarioParts) → IsScenario s → run_end s ≤ 2 ^ 46
+short_run s said =
+    let all = sound s said in
+    let few = all.few_frames in
+    let frame : s.profile.frame ≤ 320000000 = elim all.profile [
+      | inl one ↦ (let is = ap (λ (p : Numbers). p.frame) one in omega arith)
+      | inr two ↦ (let is = ap (λ (p : Numbers). p.frame) two.0 in omega arith)
+    ] in
+    let most = mul-le-mul_right s.profile.frame few in
+    let more = mul-le-mul_left 4096 frame in
+    omega (arith, most, more)

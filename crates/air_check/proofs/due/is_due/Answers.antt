@@ -1,0 +1,36 @@
+use Rattle.std.proofs.Common.{◌≡◌, ◌∙◌, sym, subst, not, Bool, ◌↔◌, true, Contains, get_or}
+use Rattle.radio_model.proofs.Members.{same_default}
+use Rattle.radio_model.specs.OnAir.{Sending}
+use Rattle.air_check.specs.Flags.{IsDue}
+use Rattle.air_check.specs.Verdicts.{IsGiven}
+use Rattle.air_check.proofs.DueOnes.{where_not, where_there}
+use Rattle.air_check.proofs.due.is_due.Goals as goal
+
+pub returns-then-not-is_received : goal.returns-then-not-is_received
+returns-then-not-is_received c =
+    λ air hs d is are.
+    let s = c.args.s.now in
+    let sent = c.args.index.now.sent.items in
+    let v = c.args.node in
+    let k = c.args.place in
+    let x = get_or sent k d in
+    where_not s air hs v x c.is_received.result
+    (subst (λ (b : Bool). (b ≡ true) ↔ Contains hs (record { node = v; sending = x })) (sym c.is_received.ensures.value)
+    (are.each k v d c.requires.place c.is_received.ensures.range))
+    c.if-not-is_received.true c.is_given.result
+    (subst (λ (y : Sending). (c.is_given.result ≡ true) ↔ IsGiven s air v y) (c.index.ensures ∙ same_default sent k c.index.result.now d c.requires.place)
+    (c.is_given.ensures air is))
+
+pub returns-else-not-is_received : goal.returns-else-not-is_received
+returns-else-not-is_received c =
+    λ air hs d is are.
+    let s = c.args.s.now in
+    let sent = c.args.index.now.sent.items in
+    let v = c.args.node in
+    let k = c.args.place in
+    let x = get_or sent k d in
+    subst (λ (b : Bool). IsDue s air hs v x (not b)) (sym c.if-not-is_received.false)
+    (where_there s air hs v x c.is_received.result
+    (subst (λ (b : Bool). (b ≡ true) ↔ Contains hs (record { node = v; sending = x })) (sym c.is_received.ensures.value)
+    (are.each k v d c.requires.place c.is_received.ensures.range))
+    c.if-not-is_received.false)

@@ -1,0 +1,40 @@
+//! The verdict on a recorded log.
+
+ghost use Rattle.std.specs.Prelude.{◌≡◌, ◌↔◌, IfOk};
+ghost use Rattle.scenario_clocks.specs.StatedClocks.{scenario_clock};
+ghost use Rattle.air_log.specs.Lawful.{Lawful as LawfulLog};
+ghost use Rattle.air_check.specs.Verdicts.{IsVerdict};
+ghost use Rattle.air_check.specs.declared.verdict.Verdict.TheVariants.{Lawful as LawfulOf};
+
+use crate::Verdict;
+use crate::astray::first_astray;
+use crate::missing::{Missed, first_missing};
+use crate::wrong::first_wrong;
+use air_log::Air;
+use lwb_base::Memory;
+use scenario_text::Scenario;
+use std::alloc::Global;
+
+/// What is wrong first with a log of a scenario, over the clocks that the scenario states, or `Lawful`. It is of any log, also of
+/// one that no run leaves. `Err` means out of memory.
+pub fn check(alloc: Global, s: &Scenario, air: &Air) -> Result<Verdict, Memory>
+    ensures verdict { IfOk result (λ v. IsVerdict s.now (scenario_clock s.now) air.now v) }
+    ensures lawful { IfOk result (λ v. v ≡ LawfulOf ↔ LawfulLog s.now (scenario_clock s.now) air.now) }
+{
+    if let Some(node) = first_astray(alloc, s, air)? {
+        return Ok(Verdict::Trail(node));
+    }
+    if let Some(place) = first_wrong(alloc, s, air)? {
+        return Ok(Verdict::Heard(place));
+    }
+    match first_missing(alloc, s, air)? {
+        Some(
+            Missed {
+                receiver,
+                sender,
+                start,
+            },
+        ) => Ok(Verdict::Missing(receiver, sender, start)),
+        None => Ok(Verdict::Lawful),
+    }
+}

@@ -1,0 +1,31 @@
+//! Which transmissions of a log can overlap one of them.
+
+ghost use Rattle.std.specs.Prelude.{◌≡◌, ◌+◌, ◌≤◌, All, AllPairs, Contains};
+ghost use Rattle.radio_model.specs.Hearing.{Before};
+ghost use Rattle.air_check.specs.Receptions.{AreNear};
+
+use radio_model::sending::Sending;
+
+/// The longest time that one of them is on the air, in ticks.
+pub(crate) fn longest(sent: &[Sending]) -> u64
+    ensures { All (λ y. y.end ≤ y.start + result) sent.now }
+{
+    let mut longest = 0;
+    for y in sent {
+        longest = y.end.saturating_sub(y.start).max(longest);
+    }
+    longest
+}
+
+/// The transmissions that can overlap x: they start before its end, and no longer before its start than one lasts.
+pub(crate) fn near<'a>(sent: &'a [Sending], longest: u64, x: &Sending) -> &'a [Sending]
+    requires in_order { AllPairs Before sent.now }
+    requires longest { All (λ y. y.end ≤ y.start + longest) sent.now }
+    ensures { AreNear sent.now x.now result.now }
+{
+    let earliest = x.start.saturating_sub(longest);
+    let first = sent.partition_point(|y| y.start < earliest);
+    let rest = &sent[first..];
+    let count = rest.partition_point(|y| y.start < x.end);
+    &rest[..count]
+}

@@ -1,0 +1,144 @@
+//! What the transmissions do to a reception that overlap it.
+
+ghost use Rattle.std.specs.Prelude.{◌≡◌, ◌≤◌, ◌^◌, All, true};
+ghost use Rattle.std.specs.List.{list_any};
+ghost use Rattle.std.specs.Str.{bytes_eq};
+ghost use Rattle.link_trace.specs.Passes.{captured};
+ghost use Rattle.radio_model.specs.Hearing.{frame_of, slot_of, counter_of};
+ghost use Rattle.radio_model.specs.Meetings.{comes_in_time as in_time};
+ghost use Rattle.radio_model.specs.Stations.{overlaps as overlap_of};
+ghost use Rattle.air_check.specs.Receptions.{transmits, arrives as arrival, reaches as reach, repeats as repetition, differs, spoils, repeats_from, is_captured as captured_by};
+
+use link_trace::Trace;
+use lwb_base::{NodeId, Profile};
+use radio_model::sending::Sending;
+
+/// Whether the node itself transmits while x is on the air.
+pub(crate) fn is_busy(near: &[Sending], node: NodeId, x: &Sending) -> bool
+    ensures { result ≡ list_any (transmits node x.now) near.now }
+{
+    near.iter().any(|y| y.node == node && overlap(x, y))
+}
+
+/// Whether the link passes from the sender of y to the node.
+pub(crate) fn arrives(profile: &Profile, trace: &Trace, node: NodeId, y: &Sending) -> bool
+    requires { y.now.start ≤ 2 ^ 46 }
+    ensures { result ≡ arrival profile.now trace.now.lines node y.now }
+{
+    let frame = (y.start / profile.frame()) as u32;
+    trace.passes(frame, y.packet.slot(), y.packet.counter(), y.node, node)
+}
+
+/// Whether the packet of x comes to the node earlier than x, or too late after it.
+pub(crate) fn is_spoiled(
+    profile: &Profile,
+    trace: &Trace,
+    near: &[Sending],
+    node: NodeId,
+    x: &Sending,
+) -> bool
+    requires start { x.now.start ≤ 2 ^ 46 }
+    requires starts { All (λ y. y.start ≤ 2 ^ 46) near.now }
+    ensures { result ≡ list_any (spoils profile.now trace.now.lines node x.now) near.now }
+{
+    for y in near {
+        if repeats(profile, trace, node, x, y) && !comes_in_time(profile, x, y) {
+            return true;
+        }
+    }
+    false
+}
+
+/// Whether another packet comes to the node on the channel of x while x does.
+pub(crate) fn is_mixed(
+    profile: &Profile,
+    trace: &Trace,
+    near: &[Sending],
+    node: NodeId,
+    x: &Sending,
+) -> bool
+    requires { All (λ y. y.start ≤ 2 ^ 46) near.now }
+    ensures { result ≡ list_any (differs profile.now trace.now.lines node x.now) near.now }
+{
+    for y in near {
+        if reaches(profile, trace, node, x, y) && !same_packet(x, y) {
+            return true;
+        }
+    }
+    false
+}
+
+/// Whether the trace names for the node a sender from which the packet of x comes while x does.
+pub(crate) fn is_captured(
+    profile: &Profile,
+    trace: &Trace,
+    near: &[Sending],
+    node: NodeId,
+    x: &Sending,
+) -> bool
+    requires start { x.now.start ≤ 2 ^ 46 }
+    requires starts { All (λ y. y.start ≤ 2 ^ 46) near.now }
+    ensures { result ≡ captured_by profile.now trace.now.lines node x.now near.now
+        (captured trace.now.lines (frame_of profile.now x.now) (slot_of x.now) (counter_of x.now) node) }
+{
+    let frame = (x.start / profile.frame()) as u32;
+    match trace.captured(frame, x.packet.slot(), x.packet.counter(), node) {
+        Some(sender) => comes_from(profile, trace, near, node, x, sender),
+        None => false,
+    }
+}
+
+// Whether the packet of x comes to the node from that sender while x does.
+fn comes_from(
+    profile: &Profile,
+    trace: &Trace,
+    near: &[Sending],
+    node: NodeId,
+    x: &Sending,
+    sender: NodeId,
+) -> bool
+    requires { All (λ y. y.start ≤ 2 ^ 46) near.now }
+    ensures { result ≡ list_any (repeats_from profile.now trace.now.lines node x.now sender) near.now }
+{
+    for y in near {
+        if repeats(profile, trace, node, x, y) && y.node == sender {
+            return true;
+        }
+    }
+    false
+}
+
+fn repeats(profile: &Profile, trace: &Trace, node: NodeId, x: &Sending, y: &Sending) -> bool
+    requires { y.now.start ≤ 2 ^ 46 }
+    ensures { result ≡ repetition profile.now trace.now.lines node x.now y.now }
+{
+    reaches(profile, trace, node, x, y) && same_packet(x, y)
+}
+
+fn reaches(profile: &Profile, trace: &Trace, node: NodeId, x: &Sending, y: &Sending) -> bool
+    requires { y.now.start ≤ 2 ^ 46 }
+    ensures { result ≡ reach profile.now trace.now.lines node x.now y.now }
+{
+    y.rank == x.rank && overlap(x, y) && arrives(profile, trace, node, y)
+}
+
+fn same_packet(x: &Sending, y: &Sending) -> bool
+    ensures { result ≡ bytes_eq y.now.packet x.now.packet }
+{
+    y.packet.bytes() == x.packet.bytes()
+}
+
+fn overlap(x: &Sending, y: &Sending) -> bool
+    ensures { result ≡ overlap_of x.now y.now }
+{
+    x.start < y.end && y.start < x.end
+}
+
+// Whether y starts with x or after it, by start and then sender, and soon enough to be received as one with it.
+fn comes_in_time(profile: &Profile, x: &Sending, y: &Sending) -> bool
+    requires { x.now.start ≤ 2 ^ 46 }
+    ensures { result ≡ in_time profile.now x.now y.now }
+{
+    let is_first = x.start < y.start || x.start == y.start && x.node <= y.node;
+    is_first && y.start <= x.start + profile.delta()
+}

@@ -1,0 +1,40 @@
+//! Whether two lists of entries are one.
+
+ghost use Rattle.std.specs.Prelude.{◌≡◌, ◌<◌, length, map};
+ghost use Rattle.std.specs.Bool.{Decides};
+ghost use Rattle.air_log.specs.DeviceStates.{tuning_of};
+ghost use Rattle.air_log.specs.TrailsTold.{sending_of};
+
+use air_log::{SentEntry, TunedEntry};
+
+/// Whether these are the same transmissions in the same order.
+pub fn are_same_sent(made: &[SentEntry], logged: &[SentEntry]) -> bool
+    ensures { Decides result (map sending_of made.now ≡ map sending_of logged.now) }
+{
+    if made.len() != logged.len() {
+        return false;
+    }
+    for (i, sent) in made.iter().enumerate() {
+        if !is_same_sent(sent, &logged[i]) {
+            return false;
+        }
+    }
+    true
+}
+
+fn is_same_sent(a: &SentEntry, b: &SentEntry) -> bool
+    ensures { Decides result (sending_of a.now ≡ sending_of b.now) }
+{
+    a.rank == b.rank
+        && a.node == b.node
+        && a.start == b.start
+        && a.end == b.end
+        && a.packet.bytes() == b.packet.bytes()
+}
+
+/// Whether these are the same tunings in the same order.
+pub fn are_same_tuned(made: &[TunedEntry], logged: &[TunedEntry]) -> bool
+    ensures { Decides result (map tuning_of made.now ≡ map tuning_of logged.now) }
+{
+    made == logged
+}

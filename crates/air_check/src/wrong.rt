@@ -1,0 +1,67 @@
+//! The first reception of a log that is wrong.
+
+ghost use Rattle.std.specs.Prelude.{◌≡◌, ◌*◌, List, IfOk, IfSome, IfNone, length};
+ghost use Rattle.scenario_clocks.specs.StatedClocks.{scenario_clock};
+ghost use Rattle.air_log.specs.declared.entry.Entry.{Entry};
+ghost use Rattle.air_log.specs.Entries.{hearings_of};
+ghost use Rattle.air_log.specs.Courses.{hearing_of};
+ghost use Rattle.air_log.specs.Lawful.{FollowsTrails};
+ghost use Rattle.radio_model.specs.OnAir.{Hearing};
+ghost use Rattle.air_check.specs.Flags.{AreFlags, TakesIn, GoesOn};
+ghost use Rattle.air_check.specs.Indexes.{IsIndex, IsSearchable};
+ghost use Rattle.air_check.specs.Verdicts.{IsFirstWrong, AreGiven};
+
+use crate::due::is_due;
+use crate::flags::{heard_in, none_received, place_of, receive};
+use crate::index::{Index, entry_at, index_of};
+use air_log::{Air, Entry, HeardEntry};
+use lwb_base::Memory;
+use scenario_text::Scenario;
+use std::alloc::Global;
+
+/// The first entry, counted from 1, that is a reception which the rules of the medium don't give, or which is above already.
+/// None where each reception is given, and is there once. `Err` means out of memory.
+pub(crate) fn first_wrong(alloc: Global, s: &Scenario, air: &Air) -> Result<Option<usize>, Memory>
+    requires { FollowsTrails s.now (scenario_clock s.now) air.now }
+    ensures some { IfOk result (λ o. IfSome o (λ i. IsFirstWrong s.now air.now i)) }
+    ensures none { IfOk result (λ o. IfNone o (AreGiven s.now air.now air.now)) }
+{
+    let index = index_of(alloc, s, air)?;
+    let mut flags = none_received(alloc, &index.sent)?;
+    for i in 0..air.len() {
+        if !is_right(s, &index, &mut flags, entry_at(air, i)) {
+            return Ok(Some(i + 1));
+        }
+    }
+    Ok(None)
+}
+
+// Whether an entry is no reception, or one that is given and new.
+fn is_right(s: &Scenario, index: &Index, flags: &mut Vec<bool>, entry: &Entry) -> bool
+    requires searchable { IsSearchable s.now index.now }
+    requires size { length flags.old.items ≡ length index.now.sent.items * 201 }
+    ensures { (air above : List Entry) → IsIndex air index.now → AreFlags index.now.sent.items (hearings_of above) flags.old.items
+        → GoesOn s.now air index.now.sent.items above entry.now flags.new.items result }
+{
+    match heard_in(entry) {
+        Some(h) => take_in(s, index, flags, h),
+        None => true,
+    }
+}
+
+// Whether a reception is given and new; if so it is there from now on.
+fn take_in(s: &Scenario, index: &Index, flags: &mut Vec<bool>, h: &HeardEntry) -> bool
+    requires searchable { IsSearchable s.now index.now }
+    requires size { length flags.old.items ≡ length index.now.sent.items * 201 }
+    ensures { (air : List Entry) (hs : List Hearing) → IsIndex air index.now → AreFlags index.now.sent.items hs flags.old.items
+        → TakesIn s.now air index.now.sent.items hs (hearing_of h.now) flags.new.items result }
+{
+    let Some(k) = place_of(&index.sent, h) else {
+        return false;
+    };
+    if !is_due(s, index, flags, h.node, k) {
+        return false;
+    }
+    receive(&index.sent, flags, h);
+    true
+}
