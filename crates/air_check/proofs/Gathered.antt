@@ -1,10 +1,10 @@
 -- What a log holds, one entry more at a time, and in what order it is put.
-use Rattle.std.proofs.Common.{◌≡◌, ℕ, ◌+◌, ◌<◌, ◌≤◌, ◌^◌, List, [], ◌∷◌, ◌++◌, take, map, length, get_or, Bool, true, false, ◌==◌}
-use Rattle.std.proofs.Common.{if◌then◌else◌, nat_lt, Option, Some, None, option_map, option_to_list, filter_map, refl, sym, ◌∙◌, ap, subst, arith, inl, inr}
-use Rattle.std.proofs.Common.{lt-ltb, true≢false, eq-eqb, Contains, All, AllPairs}
+use Rattle.std.proofs.Common.{◌≡◌, ℕ, ◌+◌, ◌<◌, ◌≤◌, List, [], ◌++◌, take, map, length, get_or, Bool, true, false, ◌==◌}
+use Rattle.std.proofs.Common.{if◌then◌else◌, Option, Some, None, option_map, option_to_list, filter_map, refl, sym, ◌∙◌, ap, arith, inl, inr}
+use Rattle.std.proofs.Common.{true≢false, eq-eqb, Contains, All, AllPairs}
 use Rattle.std.specs.Prelude.{IsPermutation}
 use Rattle.std.specs.List.Sorted.{IsSortedBy}
-use Rattle.std.specs.Cmp.{IsStrictWeakOrder, nat_cmp_is, nat_cmp_total, on_total, then_total}
+use Rattle.std.specs.Cmp.{IsStrictWeakOrder, nat_cmp_total, on_total, then_total}
 use Rattle.std.specs.Ordering.{nat_cmp, ordering_then, is_lt}
 use Rattle.std.proofs.lemmas.Bool.{cases_order, cases_lt}
 use Rattle.std.proofs.lemmas.Bool.Decides.{nat_tests}

@@ -3,23 +3,22 @@ use Rattle.std.proofs.Common.{◌≡◌, ℕ, ◌+◌, ◌<◌, ◌≤◌, ◌�
 use Rattle.std.proofs.Common.{refl, sym, ◌∙◌, ap, subst, arith, Contains, All, AllPairs, length-take-le}
 use Rattle.std.specs.List.{list_any}
 use Rattle.std.proofs.lemmas.Bool.{and_parts, eqb-true, cases_order, cases_Bool}
-use Rattle.std.proofs.lemmas.List.{get_or-take, take_more}
+use Rattle.std.proofs.lemmas.List.{get_or-take}
 use Rattle.std.proofs.lemmas.List.Elements.{All-contains}
 use Rattle.link_trace.specs.Passes.{passes, is_link, is_loss, cut_off}
 use Rattle.link_trace.specs.declared.lines.LinkLine.{LinkLine}
-use Rattle.scenario_text.specs.FloodParts.{knows}
 use Rattle.scenario_text.specs.ScenarioFacts.{IsSoundScenario, AreEnds}
 use Rattle.scenario_text.specs.ScenarioParts.{ScenarioParts}
 use Rattle.scenario_text.specs.declared.lines.NodeLine.{NodeLine}
 use Rattle.radio_model.specs.Hearing.{Before}
-use Rattle.radio_model.specs.OnAir.{Hearing, Sending}
+use Rattle.radio_model.specs.OnAir.{Sending}
 use Rattle.radio_model.proofs.Members.{some_of, same_default}
 use Rattle.air_log.specs.declared.entry.Entry.{Entry}
-use Rattle.air_log.specs.Entries.{sendings_of, hearings_of, IsHeard}
+use Rattle.air_log.specs.Entries.{hearings_of, IsHeard}
 use Rattle.air_log.specs.Lawful.{FollowsTrails}
 use Rattle.air_check.specs.Flags.{flag, AreFlags, IsFirstOf}
-use Rattle.air_check.specs.Indexes.{IsIndex, IsSearchable}
-use Rattle.air_check.specs.Verdicts.{IsGiven, IsMissing, NoLater, IsFirstMissing}
+use Rattle.air_check.specs.Indexes.{IsIndex}
+use Rattle.air_check.specs.Verdicts.{IsGiven, IsMissing, IsFirstMissing}
 use Rattle.air_check.specs.declared.index.Index.{Index}
 use Rattle.air_check.proofs.Gathered.{one_of_node}
 

@@ -1,5 +1,5 @@
 -- Entries of a log that are right, one more at a time.
-use Rattle.std.proofs.Common.{◌≡◌, ◌≢◌, ℕ, ◌+◌, ◌-◌, ◌<◌, ◌≤◌, ◌⊎◌, inl, inr, List, [], ◌∷◌, ◌++◌, take, drop, length, get_or, Bool, true, false}
+use Rattle.std.proofs.Common.{◌≡◌, ◌≢◌, ℕ, ◌+◌, ◌<◌, inl, inr, List, [], ◌∷◌, ◌++◌, take, drop, length, get_or, Bool, true, false}
 use Rattle.std.proofs.Common.{Option, Some, None, option_to_list, refl, sym, ◌∙◌, ap, subst, arith, Contains, AllPairs, append-nil, length-append, length-take-le, take-append-drop}
 use Rattle.std.proofs.lemmas.Bool.{cases_lt}
 use Rattle.std.proofs.lemmas.List.{get_or_append_left, get_or_push, drop_more}
@@ -10,7 +10,7 @@ use Rattle.radio_model.proofs.Members.{not_in_none}
 use Rattle.radio_model.proofs.RivalLists.{one_kept}
 use Rattle.air_log.specs.declared.entry.Entry.{Entry}
 use Rattle.air_log.specs.declared.entry.Entry.TheVariants.{Sent, Heard, Tuned}
-use Rattle.air_log.specs.Entries.{hearing_in, hearings_of, heard_entry, IsHeard}
+use Rattle.air_log.specs.Entries.{hearing_in, hearings_of, heard_entry}
 use Rattle.air_check.specs.Flags.{AreFlags, TakesIn, GoesOn, IsWrong}
 use Rattle.air_check.specs.Verdicts.{IsGiven, AreGiven, IsFirstWrong}
 

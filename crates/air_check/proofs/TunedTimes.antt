@@ -1,10 +1,10 @@
 -- The search in the tunings of a log tells until when a node is on a channel.
-use Rattle.std.proofs.Common.{◌≡◌, ℕ, ◌+◌, ◌-◌, ◌<◌, ◌≤◌, ◌⊎◌, inl, inr, List, length, Bool, true, false, ◌&&◌, ◌||◌, ◌==◌, nat_lt, nat_le}
-use Rattle.std.proofs.Common.{Option, Some, None, IfSome, IfNone, refl, sym, ◌∙◌, ap, subst, arith, Contains, get_or, AllPairs, eq-eqb, true≢false}
-use Rattle.std.proofs.lemmas.Bool.{and_parts, and_from, or_cases, or_left, or_right, eqb-true, ltb-true, lt-ltb, leb-true, le-leb, cases_lt, cases_eq}
+use Rattle.std.proofs.Common.{◌≡◌, ℕ, ◌-◌, ◌<◌, ◌≤◌, ◌⊎◌, inl, inr, List, length, true, false, ◌&&◌, ◌||◌, ◌==◌, nat_lt, nat_le}
+use Rattle.std.proofs.Common.{Option, Some, None, IfSome, IfNone, sym, ◌∙◌, ap, subst, arith, Contains, get_or, AllPairs, eq-eqb, true≢false}
+use Rattle.std.proofs.lemmas.Bool.{and_parts, and_from, or_cases, or_left, or_right, eqb-true, ltb-true, lt-ltb, leb-true, le-leb, cases_lt}
 use Rattle.std.specs.List.Sorted.{IsPartitionedBy, IsPartitionPoint}
 use Rattle.radio_model.specs.Hearing.{Scene, IsTuned}
-use Rattle.air_check.specs.Tunings.{IsNoLater, IsOf, IsIn, AreTuned, IsUntil, begins_by}
+use Rattle.air_check.specs.Tunings.{IsNoLater, AreTuned, IsUntil, begins_by}
 use Rattle.air_check.specs.declared.tunings.Tuned.{Tuned}
 
 module _ (v channel t : ℕ) where

@@ -1,12 +1,12 @@
 -- Which transmissions can overlap one: a stretch of those by start.
-use Rattle.std.proofs.Common.{◌≡◌, ℕ, ◌+◌, ◌-◌, ◌<◌, ◌≤◌, List, length, take, drop, inl, inr, Bool, true, false, nat_lt, nat_le, refl, sym, ◌∙◌, ap, subst, arith}
-use Rattle.std.proofs.Common.{All, AllPairs, Contains, get_or, true≢false, length-drop, length-take-le}
+use Rattle.std.proofs.Common.{◌≡◌, ℕ, ◌+◌, ◌-◌, ◌<◌, ◌≤◌, List, length, take, drop, inl, inr, true, false, nat_lt, nat_le, sym, ◌∙◌, ap, subst, arith}
+use Rattle.std.proofs.Common.{All, AllPairs, get_or, true≢false, length-drop, length-take-le}
 use Rattle.std.proofs.lemmas.Bool.{cases_lt, ltb-true, lt-ltb, le-leb}
 use Rattle.std.proofs.lemmas.List.{get_or-take, get_or-drop}
-use Rattle.std.proofs.lemmas.List.Elements.{All-more, All-weaker, All-take, All-contains}
+use Rattle.std.proofs.lemmas.List.Elements.{All-more, All-weaker, All-contains}
 use Rattle.std.proofs.lemmas.List.Sorted.{IsPartitionedBy-ltb, IsPartitionedBy-leb, IsNonDecreasingBy-drop}
 use Rattle.std.specs.List.Sorted.{IsPartitionedBy, IsPartitionPoint, IsNonDecreasingBy}
-use Rattle.radio_model.specs.Hearing.{Before, Meets}
+use Rattle.radio_model.specs.Hearing.{Before}
 use Rattle.radio_model.specs.OnAir.{Sending}
 use Rattle.air_check.specs.Receptions.{AreNear}
 

@@ -1,5 +1,5 @@
 -- What decides whether a node receives a transmission, over transmissions among which are all that overlap it.
-use Rattle.std.specs.Prelude.{◌≡◌, ℕ, ◌<◌, List, Bool, false, not, ◌&&◌, ◌||◌, ◌==◌, Option, Some, None, Contains}
+use Rattle.std.specs.Prelude.{ℕ, List, Bool, false, not, ◌&&◌, ◌||◌, ◌==◌, Option, Some, None, Contains}
 use Rattle.std.specs.List.{list_any}
 use Rattle.std.specs.Str.{bytes_eq}
 use Rattle.lwb_base.specs.Profile.{Numbers}
