@@ -42,8 +42,8 @@ module _ (s : ScenarioParts) (sound : IsSoundScenario s) where
 in_taken : {X : Type 0} (xs : List X) (i k : ℕ) (x : X) → k < i → i ≤ length xs → get_or xs k x ≡ x → Contains (take i xs) x
 in_taken xs i k x less within at = (k, omega (arith, less, length-take-le i xs within), get_or-take i xs k x less ∙ at)
 
-pub least : (nodes : List NodeLine) (i : ℕ) (line : NodeLine) → AllPairs (λ (a b : NodeLine). a.node < b.node) nodes → i < length nodes → line ≡ get_or nodes i line
-    → (n : NodeLine) → Contains nodes n → (Contains (take i nodes) n → ⊥) → line.node ≤ n.node
+pub least : (nodes : List NodeLine) (i : ℕ) (line : NodeLine) → AllPairs (λ (a b : NodeLine). a.node < b.node) nodes → i < length nodes
+    → line ≡ get_or nodes i line → (n : NodeLine) → Contains nodes n → (Contains (take i nodes) n → ⊥) → line.node ≤ n.node
 least nodes i line ascends below is n (k, within, at) never =
     elim (cases_order k i) [
       | inl here ↦
@@ -97,8 +97,8 @@ module _ (s : ScenarioParts) (clocks : ℕ → ℕ → ℕ) (air : List Entry) (
         ];
   }
 
-pub all_there : (s : ScenarioParts) (air : List Entry) (i : Index) (flags : List Bool) → IsIndex air i → AreFlags i.sent.items (hearings_of air) flags → IsSoundScenario s
-    → (k : ℕ) → length i.sent.items ≤ k → ((j w : ℕ) (d : Sending) → j < k → IsMissing s air w (get_or i.sent.items j d) → ⊥)
+pub all_there : (s : ScenarioParts) (air : List Entry) (i : Index) (flags : List Bool) → IsIndex air i → AreFlags i.sent.items (hearings_of air) flags
+    → IsSoundScenario s → (k : ℕ) → length i.sent.items ≤ k → ((j w : ℕ) (d : Sending) → j < k → IsMissing s air w (get_or i.sent.items j d) → ⊥)
     → (v : ℕ) (x : Sending) → IsGiven s air v x → IsHeard air v x
 all_there s air i flags is are sound k over none v x given =
     let there = is.all_sent x given.heard.sent in

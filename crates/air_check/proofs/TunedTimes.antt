@@ -28,7 +28,8 @@ module _ (v channel t : ℕ) where
   ]
 
   begun_so : (e : Tuned) → Begins e → begins_by v channel t e ≡ true
-  begun_so e (inl less) = or_left (nat_lt e.node v) ((e.node == v) && (nat_lt e.rank channel || ((e.rank == channel) && nat_le e.start t))) (lt-ltb e.node v less)
+  begun_so e (inl less) =
+      or_left (nat_lt e.node v) ((e.node == v) && (nat_lt e.rank channel || ((e.rank == channel) && nat_le e.start t))) (lt-ltb e.node v less)
   begun_so e (inr (node, inl less)) =
       or_right (nat_lt e.node v) ((e.node == v) && (nat_lt e.rank channel || ((e.rank == channel) && nat_le e.start t)))
       (and_from (e.node == v) (nat_lt e.rank channel || ((e.rank == channel) && nat_le e.start t)) (eq-eqb e.node v node)
@@ -76,7 +77,8 @@ module _ (v channel t : ℕ) where
         elim (cases_lt e.place begun) [
           | inl below ↦ below
           | inr not ↦ absurd (true≢false (sym (begun_so (get_or es e.place d)
-              (inr (e.node d ∙ on.node, inr (e.rank d ∙ on.rank, (let s = e.start d in let since = on.since in omega arith))))) ∙ point.1 e.place d not e.below))
+              (inr (e.node d ∙ on.node, inr (e.rank d ∙ on.rank, (let s = e.start d in let since = on.since in omega arith)))))
+              ∙ point.1 e.place d not e.below))
         ]
 
     pub none_begun : begun ≡ 0 → IsTuned a v channel t → ⊥

@@ -31,7 +31,8 @@ pub starts_before : (sent : List Sending) (t : ℕ) → AllPairs Before sent →
 starts_before sent t in_order = IsPartitionedBy-ltb start_of sent t (by_start sent in_order)
 
 pub rest_starts_before : (sent : List Sending) (t first : ℕ) → AllPairs Before sent → IsPartitionedBy (λ (y : Sending). nat_lt y.start t) (drop first sent)
-rest_starts_before sent t first in_order = IsPartitionedBy-ltb start_of (drop first sent) t (IsNonDecreasingBy-drop start_of first sent (by_start sent in_order))
+rest_starts_before sent t first in_order =
+    IsPartitionedBy-ltb start_of (drop first sent) t (IsNonDecreasingBy-drop start_of first sent (by_start sent in_order))
 
 module _ (sent : List Sending) (longest : ℕ) (x : Sending) (in_order : AllPairs Before sent) (long : All (λ (y : Sending). y.end ≤ y.start + longest) sent)
     (earliest first count : ℕ) (within : first ≤ length sent) (few : count ≤ length (drop first sent)) (since : earliest ≤ x.start - longest)
