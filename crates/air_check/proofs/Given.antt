@@ -12,7 +12,7 @@ use Rattle.air_log.specs.declared.entry.Entry.{Entry}
 use Rattle.air_log.specs.HearsAir.{scene_of}
 use Rattle.air_log.specs.Trails.{run_end}
 use Rattle.air_check.specs.Indexes.{IsIndex}
-use Rattle.air_check.specs.Receptions.{AreNear}
+use Rattle.radio_model.specs.Receptions.{AreNear}
 use Rattle.air_check.specs.Verdicts.{IsGiven}
 use Rattle.air_check.specs.declared.index.Index.{Index}
 

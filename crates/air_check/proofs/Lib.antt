@@ -11,9 +11,7 @@ mod NodeLogs
 mod FoundClocks
 mod IdsInOrder
 mod SameEntries
-mod Received
 mod TunedTimes
-mod Windows
 mod Given
 mod Gathered
 mod Marked

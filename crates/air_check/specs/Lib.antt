@@ -5,7 +5,6 @@ pub mod Verdicts
 pub mod NodeLogs
 pub mod NodeClocks
 pub mod WorkedVerdicts
-pub mod Receptions
 pub mod Tunings
 pub mod Indexes
 pub mod Flags

@@ -11,7 +11,7 @@ ghost use Rattle.air_log.specs.Lawful.{FollowsTrails};
 ghost use Rattle.air_check.specs.Indexes.{IsIndex, IsSearchable};
 ghost use Rattle.air_check.specs.Verdicts.{IsGiven};
 
-use crate::near::{longest, near};
+use radio_model::near::{longest, near};
 use crate::receives::receives;
 use crate::tuned_index::tuned_of;
 use crate::tunings::Tuned;

@@ -2,13 +2,13 @@
 
 ghost use Rattle.std.specs.Prelude.{◌≡◌, ◌↔◌, ◌≤◌, ◌^◌, All, Contains, true};
 ghost use Rattle.radio_model.specs.Hearing.{Scene, Hears};
-ghost use Rattle.air_check.specs.Receptions.{AreNear, comes_through as passes_through};
+ghost use Rattle.radio_model.specs.Receptions.{AreNear};
 ghost use Rattle.air_check.specs.Tunings.{AreTuned};
 
-use crate::rivals::{arrives, is_busy, is_captured, is_mixed, is_spoiled};
 use crate::tunings::{Tuned, is_tuned_through};
 use link_trace::Trace;
 use lwb_base::{NodeId, Profile};
+use radio_model::reception::comes_through;
 use radio_model::sending::Sending;
 
 /// Whether the node receives x, where all transmissions are near that overlap it.
@@ -26,22 +26,4 @@ pub(crate) fn receives(
         → Contains a.sendings x.now → (result ≡ true ↔ Hears a node x.now) }
 {
     is_tuned_through(tuned, node, x) && comes_through(profile, trace, near, node, x)
-}
-
-// Whether x comes to the node and nothing on the air keeps it from being received.
-fn comes_through(
-    profile: &Profile,
-    trace: &Trace,
-    near: &[Sending],
-    node: NodeId,
-    x: &Sending,
-) -> bool
-    requires start { x.now.start ≤ 2 ^ 46 }
-    requires starts { All (λ y. y.start ≤ 2 ^ 46) near.now }
-    ensures { result ≡ passes_through profile.now trace.now.lines node x.now near.now }
-{
-    arrives(profile, trace, node, x)
-        && !is_busy(near, node, x)
-        && !is_spoiled(profile, trace, near, node, x)
-        && (!is_mixed(profile, trace, near, node, x) || is_captured(profile, trace, near, node, x))
 }

@@ -41,5 +41,5 @@ pub mod HearersInOrder
 pub mod SameHistory
 pub mod Named
 pub mod WorkedHearings
-mod OverlapWindows
+pub mod OverlapWindows
 mod Received

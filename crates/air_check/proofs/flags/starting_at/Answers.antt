@@ -2,7 +2,7 @@ use Rattle.std.proofs.Common.{◌≡◌, ◌-◌, nat_lt, nat_le, length, take, 
 use Rattle.std.proofs.lemmas.List.{take_all}
 use Rattle.std.proofs.lemmas.List.Sorted.{IsPartitionPoint-from_clause}
 use Rattle.radio_model.specs.OnAir.{Sending}
-use Rattle.air_check.proofs.Windows.{starts_before, rest_starts_by, starting}
+use Rattle.radio_model.proofs.OverlapWindows.{starts_before, rest_starts_by, starting}
 use Rattle.air_check.proofs.flags.starting_at.Goals as goal
 
 pub returns-clause-all : goal.returns-clause-all

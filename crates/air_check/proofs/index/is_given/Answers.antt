@@ -3,7 +3,7 @@ use Rattle.radio_model.specs.OnAir.{Sending}
 use Rattle.std.proofs.lemmas.List.Elements.{All-contains}
 use Rattle.air_log.specs.Trails.{run_end}
 use Rattle.air_log.specs.HearsAir.{scene_of}
-use Rattle.air_check.specs.Receptions.{AreNear}
+use Rattle.radio_model.specs.Receptions.{AreNear}
 use Rattle.air_check.specs.Tunings.{AreTuned}
 use Rattle.air_check.proofs.Given.{near_early, near_in_air, given_so}
 use Rattle.air_check.proofs.index.is_given.Goals as goal
