@@ -40,6 +40,13 @@ impl Device {
         }
     }
 
+    /// Whether the last event that had an effect delivered something that is not yet taken.
+    pub fn has_delivered(&self) -> bool
+        ensures { result ≡ is_some self.now.delivery }
+    {
+        self.core.has_delivered()
+    }
+
     /// The delivery of the last event that had an effect, once. Returns `None` if and only if it delivered nothing.
     pub fn delivered(&mut self) -> Option<Delivery>
         ensures delivery { result ≡ self.old.delivery }

@@ -1,6 +1,6 @@
 //! The core of one node: from events to orders.
 
-ghost use Rattle.std.specs.Prelude.{◌≡◌, ◌≤◌, ◌<◌, Some, None, IfOk, IfSome, if◌then◌else◌, length};
+ghost use Rattle.std.specs.Prelude.{◌≡◌, ◌≤◌, ◌<◌, Some, None, IfOk, IfSome, if◌then◌else◌, is_some, length};
 ghost use Rattle.bus_rules.specs.Cores.{own_rank};
 ghost use Rattle.bus_rules.specs.declared.tune.Tune.TheVariants.{Scan};
 ghost use Rattle.bus_rules.specs.Streams as rule;
@@ -152,15 +152,20 @@ impl Node {
         }
     }
 
+    /// Whether the last step whose event fitted a row made a delivery that is not yet taken. A delivery is long, so this is to
+    /// be asked before one is moved.
+    pub fn has_delivered(&self) -> bool
+        ensures { result ≡ is_some self.now.delivery }
+    {
+        self.delivery.is_some()
+    }
+
     /// The delivery of the last step whose event fitted a row, once. Returns `None` if and only if that step made none, it was
     /// taken, or there was no such step.
     pub fn delivered(&mut self) -> Option<Delivery>
         ensures delivery { result ≡ self.old.delivery }
         ensures once { self.new ≡ record self.old { delivery = None } }
     {
-        if self.delivery.is_none() {
-            return None;
-        }
         self.delivery.take()
     }
 }

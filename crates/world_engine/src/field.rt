@@ -85,10 +85,10 @@ impl Field {
         let before = device.is_in_window();
         device.react(clock, t, event, radio);
         let after = device.is_in_window();
-        let delivery = device.delivered();
+        let logged = log_delivery(device, &mut self.deliveries);
         let windows = &mut self.sums[usize::from(place)];
         windows.note(before, after, by_alarm, sent);
-        self.log_delivery(delivery)?;
+        logged?;
         self.obey_all(orders, clock, place, t, radio)
     }
 
@@ -229,16 +229,6 @@ impl Field {
         due
     }
 
-    // A delivery, if there is one.
-    fn log_delivery(&mut self, delivery: Option<Delivery>) -> Result<(), Memory>
-        ensures { OnOk result (self.new ≡ record self.old { deliveries = self.old.deliveries ++ option_to_list delivery }) }
-    {
-        if let Some(delivery) = delivery {
-            self.deliveries.push(delivery)?;
-        }
-        Ok(())
-    }
-
     // A tuning that has ended, if there is one.
     pub(crate) fn log_tuning(&mut self, closed: Option<TunedEntry>) -> Result<(), Memory>
         ensures { OnOk result (self.new ≡ record self.old { air = self.old.air ++ entries_of closed }) }
@@ -254,4 +244,17 @@ fn is_alarm(event: &Event) -> bool
     ensures { result ≡ is_alarm event.now }
 {
     matches!(event, Event::Alarm)
+}
+
+// What the device delivered is taken, if it did. Most events deliver nothing.
+fn log_delivery(device: &mut Device, deliveries: &mut Vec<Delivery>) -> Result<(), Memory>
+    ensures device { device.new ≡ record device.old { delivery = None } }
+    ensures deliveries { OnOk result (deliveries.new.items ≡ deliveries.old.items ++ option_to_list device.old.delivery) }
+{
+    if device.has_delivered() {
+        if let Some(delivery) = device.delivered() {
+            deliveries.push(delivery)?;
+        }
+    }
+    Ok(())
 }

@@ -1,8 +1,9 @@
-use Rattle.std.proofs.Common.{◌≡◌, ◌++◌, set, None, fold, sym, ◌∙◌, ap, subst}
+use Rattle.std.proofs.Common.{◌≡◌, ◌++◌, List, set, None, fold, sym, ◌∙◌, ap, subst}
 use Rattle.std.specs.Prelude.{option_copied}
 use Rattle.std.proofs.lemmas.Result.{on_ok_weaker}
 use Rattle.lwb_base.specs.Orders.{Told}
 use Rattle.radio_model.specs.Stations.{IsTime}
+use Rattle.bus_rules.specs.declared.delivery.Delivery.{Delivery}
 use Rattle.node_core.specs.Rows.{orders_by}
 use Rattle.air_log.specs.Devices.{obeyed}
 use Rattle.air_log.specs.DeviceStates.{DeviceState, whole, row_of, made_by}
@@ -29,11 +30,33 @@ invariant_of-self g c =
     let shown : IsShown t old orders p = subst (λ (w : FieldState). IsShown t w orders p) (sym c.self.view_is) c.requires.shown in
     let state = c.index_mut-device.result.now in
     let row = row_of (g.C.DriftClock.readings c.args.clock.now) t c.args.event.now state in
-    let setup = ap (λ (d : DeviceState). d.setup) c.delivered-delivery.ensures.once ∙ ap (λ (d : DeviceState). d.setup) c.react.ensures.after
+    let setup = ap (λ (d : DeviceState). d.setup) c.log_delivery-logged.ensures.device ∙ ap (λ (d : DeviceState). d.setup) c.react.ensures.after
     ∙ keeps_setup state row in
     field_summed _ (set old.sums c.from-2.result c.note.new.self)
     (field_as_was t p old orders shown c.from.result c.from.ensures state c.index_mut-device.ensures.value c.self.invariant
-    c.delivered-delivery.new.self setup c.self.inside.air c.self.inside.deliveries.items)
+    c.log_delivery-logged.new.device setup c.self.inside.air c.log_delivery-logged.new.deliveries.items)
+
+pub invariant_of-self-2 : goal.invariant_of-self-2
+invariant_of-self-2 g c =
+    let t = c.args.t in
+    let p = c.args.place in
+    let orders = g.Q.Orders.map c.args.orders.now in
+    let old : FieldState = record {
+      medium = c.self.inside.medium;
+      devices = c.self.inside.devices.items;
+      air = c.self.inside.air;
+      deliveries = c.self.inside.deliveries.items;
+      drops = c.self.inside.drops.items;
+      sums = c.self.inside.sums.items;
+    } in
+    let shown : IsShown t old orders p = subst (λ (w : FieldState). IsShown t w orders p) (sym c.self.view_is) c.requires.shown in
+    let state = c.index_mut-device.result.now in
+    let row = row_of (g.C.DriftClock.readings c.args.clock.now) t c.args.event.now state in
+    let setup = ap (λ (d : DeviceState). d.setup) c.log_delivery-logged.ensures.device ∙ ap (λ (d : DeviceState). d.setup) c.react.ensures.after
+    ∙ keeps_setup state row in
+    field_summed _ (set old.sums c.from-2.result c.note.new.self)
+    (field_as_was t p old orders shown c.from.result c.from.ensures state c.index_mut-device.ensures.value c.self.invariant
+    c.log_delivery-logged.new.device setup c.self.inside.air c.log_delivery-logged.new.deliveries.items)
 
 pub obey_all-requires-clause-shown : goal.obey_all-requires-clause-shown
 obey_all-requires-clause-shown g c =
@@ -55,10 +78,18 @@ obey_all-requires-clause-shown g c =
     let row = row_of clock t c.args.event.now state in
     let ended = c.requires.sent.0 in
     let is_sent = c.requires.sent.1 in
-    let is_after : c.delivered-delivery.new.self ≡ reacted state row = c.delivered-delivery.ensures.once
+    let is_after : c.log_delivery-logged.new.device ≡ reacted state row = c.log_delivery-logged.ensures.device
     ∙ ap (λ (d : DeviceState). record d { delivery = None }) c.react.ensures.after in
     let sum = c.index_mut-windows.result.now in
     let sums = set old.sums c.from-2.result c.note.new.self in
+    let now : FieldState = record {
+      medium = old.medium;
+      devices = set old.devices c.from.result c.log_delivery-logged.new.device;
+      air = old.air;
+      deliveries = c.log_delivery-logged.new.deliveries.items;
+      drops = old.drops;
+      sums = sums;
+    } in
     let goes =
     noted_is t p old orders shown c.from.result c.from.ensures state c.index_mut-device.ensures.value clock c.args.event.now ended c.react.new.self
     c.is_in_window-before.result c.is_in_window-after.result c.is_alarm-by_alarm.result (option_copied c.args.sent) sum c.note.new.self
@@ -71,13 +102,9 @@ obey_all-requires-clause-shown g c =
     c.from-2.ensures sum c.note.new.self c.index_mut-windows.ensures.value goes c.note.ensures.small in
     let acts =
     moves_acts t p old orders shown c.from.result c.from.ensures state c.index_mut-device.ensures.value clock c.args.event.now c.self.invariant time ended
-    c.delivered-delivery.new.self c.delivered-delivery.result c.log_delivery.new.self is_after
-    (c.delivered-delivery.ensures.delivery ∙ ap (λ (d : DeviceState). d.delivery) c.react.ensures.after) sums others own c.in_ok-log_delivery.ensures in
-    shown_still t p (moves t c.args.event.now ended state row) old c.log_delivery.new.self orders orders acts shown
-
-pub obey_all-requires-clause-time : goal.obey_all-requires-clause-time
-obey_all-requires-clause-time g c = subst (λ (w : FieldState). IsTime w.medium c.args.t) (sym c.in_ok-log_delivery.ensures)
-    (subst (λ (w : FieldState). IsTime w.medium c.args.t) (sym c.self.view_is) c.requires.time)
+    c.log_delivery-logged.new.device c.react.new.self.delivery now is_after (ap (λ (d : DeviceState). d.delivery) c.react.ensures.after) sums others own
+    (ap (λ (ds : List Delivery). record now { deliveries = ds }) c.in_ok-logged.ensures.deliveries) in
+    shown_still t p (moves t c.args.event.now ended state row) old now orders orders acts shown
 
 pub returns : goal.returns
 returns g c = λ ended is_sent.
@@ -97,10 +124,18 @@ returns g c = λ ended is_sent.
     let time : IsTime old.medium t = subst (λ (w : FieldState). IsTime w.medium t) (sym c.self.view_is) c.requires.time in
     let state = c.index_mut-device.result.now in
     let row = row_of clock t c.args.event.now state in
-    let is_after : c.delivered-delivery.new.self ≡ reacted state row = c.delivered-delivery.ensures.once
+    let is_after : c.log_delivery-logged.new.device ≡ reacted state row = c.log_delivery-logged.ensures.device
     ∙ ap (λ (d : DeviceState). record d { delivery = None }) c.react.ensures.after in
     let sum = c.index_mut-windows.result.now in
     let sums = set old.sums c.from-2.result c.note.new.self in
+    let now : FieldState = record {
+      medium = old.medium;
+      devices = set old.devices c.from.result c.log_delivery-logged.new.device;
+      air = old.air;
+      deliveries = c.log_delivery-logged.new.deliveries.items;
+      drops = old.drops;
+      sums = sums;
+    } in
     let goes =
     noted_is t p old orders shown c.from.result c.from.ensures state c.index_mut-device.ensures.value clock c.args.event.now ended c.react.new.self
     c.is_in_window-before.result c.is_in_window-after.result c.is_alarm-by_alarm.result (option_copied c.args.sent) sum c.note.new.self
@@ -113,13 +148,13 @@ returns g c = λ ended is_sent.
     c.from-2.ensures sum c.note.new.self c.index_mut-windows.ensures.value goes c.note.ensures.small in
     let acts =
     moves_acts t p old orders shown c.from.result c.from.ensures state c.index_mut-device.ensures.value clock c.args.event.now c.self.invariant time ended
-    c.delivered-delivery.new.self c.delivered-delivery.result c.log_delivery.new.self is_after
-    (c.delivered-delivery.ensures.delivery ∙ ap (λ (d : DeviceState). d.delivery) c.react.ensures.after) sums others own c.in_ok-log_delivery.ensures in
+    c.log_delivery-logged.new.device c.react.new.self.delivery now is_after (ap (λ (d : DeviceState). d.delivery) c.react.ensures.after) sums others own
+    (ap (λ (ds : List Delivery). record now { deliveries = ds }) c.in_ok-logged.ensures.deliveries) in
     let ordered : c.react.new.radio.given ≡ orders_by row = c.react.ensures.orders.given ∙ ap (λ (r : Told). r.given ++ orders_by row) c.clear.ensures in
     on_ok_weaker c.obey_all.result
     (λ all. acts_seen c.self.view_is (
     event_acts t p old orders shown c.from.result c.from.ensures state c.index_mut-device.ensures.value clock c.args.event.now ended
-    c.react.new.radio.given c.log_delivery.new.self c.obey_all.new.self (g.Q.Orders.map c.obey_all.new.orders) ordered
+    c.react.new.radio.given now c.obey_all.new.self (g.Q.Orders.map c.obey_all.new.orders) ordered
     (λ made. c.react.ensures.whole made ended
     ∙ ap (λ (d : DeviceState). fold (obeyed clock state.setup.id t) (whole d (made_by t c.args.event.now ended state.power row made))
     (orders_by row)) c.react.ensures.after)
