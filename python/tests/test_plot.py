@@ -8,6 +8,7 @@ from __future__ import annotations
 import math
 from itertools import combinations
 from pathlib import Path
+from weakref import WeakSet
 
 import numpy as np
 import pandas as pd
@@ -41,17 +42,25 @@ def large() -> results.Log:
     return results.log(made)
 
 
+_drawn: WeakSet[Figure] = WeakSet()
+
+
+def texts(figure: Figure) -> list[Text]:
+    """The texts of a picture that are seen; those of scales come with drawing, which is done once."""
+    if figure not in _drawn:
+        FigureCanvasAgg(figure).draw()
+        _drawn.add(figure)
+    return [text for text in figure.findobj(Text) if text.get_visible() and text.get_text()]
+
+
 def words(figure: Figure) -> list[str]:
-    """All words of a picture that are seen; those of scales come with drawing."""
-    FigureCanvasAgg(figure).draw()
-    return [text.get_text() for text in figure.findobj(Text) if text.get_visible() and text.get_text()]
+    """All words of a picture that are seen."""
+    return [text.get_text() for text in texts(figure)]
 
 
 def covered(figure: Figure) -> list[tuple[str, str]]:
     """Which words of a picture cover others."""
-    FigureCanvasAgg(figure).draw()
-    texts = [text for text in figure.findobj(Text) if text.get_visible() and text.get_text()]
-    boxes = [(text.get_text(), text.get_window_extent()) for text in texts]
+    boxes = [(text.get_text(), text.get_window_extent()) for text in texts(figure)]
     # Marks of an axis that lie beyond its limits are not drawn.
     inside = [(word, box) for word, box in boxes if figure.bbox.overlaps(box)]
     smaller = [(word, box.shrunk(0.98, 0.9)) for word, box in inside]
@@ -227,8 +236,9 @@ def test_a_map_without_ratios() -> None:
     drawn = [segment for found in figure.axes[0].collections for segment in found.get_segments()]
     assert len(drawn) == 3
     made = Scenario.from_graph(grid(1, 3), 10, hosts=[1]).link(1, 2, 0.4)
-    drawn = [segment for found in plot.topology(made).axes[0].collections for segment in found.get_segments()]
-    assert len(drawn) == 3 and "The half of a line next to a node shows the link to that node." in words(plot.topology(made))
+    figure = plot.topology(made)
+    drawn = [segment for found in figure.axes[0].collections for segment in found.get_segments()]
+    assert len(drawn) == 3 and "The half of a line next to a node shows the link to that node." in words(figure)
 
 
 def test_a_map_of_64_nodes_can_be_read() -> None:
