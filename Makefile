@@ -49,7 +49,7 @@ words: # counts the words of the pages that an engineer would not expect
 	tools/words.py
 
 pictures: # draws the pictures of docs/ again
-	tools/pictures.py $(PROGRAM) docs/pictures
+	$$(tools/setup-python.sh --print) tools/pictures.py $(PROGRAM) docs/pictures
 
 crates: # lists the crates in docs/internals/ARCHITECTURE.md again
 	tools/crates.py > docs/internals/page && mv docs/internals/page docs/internals/ARCHITECTURE.md

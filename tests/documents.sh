@@ -5,9 +5,9 @@
 #   its output compared to the byte. No command goes on in a second line, so that each can be copied.
 # - a block `text NAME`, NAME having a dot, is put into the file NAME for the commands below it.
 # - a block `sh` is not run, since it asks for a network, another machine or much time; only its grammar is tried.
-# Each page has a folder of its own, with the program as ./foldcairn and with examples, tools and bench beside it. Where
-# python3 is there, the pictures are drawn, the crates and the public calls listed once more, and compared too; and the words of the
-# pages are counted.
+# Each page has a folder of its own, with the program as ./foldcairn and with examples, tools and bench next to it. Where
+# python3 is there, the crates and the public calls are listed once more, and compared too; and the words of the pages are
+# counted. Where it has matplotlib in the version of the stored pictures, these are drawn once more, and compared.
 # Usage: tests/documents.sh PROGRAM [PAGE ..]. The last line is 'N passed, M failed', and the status is 0 where M is 0.
 set -u
 top=$(cd "$(dirname "$0")/.." && pwd) || exit 1
@@ -156,11 +156,18 @@ follow_links() {
 }
 
 pictures() {
-    if ! command -v python3 > "$folder/written"; then
+    local python status=0
+    if ! python=$("$top/tools/setup-python.sh" --print 2> "$folder/written"); then
+        echo "the pictures are not compared:"
+        cat "$folder/written"
         return
     fi
     mkdir "$folder/pictures"
-    if ! python3 "$top/tools/pictures.py" "$program" "$folder/pictures" > "$folder/written" 2>&1; then
+    "$python" "$top/tools/pictures.py" "$program" "$folder/pictures" > "$folder/written" 2>&1 || status=$?
+    if [ "$status" -eq 3 ]; then
+        echo "the pictures are not compared: $(cat "$folder/written")"
+        return
+    elif [ "$status" -ne 0 ]; then
         counts_failure "tools/pictures.py"
         cat "$folder/written"
         return

@@ -116,7 +116,7 @@ def test_a_browser_shows_the_whole_run(browser: Browser, address: str) -> None:
     picture = browser.picture()
     assert min(near(picture, colour) for colour in ("#e3b341", "#3d9a6d")) > 500 and near(picture, "#c9374c") > 20
     # All pictures are there, and the scenario can be saved.
-    assert browser.evaluate("[...document.images].every((image) => image.complete && image.naturalWidth > 300)")
+    assert browser.evaluate("[...document.images].every((image) => image.complete && image.naturalWidth > 200)")
     assert browser.evaluate("fetch(document.getElementById('save').href).then((answer) => answer.text())") == Scenario.read(
         FAILOVER
     ).text(warn=False)

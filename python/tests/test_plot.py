@@ -8,11 +8,13 @@ from __future__ import annotations
 import math
 from itertools import combinations
 from pathlib import Path
+from weakref import WeakSet
 
 import numpy as np
 import pandas as pd
 import pytest
 from matplotlib.backends.backend_agg import FigureCanvasAgg
+from matplotlib.collections import LineCollection
 from matplotlib.figure import Figure
 from matplotlib.text import Text
 from networks import CONTENDERS, FAILOVER, LINE
@@ -23,7 +25,7 @@ from foldcairn import planning, plot, results, timing
 from foldcairn.__main__ import main
 from foldcairn.scenario import Scenario, grid, random_geometric, star
 
-LEGEND = {"no power", "radio on, channel of rank 0", "radio on, channel of rank 1", "opens a round", "delivers packets"}
+LEGEND = {"no power", "radio on, channel of rank 0", "radio on, channel of rank 1", "opens a round", "delivers packets", "radio off"}
 
 
 @pytest.fixture(scope="module")
@@ -40,17 +42,25 @@ def large() -> results.Log:
     return results.log(made)
 
 
+_drawn: WeakSet[Figure] = WeakSet()
+
+
+def texts(figure: Figure) -> list[Text]:
+    """The texts of a picture that are seen; those of scales come with drawing, which is done once."""
+    if figure not in _drawn:
+        FigureCanvasAgg(figure).draw()
+        _drawn.add(figure)
+    return [text for text in figure.findobj(Text) if text.get_visible() and text.get_text()]
+
+
 def words(figure: Figure) -> list[str]:
-    """All words of a picture that are seen; those of scales come with drawing."""
-    FigureCanvasAgg(figure).draw()
-    return [text.get_text() for text in figure.findobj(Text) if text.get_visible() and text.get_text()]
+    """All words of a picture that are seen."""
+    return [text.get_text() for text in texts(figure)]
 
 
 def covered(figure: Figure) -> list[tuple[str, str]]:
     """Which words of a picture cover others."""
-    FigureCanvasAgg(figure).draw()
-    texts = [text for text in figure.findobj(Text) if text.get_visible() and text.get_text()]
-    boxes = [(text.get_text(), text.get_window_extent()) for text in texts]
+    boxes = [(text.get_text(), text.get_window_extent()) for text in texts(figure)]
     # Marks of an axis that lie beyond its limits are not drawn.
     inside = [(word, box) for word, box in boxes if figure.bbox.overlaps(box)]
     smaller = [(word, box.shrunk(0.98, 0.9)) for word, box in inside]
@@ -132,8 +142,12 @@ def test_places_are_apart_and_the_same_each_time() -> None:
 
 
 def test_a_timeline_of_rounds(failover: results.Log) -> None:
-    figure = plot.timeline(failover)
-    assert LEGEND <= set(words(figure))
+    figure = plot.timeline(failover, title="failover", note="a note")
+    assert LEGEND | {"failover", "a note", "start of frame"} <= set(words(figure))
+    # Each second of the 32 frames is named above, with a line at its start.
+    assert {str(frame) for frame in range(0, 33, 2)} <= set(words(figure))
+    lines = [collection for collection in figure.axes[0].collections if isinstance(collection, LineCollection)]
+    assert [segment[0][0] for segment in lines[0].get_segments()] == [8.0 * place for place in range(17)]
     drawn = bars(figure)
     assert drawn["no power"].tolist() == [[24.0, 128.0, 0.0]]
     # Node 1 opens a round at 21 s, node 2, in the second row, three: at 109, and 125 s.
@@ -171,6 +185,14 @@ def test_words_do_not_cover_each_other_at_64_nodes(large: results.Log, window: s
     assert sum(word.startswith(("node", "host")) for word in words(figure)) == 64
 
 
+def test_a_timeline_as_a_part_of_another_figure(failover: results.Log) -> None:
+    figure = Figure(figsize=(11, 5), layout="constrained")
+    above, below = figure.subplots(2)
+    assert plot.timeline(failover, end_seconds=60.0, axes=above) is figure
+    plot.timeline(failover, start_seconds=60.0, axes=below)
+    assert [axes.get_legend() for axes in figure.axes] == [None, None] and covered(figure) == []
+
+
 def test_a_timeline_of_450_frames() -> None:
     made = Scenario.from_graph(grid(4, 4), 450, hosts=[1]).every(4, 16, interval=4)
     figure = plot.timeline(results.log(made))
@@ -206,6 +228,19 @@ def test_a_map_of_a_network_with_a_failure() -> None:
         plot.topology(Scenario(4))
 
 
+def test_a_map_without_ratios() -> None:
+    made = Scenario.from_graph(grid(1, 3), 10, hosts=[1]).link(1, 3)
+    figure = plot.topology(made)
+    assert {"link", "An arrow is a link in one direction."} <= set(words(figure)) and covered(figure) == []
+    # A pair of links that look the same is one line, the link in one direction another.
+    drawn = [segment for found in figure.axes[0].collections for segment in found.get_segments()]
+    assert len(drawn) == 3
+    made = Scenario.from_graph(grid(1, 3), 10, hosts=[1]).link(1, 2, 0.4)
+    figure = plot.topology(made)
+    drawn = [segment for found in figure.axes[0].collections for segment in found.get_segments()]
+    assert len(drawn) == 3 and "The half of a line next to a node shows the link to that node." in words(figure)
+
+
 def test_a_map_of_64_nodes_can_be_read() -> None:
     made = Scenario.from_graph(random_geometric(64, 0.2, 3), 10, hosts=[1])
     figure = plot.topology(made)
@@ -224,6 +259,8 @@ def test_charts_of_tables(failover: results.Log) -> None:
     assert "3.0" in words(latency)
     energy = plot.energy(planning.radio_time(failover))
     assert set(planning.radio_time(failover).columns[:-1]) <= set(words(energy))
+    # Node 1 is on for 19.2 s of its search, and for 0.01 s of its one round.
+    assert {"19.2", "0.01"} <= set(words(energy))
     outages = plot.outages(planning.outages(failover, "stream"))
     assert {"88 s", "the host loses power", "first round of the new host"} <= set(words(outages))
     for figure in (delivery, latency, energy, outages):

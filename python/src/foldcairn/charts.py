@@ -100,6 +100,8 @@ def energy(times: pd.DataFrame, *, title: str | None = None) -> Figure:
         left.set_yticks(range(len(table)), [f"node {node}" for node in table.index])
         left.set_ylim(len(table) - 0.4, -0.6)
         left.set_title(title or "Time with the radio on, in seconds")
+        left.set_xlim(right=1.12 * left.get_xlim()[1])
+        right.set_xlim(right=1.12 * right.get_xlim()[1])
         right.set_title("The same in rounds, without searching")
         style.key(left, len(radio.PURPOSES), below=0.35)
     return figure
@@ -109,8 +111,9 @@ def _stack(drawn: Axes, table: pd.DataFrame, purposes: list[str]) -> None:
     base = np.zeros(len(table))
     for purpose in purposes:
         colour = style.PURPOSES[radio.PURPOSES.index(purpose)]
-        drawn.barh(range(len(table)), table[purpose], 0.66, base, color=colour, label=purpose)
+        last = drawn.barh(range(len(table)), table[purpose], 0.66, base, color=colour, label=purpose)
         base = base + table[purpose].to_numpy()
+    drawn.bar_label(last, [f"{seconds:.{1 if seconds >= 10 else 2}f}" for seconds in base], padding=3, fontsize=7.5)
     drawn.grid(axis="x", color=style.FAINT, linewidth=0.5)
     drawn.spines["left"].set_visible(False)
 

@@ -26,7 +26,7 @@ _RATIOS = ((0.95, "#2478b5"), (0.85, "#3d9a6d"), (0.7, "#d9a514"), (0.5, "#e0762
 # Nodes by hops from the host, and the last colour for all that are further.
 _HOPS = ("#0b3c6f", "#2f74b5", "#6fa8d6", "#a9cbe8", "#d3e4f3", "#e9f1f9")
 _UNREACHED = "#f0c9cf"
-_READING = "The half of a line next to a node shows the link to that node; an arrow is a link in one direction."
+_HALVES, _ARROWS = "The half of a line next to a node shows the link to that node.", "An arrow is a link in one direction."
 # How near two nodes of a map may be, as a part of the length of a link.
 _NEAREST = 0.5
 
@@ -122,10 +122,16 @@ def topology(
         _draw_links(drawn, scenario, laid, broken)
         _draw_nodes(drawn, scenario, laid, hops(scenario, failed=failed, at_seconds=at_seconds), down)
         drawn.margins(0.08)
-        drawn.set_title(title or f"{len(scenario.nodes)} nodes, {len(scenario.links)} links", pad=24)
-        drawn.annotate(_READING, (0, 1), (0, 10), xycoords="axes fraction", textcoords="offset points", fontsize=8.5, color=style.PALE)
+        # The names of hosts at the top need room.
+        style.heading(drawn, title or f"{len(scenario.nodes)} nodes, {len(scenario.links)} links", _reading(scenario), above=16)
         style.key(drawn, 4, below=0.1)
     return figure
+
+
+def _reading(scenario: Scenario) -> str:
+    """How its lines are read."""
+    arrows = any((receiver, sender) not in scenario.links for sender, receiver in scenario.links)
+    return " ".join([_HALVES] * bool(scenario.prr) + [_ARROWS] * arrows)
 
 
 def _without_power(scenario: Scenario, at_seconds: float | None) -> set[int]:
@@ -151,32 +157,37 @@ def _size(laid: Mapping[int, Place]) -> tuple[float, float]:
 
 
 def _draw_links(drawn: Axes, scenario: Scenario, laid: Mapping[int, Place], broken: set[Link]) -> None:
-    shown: dict[str, list[list[Place]]] = {colour: [] for _, colour in _RATIOS}
-    lost: list[list[Place]] = []
-    for sender, receiver in sorted(scenario.links):
+    paints = {link: _paint(scenario, link, broken) for link in scenario.links}
+    shown: dict[str, list[list[Place]]] = {colour: [] for colour in (style.PALE, *(colour for _, colour in _RATIOS))}
+    for (sender, receiver), paint in sorted(paints.items()):
         start, end = laid[sender], laid[receiver]
-        middle = (start[0] + end[0]) / 2, (start[1] + end[1]) / 2
-        both = (receiver, sender) in scenario.links
-        ratio = scenario.prr.get((sender, receiver), 1.0)
-        colour = next(colour for least, colour in _RATIOS if ratio >= least)
-        if (sender, receiver) in broken:
-            lost.append([middle if both else start, end])
-        else:
-            shown[colour].append([middle if both else start, end])
-        if not both:
-            paint = style.PALE if (sender, receiver) in broken else colour
+        back = paints.get((receiver, sender))
+        if back is None:
             arrow = {"arrowstyle": "-|>", "color": paint, "shrinkB": 11, "linewidth": 1.2}
             drawn.annotate("", end, start, arrowprops=arrow, zorder=1)
+        if back is None or back == paint and sender < receiver:
+            shown[paint].append([start, end])
+        elif back != paint:
+            shown[paint].append([((start[0] + end[0]) / 2, (start[1] + end[1]) / 2), end])
+    lost = shown.pop(style.PALE)
     drawn.add_collection(LineCollection(lost, colors=style.PALE, linewidths=1.0, linestyles=(0, (2, 3)), zorder=1))
     for _, colour in _RATIOS:
         drawn.add_collection(LineCollection(shown[colour], colors=colour, linewidths=1.8, zorder=1))
-    _ratio_key(drawn, shown, bool(lost))
+    _ratio_key(drawn, shown, bool(scenario.prr), bool(lost))
 
 
-def _ratio_key(drawn: Axes, shown: Mapping[str, list[list[Place]]], lost: bool) -> None:
+def _paint(scenario: Scenario, link: Link, broken: set[Link]) -> str:
+    """The colour of a link."""
+    ratio = scenario.prr.get(link, 1.0)
+    return style.PALE if link in broken else next(colour for least, colour in _RATIOS if ratio >= least)
+
+
+def _ratio_key(drawn: Axes, shown: Mapping[str, list[list[Place]]], ratios: bool, lost: bool) -> None:
     over = 1.0
     for least, colour in _RATIOS:
         words = f"link of {100 * least:.0f} to {100 * over:.0f} %" if least else f"link below {100 * over:.0f} %"
+        if not ratios:
+            words = "link"
         if shown[colour]:
             drawn.plot([], [], color=colour, linewidth=2.5, label=words)
         over = least

@@ -7,9 +7,11 @@ from __future__ import annotations
 
 import io
 import os
+from collections.abc import Sequence
 from pathlib import Path
 
 import matplotlib
+from matplotlib.artist import Artist
 from matplotlib.axes import Axes
 from matplotlib.figure import Figure
 from matplotlib.transforms import ScaledTranslation
@@ -29,7 +31,8 @@ PURPOSES = ("#c9374c", "#2478b5", "#9ec5e8", "#e08a2e", "#7d4fc4", LISTENS)
 _DARK = {INK: "#e6edf3", PALE: "#9198a1", GROUND: "#0d1117", FAINT: "#3d444d", OFF: "#21262d"}
 
 _SETTINGS = {
-    "font.family": "sans-serif", "font.size": 9.0, "axes.titlesize": 11.0, "axes.titlelocation": "left", "axes.titlepad": 10.0,
+    "font.family": "sans-serif", "font.sans-serif": ["DejaVu Sans", "Verdana", "Arial"], "font.size": 9.0,
+    "axes.titlesize": 11.0, "axes.titlelocation": "left", "axes.titlepad": 10.0,
     "text.color": INK, "axes.labelcolor": INK, "xtick.color": INK, "ytick.color": INK, "axes.edgecolor": FAINT,
     "axes.facecolor": GROUND, "figure.facecolor": GROUND, "legend.frameon": False, "legend.fontsize": 8.5,
     "svg.fonttype": "none", "svg.hashsalt": "foldcairn", "path.simplify": False,
@@ -56,14 +59,21 @@ def plain(drawn: Axes) -> Axes:
     return drawn
 
 
-def key(drawn: Axes, columns: int, below: float = 0.45) -> None:
-    """What the colours mean, so many inches below the axes."""
+def heading(drawn: Axes, title: str, note: str | None = None, *, above: float = 10.0) -> None:
+    """A title this many points above the axes, with a note in pale letters below it."""
+    if note:
+        drawn.annotate(note, (0, 1), (0, above), xycoords="axes fraction", textcoords="offset points", fontsize=8.5, color=PALE)
+    drawn.set_title(title, pad=above + (16.0 if note else 0.0))
+
+
+def key(drawn: Axes, columns: int, below: float = 0.5, more: Sequence[Artist] = ()) -> None:
+    """What the colours mean, this many inches below the axes; `more` has labels, and is not drawn elsewhere."""
     figure = drawn.get_figure()
     place = drawn.transAxes + ScaledTranslation(0, -below, figure.dpi_scale_trans)
-    handles, labels = drawn.get_legend_handles_labels()
+    handles = [*drawn.get_legend_handles_labels()[0], *more]
     if handles:
         drawn.legend(
-            handles, labels, loc="upper left", bbox_to_anchor=(0, 0), bbox_transform=place, ncols=columns,
+            handles=handles, loc="upper left", bbox_to_anchor=(0, 0), bbox_transform=place, ncols=columns,
             borderaxespad=0, borderpad=0, handlelength=1.2, handleheight=1.0, columnspacing=1.6,
         )  # fmt: skip
 

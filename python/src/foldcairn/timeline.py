@@ -8,8 +8,9 @@ import numpy as np
 import pandas as pd
 from matplotlib.axes import Axes
 from matplotlib.figure import Figure
-from matplotlib.patches import PathPatch
+from matplotlib.patches import Patch, PathPatch
 from matplotlib.path import Path
+from matplotlib.ticker import MaxNLocator
 from numpy.typing import NDArray
 
 from . import style, timing
@@ -29,7 +30,7 @@ _HALF = 0.32
 
 def timeline(
     log: Log, *, start_seconds: float = 0.0, end_seconds: float | None = None, nodes: Iterable[int] | None = None,
-    title: str | None = None,
+    title: str | None = None, note: str | None = None, axes: Axes | None = None,
 ) -> Figure:  # fmt: skip
     """What each radio did in this time (the whole run by default), a row for each node or each of `nodes`.
 
@@ -37,6 +38,8 @@ def timeline(
     delivered packets, if there is room for them, and grey is time without power. In a shorter one there are the windows of
     slots, with what the node received and transmitted in them; from about 60 ms down with the steps as numbers. Times are
     seconds of true time from the start of the run, in windows below 2 s milliseconds after the window's start.
+
+    `note` is a line below the title. With `axes` it is drawn there, without the key, as a part of their figure.
 
     Raises `ValueError` where the window has no length or lies outside of the run, or a node is none of the scenario.
     """
@@ -47,7 +50,7 @@ def timeline(
     if strange := set(shown) - set(log.scenario.nodes):
         raise ValueError(f"the scenario has no node {min(strange)}")
     with style.settings():
-        figure, drawn = style.axes(_WIDTH, 1.4 + (0.3 if len(shown) <= 30 else 0.2) * len(shown))
+        drawn = style.axes(_WIDTH, 1.4 + (0.3 if len(shown) <= 30 else 0.2) * len(shown))[1] if axes is None else style.plain(axes)
         row = {node: place for place, node in enumerate(shown)}
         if end - start_seconds > DETAIL_SECONDS:
             _draw_rounds(drawn, log, row, start_seconds, end)
@@ -58,9 +61,10 @@ def timeline(
         _rows(drawn, log.scenario, shown)
         drawn.set_xlim(start_seconds, end)
         _times(drawn, log.scenario, start_seconds, end)
-        drawn.set_title(title or f"The radios from {start_seconds:g} s to {end:g} s", pad=above)
-        style.key(drawn, 6)
-    return figure
+        style.heading(drawn, title or f"The radios from {start_seconds:g} s to {end:g} s", note, above=above)
+        if axes is None:
+            style.key(drawn, 6, more=[Patch(facecolor=style.GROUND, edgecolor=style.FAINT, label="radio off")])
+    return drawn.get_figure()
 
 
 def _rows(drawn: Axes, scenario: Scenario, shown: list[int]) -> None:
@@ -72,13 +76,17 @@ def _rows(drawn: Axes, scenario: Scenario, shown: list[int]) -> None:
 
 
 def _times(drawn: Axes, scenario: Scenario, start: float, end: float) -> None:
+    drawn.tick_params(axis="x", length=3, color=style.FAINT)
     if end - start > DETAIL_SECONDS:
         length = scenario.frame_seconds
         above = drawn.secondary_xaxis("top", functions=(lambda seconds: seconds / length, lambda frame: frame * length))
-        above.set_xlabel("frame", fontsize=8.5)
+        frames = MaxNLocator(24, integer=True, steps=(1, 2, 5, 10)).tick_values(start / length, end / length)
+        frames = frames[(frames >= start / length) & (frames <= end / length)]
+        above.set_xticks(frames, [f"{frame:g}" for frame in frames])
+        above.set_xlabel("start of frame", fontsize=8.5)
         above.tick_params(length=0, labelsize=8.5)
         above.spines["top"].set_visible(False)
-        drawn.grid(axis="x", color=style.FAINT, linewidth=0.5)
+        drawn.vlines(length * frames, 0, 1, transform=drawn.get_xaxis_transform(), color=style.FAINT, linewidth=0.5, zorder=0.6)
     if end - start >= _MILLISECONDS_BELOW:
         drawn.set_xlabel("seconds from the start of the run")
         drawn.ticklabel_format(axis="x", useOffset=False)
