@@ -132,7 +132,8 @@ class DeadlineReport:
 
 @dataclass(frozen=True)
 class ReturnReport(Report):
-    """The report of a run in which backup hosts go back, and when they do (docs/RETURN.md).
+    """The report of a run in which backup hosts go back, and when they do (docs/RETURN.md). `scenario` is the one that was
+    asked for, without the lines of the returns.
 
     returns  A row for each return: in `frame` the backup host `node` received a schedule of `rank`, the lower rank that it
              probed. It restarts at the start of the next frame, `restart_seconds` from the start of the run.
