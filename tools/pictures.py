@@ -2,8 +2,8 @@
 """Draws the pictures of the documents by the Python package in python/.
 
 Usage: tools/pictures.py PROGRAM [FOLDER]. PROGRAM is the built program, FOLDER is docs/pictures if none is given. Most
-pictures show a run of an example, or of a text in docs/TUTORIAL.md or docs/SCENARIO.md, by `foldcairn.plot`; what is no run
-is of drawings.py. `tools/setup-python.sh --print` names a Python that has what this needs. The status is 0 if all are written,
+pictures show a run of an example, or of a text in a page of docs/, by `foldcairn.plot`; what is no run is of
+drawings.py. `tools/setup-python.sh --print` names a Python that has what this needs. The status is 0 if all are written,
 3 if they are written by another version of matplotlib than DRAWN_BY, which gives other bytes for the same pictures.
 """
 
@@ -32,12 +32,24 @@ def example(name):
     return results.log((TOP / "examples" / f"{name}.scenario").read_text())
 
 
-def from_page(page, name):
-    """The run of the text that a page puts into a file of that name."""
+def text_of(page, name):
+    """The text that a page puts into a file of that name."""
     match = re.search(rf"^```text {re.escape(name)}\.scenario\n(.*?)^```$", (TOP / "docs" / page).read_text(), re.MULTILINE | re.DOTALL)
     if not match:
         sys.exit(f"tools/pictures.py: {page} has no text {name}.scenario")
-    return results.log(match[1])
+    return match[1]
+
+
+def from_page(page, name):
+    """The run of that text."""
+    return results.log(text_of(page, name))
+
+
+def return_picture():
+    """A failover and the way back: the run of the scenario with the lines that `return` adds."""
+    log = results.log(text_of("RETURN.md", "comes-back").replace("put 40", "off 37 2\non 37 2\nput 40"))
+    note = "In frame 36 node 2 receives node 1 while it probes, and restarts in frame 37; probes are not drawn."
+    return plot.timeline(log, title="comes-back: node 2 takes over, and goes back to node 1", note=note)
 
 
 def slot_of(log, frame, slot):
@@ -61,6 +73,8 @@ def pictures():
     yield "guard", drawings.guard_picture()
     yield "states", drawings.states_picture()
     yield "crates", drawings.crates_picture()
+    yield "times", drawings.times_picture()
+    yield "return", return_picture()
     line = example("packets-along-a-line")
     yield "frame", drawings.frame_picture(line, 9)
     yield "round", window(line, 9, 0, 0.132, "The round of frame 9 of packets-along-a-line: what each radio does")

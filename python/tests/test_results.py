@@ -12,7 +12,7 @@ from pathlib import Path
 
 import pytest
 from conftest import EXAMPLES, REPOSITORY
-from networks import CONTENDERS, LINE
+from networks import CONTENDERS, FAILOVER, LINE
 
 from foldcairn import columns, program, results
 from foldcairn.scenario import Scenario, ScenarioWarning
@@ -139,9 +139,64 @@ def test_commands_that_the_program_lacks(command: str) -> None:
 
 def test_verdicts(fake: Callable[[str], Path], tmp_path: Path) -> None:
     verdict = results.check(LINE, "tuned 0 1 0 5\n", program=fake(f"cat > {tmp_path}/asked; echo lawful"))
-    assert verdict == results.Verdict(True, "lawful")
+    assert verdict == results.Verdict("lawful") and verdict.valid and str(verdict) == "the log is valid"
     assert (tmp_path / "asked").read_text() == LINE + "log\ntuned 0 1 0 5\n"
-    assert results.check(LINE, "", program=fake("cat > /dev/null; echo no trail 2")) == results.Verdict(False, "no trail 2")
+
+
+def test_verdicts_that_name_what_is_wrong(fake: Callable[[str], Path]) -> None:
+    log = "deliver 9 0 1 2 3 1 0 0 aa\n# a remark\n\ntuned 0 1 0 5\n  heard 0 2 1 4 5 0100\n"
+
+    def answered(answer: str) -> results.Verdict:
+        return results.check(LINE, log, program=fake(f"cat > /dev/null; echo {answer}"))
+
+    assert answered("no trail 2") == results.Verdict("no trail 2", node=2)
+    # The second entry is in the fifth line.
+    assert answered("no heard 2") == results.Verdict("no heard 2", entry=2, line="  heard 0 2 1 4 5 0100")
+    missing = answered("no missing 3 2 2370176000")
+    assert missing == results.Verdict("no missing 3 2 2370176000", node=3, sender=2, start_ticks=2_370_176_000)
+    assert str(missing) == "node 3 should have received what node 2 transmitted from tick 2370176000 on" and not missing.valid
+    for answer in ("no", "no trail", "no missing 3 2", "lawfully", ""):
+        with pytest.raises(columns.UnknownLine, match="no verdict"):
+            answered(answer)
+
+
+def needs(command: str) -> None:
+    if command not in results.commands():
+        pytest.skip(f"the program has no `{command}`")
+
+
+def test_worked_logs() -> None:
+    """The log of a first round; without its first reception node 2 relays what it did not receive; and no log at all."""
+    needs("check")
+    first = Scenario(6, 2, nodes={1: 0, 2: 0}, hosts={0: 1}).pair(1, 2).on(1).on(2)
+    log = program.execute(["log"], first.text()).decode()
+    assert results.check(first, log).valid
+    before, reception, after = log.partition("heard 0 2 1 1344064000 1344100864 01000000010000000000\n")
+    assert reception and results.check(first, before + after) == results.Verdict("no trail 2", node=2)
+    assert results.check(first, "") == results.Verdict("no trail 1", node=1)
+
+
+@pytest.mark.parametrize("change", [("node 2 0", "node 2 9000"), ("frames", "rate 2 0 20\nframes")])
+def test_worked_stamps(change: tuple[str, str]) -> None:
+    """Node 2 has an offset, or a fast clock: it transmits 33 ms after it received the opening schedule, at 37.034 s."""
+    needs("times")
+    text = "sends 2\nnode 1 0\nnode 2 0\nhost 0 1\npair 1 2\nframes 12\non 0 1\non 0 2\nstream 0 2 0 4\nput 0 2 0 aa\n"
+    table = results.times(text.replace(*change))
+    assert table.drop(columns="host_seconds").values.tolist() == [[9, 0, 1, 2, 0, 0, 2_370_176_000]]
+
+
+def test_a_worked_return() -> None:
+    """Node 2 hosts from frame 27 on, and goes back once it has received the opening schedule of node 1 in frame 36."""
+    needs("return")
+    report = results.returns(FAILOVER.replace("frames 32", "frames 58") + "on 31 1\nput 40 3 0 cc\n")
+    assert report.returns.values.tolist() == [[36, 2, 0, 148.0]] and report.probes.values.tolist() == [[2, 7]]
+    assert report.deliveries[["frame", "rank", "node", "payload"]].values.tolist() == [
+        [9, 0, 2, "aa"], [31, 1, 2, "bb"], [56, 0, 1, "cc"], [56, 0, 2, "cc"],
+    ]  # fmt: skip
+    assert len(report.energy) == 3
+    # Where no host fails there is nothing to go back to.
+    idle = results.returns(LINE)
+    assert idle.returns.empty and idle.probes.empty and idle.deliveries.equals(results.run(LINE).deliveries)
 
 
 def test_time_stamps(fake: Callable[[str], Path]) -> None:
@@ -153,11 +208,14 @@ def test_time_stamps(fake: Callable[[str], Path]) -> None:
 
 def test_returns(fake: Callable[[str], Path]) -> None:
     energy = "".join(f"energy {node} 0 0 1 64000000\\n" for node in (1, 2, 3))
-    answer = f"return 36 2 0\\nprobe 2 7\\ndeliver 9 0 1 2 3 1 0 0 aa\\n{energy}"
+    delivered = ("9 0 1 2 3 1 0 0 aa", "31 1 1 2 3 1 0 1 bb", "56 0 1 1 3 1 0 2 cc", "56 0 1 2 3 1 0 2 cc")
+    answer = "return 36 2 0\\nprobe 2 7\\n" + "".join(f"deliver {words}\\n" for words in delivered) + energy
     report = results.returns(LINE, program=fake(f"cat > /dev/null; printf '{answer}'"))
-    assert report.returns.to_dict("records") == [{"frame": 36, "node": 2, "rank": 0}]
+    assert report.returns.to_dict("records") == [{"frame": 36, "node": 2, "rank": 0, "restart_seconds": 148.0}]
     assert report.probes.to_dict("records") == [{"node": 2, "frames": 7}]
-    assert len(report.deliveries) == 1 and len(report.energy) == 3
+    assert report.deliveries["frame"].tolist() == [9, 31, 56, 56] and len(report.energy) == 3
+    idle = results.returns(LINE, program=fake(f"cat > /dev/null; printf '{energy}'"))
+    assert idle.returns.empty and idle.returns.dtypes["restart_seconds"] == "float64" and idle.probes.empty
 
 
 def test_a_rejected_text_names_line_and_range() -> None:

@@ -1,5 +1,5 @@
-"""What the program writes, as tables: `run`, `log`, `bus`, `flood`, `deadlines`, and `check`, `times` and `returns` where
-the program has these commands.
+"""What the program writes, as tables: `run`, `log`, `bus`, `flood`, `deadlines`, and `times` and `returns` where the program has
+these commands. `check` is in `verdicts`.
 
 Each function runs the program on a scenario and reads its lines, which docs/OUTPUT.md has. Nothing is simulated here.
 Columns are named in full: those that end in `_ticks` are true time in ticks of 1/64 µs, those that end in `_seconds` true
@@ -23,6 +23,7 @@ import pandas as pd
 
 from . import columns, lines, packets, program as programs
 from .scenario import Scenario, ScenarioWarning
+from .verdicts import Verdict, verdict
 
 TICKS_A_SECOND = 64_000_000
 # A round starts this long after the start of its frame.
@@ -131,19 +132,16 @@ class DeadlineReport:
 
 @dataclass(frozen=True)
 class ReturnReport(Report):
-    """A run with backup hosts that go back: `returns`, a row for each return (`frame`, `node`, `rank`), and `probes`, the
-    number of frames in which each node probed (`node`, `frames`)."""
+    """The report of a run in which backup hosts go back, and when they do (docs/RETURN.md). `scenario` is the one that was
+    asked for, without the lines of the returns.
+
+    returns  A row for each return: in `frame` the backup host `node` received a schedule of `rank`, the lower rank that it
+             probed. It restarts at the start of the next frame, `restart_seconds` from the start of the run.
+    probes   A row for each `node` that probed, with the number of `frames` in which it did. No energy has this.
+    """
 
     returns: pd.DataFrame
     probes: pd.DataFrame
-
-
-@dataclass(frozen=True)
-class Verdict:
-    """What the log checker says: `valid`, or the first thing that is wrong in `answer`, as the program writes it."""
-
-    valid: bool
-    answer: str
 
 
 def commands(*, program: Path | None = None) -> frozenset[str]:
@@ -219,16 +217,20 @@ def deadlines(text: str, *, program: Path | None = None) -> DeadlineReport:
 
 
 def check(scenario: Scenario | str | bytes, log_text: str, *, program: Path | None = None) -> Verdict:
-    """Whether a recorded log, in the lines that `log` writes, is a valid one of this scenario."""
+    """Whether a recorded log, in the lines that `log` writes, is a valid one of this scenario (docs/CHECK.md).
+
+    Raises `columns.UnknownLine` where the program writes no verdict that this package knows.
+    """
     text = _text(scenario)
     head = (text.encode() if isinstance(text, str) else text).removesuffix(b"\n")
-    answer = programs.execute(["check"], head + b"\nlog\n" + log_text.encode(), program=program).decode().strip()
-    return Verdict(answer == "lawful", answer)
+    answer = programs.execute(["check"], head + b"\nlog\n" + log_text.encode(), program=program)
+    return verdict(answer.decode().strip(), log_text)
 
 
 def times(scenario: Scenario | str | bytes, *, program: Path | None = None) -> pd.DataFrame:
     """When each data packet was initiated, in the time of the host that planned the round, by what its node received: a row
-    for each with `frame`, `rank`, `slot`, `node`, `stream`, `number`, `host_ticks` and `host_seconds`."""
+    for each with `frame`, `rank`, `slot`, `node`, `stream`, `number`, `host_ticks` and `host_seconds`, by frame, rank and slot
+    (docs/TIMES.md)."""
     output = programs.execute(["times"], _text(scenario), program=program)
     stamps = columns.read(BytesIO(output), {"stamp": _STAMP})["stamp"]
     return stamps.assign(host_seconds=stamps["host_ticks"] / TICKS_A_SECOND)
@@ -241,7 +243,8 @@ def returns(scenario: Scenario | str | bytes, *, program: Path | None = None) ->
     read = columns.read(BytesIO(output), {**_REPORT_LINES, **extra})
     whole = _scenario(scenario)
     deliveries, drops, energy = _report(read, whole)
-    return ReturnReport(whole, deliveries, drops, energy, read["return"], read["probe"])
+    returns = read["return"].assign(restart_seconds=(read["return"]["frame"] + 1.0) * whole.frame_seconds)
+    return ReturnReport(whole, deliveries, drops, energy, returns, read["probe"])
 
 
 def _text(scenario: Scenario | str | bytes) -> str | bytes:
