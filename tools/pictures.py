@@ -45,13 +45,6 @@ def from_page(page, name):
     return results.log(text_of(page, name))
 
 
-def return_picture():
-    """A failover and the way back: the run of the scenario with the lines that `return` adds."""
-    log = results.log(text_of("RETURN.md", "comes-back").replace("put 40", "off 37 2\non 37 2\nput 40"))
-    note = "In frame 36 node 2 receives node 1 while it probes, and restarts in frame 37; probes are not drawn."
-    return plot.timeline(log, title="comes-back: node 2 takes over, and goes back to node 1", note=note)
-
-
 def slot_of(log, frame, slot):
     """When a slot of a frame begins, in seconds."""
     slots = timing.slots(log)
@@ -73,8 +66,6 @@ def pictures():
     yield "guard", drawings.guard_picture()
     yield "states", drawings.states_picture()
     yield "crates", drawings.crates_picture()
-    yield "times", drawings.times_picture()
-    yield "return", return_picture()
     line = example("packets-along-a-line")
     yield "frame", drawings.frame_picture(line, 9)
     yield "round", window(line, 9, 0, 0.132, "The round of frame 9 of packets-along-a-line: what each radio does")

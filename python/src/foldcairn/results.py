@@ -132,7 +132,7 @@ class DeadlineReport:
 
 @dataclass(frozen=True)
 class ReturnReport(Report):
-    """The report of a run in which backup hosts go back, and when they do (docs/RETURN.md). `scenario` is the one that was
+    """The report of a run in which backup hosts go back, and when they do. `scenario` is the one that was
     asked for, without the lines of the returns.
 
     returns  A row for each return: in `frame` the backup host `node` received a schedule of `rank`, the lower rank that it
@@ -229,8 +229,7 @@ def check(scenario: Scenario | str | bytes, log_text: str, *, program: Path | No
 
 def times(scenario: Scenario | str | bytes, *, program: Path | None = None) -> pd.DataFrame:
     """When each data packet was initiated, in the time of the host that planned the round, by what its node received: a row
-    for each with `frame`, `rank`, `slot`, `node`, `stream`, `number`, `host_ticks` and `host_seconds`, by frame, rank and slot
-    (docs/TIMES.md)."""
+    for each with `frame`, `rank`, `slot`, `node`, `stream`, `number`, `host_ticks` and `host_seconds`, by frame, rank and slot."""
     output = programs.execute(["times"], _text(scenario), program=program)
     stamps = columns.read(BytesIO(output), {"stamp": _STAMP})["stamp"]
     return stamps.assign(host_seconds=stamps["host_ticks"] / TICKS_A_SECOND)
