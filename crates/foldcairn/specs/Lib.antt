@@ -1,1 +1,2 @@
 pub mod ProcessWords
+pub mod ProcessRuns
