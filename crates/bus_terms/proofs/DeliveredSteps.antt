@@ -78,9 +78,11 @@ module _ (s : ScenarioParts) (sound : IsSoundScenario s) (rank f : ℕ) (p : Pla
   there : (v : ℕ) → has (ids s.nodes) v ≡ true → is_some (x.window v) ≡ true → has x.flood.everyone v ≡ true
   there = takes s rank f owner x before window_is refl everyone_is rise
 
-  delivery_is : (v : ℕ) (o : Opened) → x.window v ≡ Some o → delivered_at s rank f p states j v ≡ option_map (delivery_of v f rank j) (said_data (accepted_at x v))
+  delivery_is : (v : ℕ) (o : Opened) → x.window v ≡ Some o
+      → delivered_at s rank f p states j v ≡ option_map (delivery_of v f rank j) (said_data (accepted_at x v))
   delivery_is v o at =
-      ap (λ (w : Option Opened). option_map (delivery_of v f rank j) (option_and_then (λ c. c.delivered) (closed_by s f x.part v w (accepted_at x v) (before v)))) at
+      ap (λ (w : Option Opened). option_map (delivery_of v f rank j)
+      (option_and_then (λ c. c.delivered) (closed_by s f x.part v w (accepted_at x v) (before v)))) at
       ∙ ap (option_map (delivery_of v f rank j)) (closed_data (setup_in s v) f x.part (is_some o.message) o.core (accepted_at x v))
 
   -- who accepts delivers
@@ -121,7 +123,8 @@ module _ (s : ScenarioParts) (sound : IsSoundScenario s) (rank f : ℕ) (p : Pla
     where
       least : (one : OneSpeaks) → Accepts x.flood v (node_of owner) k ↔ IsLeast x.flood (node_of owner) (suc k) v
       least one =
-          accepts_least x.flood (node_of owner) one.0 (owner_there s rank f owner x before window_is refl everyone_is rise one.0 one.1) k v (there v known opens) other
+          accepts_least x.flood (node_of owner) one.0 (owner_there s rank f owner x before window_is refl everyone_is rise one.0 one.1)
+          k v (there v known opens) other
 
   -- and nobody else
   pub record IsDelivered (v : ℕ) (d : Delivery) : Type 0 where

@@ -84,7 +84,8 @@ heard_rank f (DataSlot owner) b c = refl
 heard_rank f (Contention i) b c = refl
 heard_rank f Closing b c = refl
 
-taken_rank : (node rank f : ℕ) (x : Schedule) (c : Core) → rank_of c.tune ≡ rank → IsOfRank rank (ScheduleOf x) → rank_of (schedule_accepted node f x c).tune ≡ rank
+taken_rank : (node rank f : ℕ) (x : Schedule) (c : Core) → rank_of c.tune ≡ rank → IsOfRank rank (ScheduleOf x)
+    → rank_of (schedule_accepted node f x c).tune ≡ rank
 taken_rank node rank f x c at of_ = by_test (x.gap == 0) refl
   where
     by_test : (b : Bool) → (x.gap == 0) ≡ b → rank_of (if b then opening_accepted node f x c else closing_accepted node f x c).tune ≡ rank

@@ -103,7 +103,8 @@ module _ (s : ScenarioParts) (rank f : ℕ) where
     same_accepted v =
         ap (λ (g : Setting). option_and_then (λ (c : ℕ × ℕ). said_in (xa.window c.0)) (accepted g v)) same_flood ∙ by_answer (accepted xb.flood v)
       where
-        by_answer : (o : Option (ℕ × ℕ)) → option_and_then (λ (c : ℕ × ℕ). said_in (xa.window c.0)) o ≡ option_and_then (λ (c : ℕ × ℕ). said_in (xb.window c.0)) o
+        by_answer : (o : Option (ℕ × ℕ)) → option_and_then (λ (c : ℕ × ℕ). said_in (xa.window c.0)) o
+            ≡ option_and_then (λ (c : ℕ × ℕ). said_in (xb.window c.0)) o
         by_answer None = refl
         by_answer (Some c) = ap said_in (windows c.0)
 

@@ -1,5 +1,6 @@
 -- The deliveries of the bus, one by one: each is made at a node in a slot of a round.
-use Rattle.std.proofs.Common.{◌≡◌, ℕ, ◌+◌, ◌<◌, ◌≤◌, ◌==◌, eq-eqb, List, [], true, Some, None, Option, Contains, flat_map, length, refl, sym, ◌∙◌, ap, subst, arith}
+use Rattle.std.proofs.Common.{◌≡◌, ℕ, ◌+◌, ◌<◌, ◌≤◌, ◌==◌, eq-eqb, List, [], true, Some, None, Option, Contains, flat_map, length}
+use Rattle.std.proofs.Common.{refl, sym, ◌∙◌, ap, subst, arith}
 use Rattle.std.specs.Option.{option_map_or}
 use Rattle.lwb_base.specs.Messages.{Plan}
 use Rattle.bus_rules.specs.declared.delivery.Delivery.{Delivery}
@@ -35,7 +36,8 @@ module _ (s : ScenarioParts) where
   pub in_bus : (f rank j v : ℕ) (p : Plan) → IsRound s f rank p → j ≤ last_slot p → Contains (ids s.nodes) v → (a : Delivery)
       → delivered_at s rank f p (state_at s f) j v ≡ Some a → Contains (bus_deliveries s) a
   in_bus f rank j v p round within named a is =
-      let in_slot : Contains (slot_deliveries s rank f p (state_at s f) j) a = in_filter (delivered_at s rank f p (state_at s f) j) (ids s.nodes) v a named is in
+      let in_slot : Contains (slot_deliveries s rank f p (state_at s f) j) a =
+      in_filter (delivered_at s rank f p (state_at s f) j) (ids s.nodes) v a named is in
       let in_plan : Contains (flat_map (slot_deliveries s rank f p (state_at s f)) (slots_of p)) a =
       in_flat (slot_deliveries s rank f p (state_at s f)) (slots_of p) j a (in_range 0 (last_slot p + 1) j (omega arith) (omega (arith, within))) in_slot in
       let in_round : Contains (of_round f rank) a =
