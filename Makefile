@@ -48,8 +48,9 @@ pages: # runs the commands of all pages, follows their links, and compares what 
 words: # counts the words of the pages that an engineer would not expect
 	tools/words.py
 
-pictures: # draws the pictures of docs/ again
+pictures: # draws the pictures of docs/ again, and writes what the code of PLANNING.md prints
 	$$(tools/setup-python.sh --print) tools/pictures.py $(PROGRAM) docs/pictures
+	FOLDCAIRN=$(abspath $(PROGRAM)) PYTHONPATH=python/src $$(tools/setup-python.sh --print) python/tests/pages.py docs/PLANNING.md
 
 crates: # lists the crates in docs/internals/ARCHITECTURE.md again
 	tools/crates.py > docs/internals/page && mv docs/internals/page docs/internals/ARCHITECTURE.md
