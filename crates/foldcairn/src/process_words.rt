@@ -9,7 +9,7 @@ use std::io;
 use std::io::ErrorKind;
 
 /// The statuses of a process that cannot get its words.
-const WANT_OF_MEMORY: u8 = 5;
+const OUT_OF_MEMORY: u8 = 5;
 
 const NO_WORDS: u8 = 6;
 
@@ -20,12 +20,12 @@ pub fn words_of(alloc: Global, answer: io::Result<Args>) -> Result<Vec<String>, 
 {
     let args = match answer {
         Ok(args) => args,
-        Err(error) if error.kind() == ErrorKind::OutOfMemory => return Err(WANT_OF_MEMORY),
+        Err(error) if error.kind() == ErrorKind::OutOfMemory => return Err(OUT_OF_MEMORY),
         Err(_) => return Err(NO_WORDS),
     };
     match args.collect(alloc) {
         Ok(words) => Ok(without_name(words)),
-        Err(_) => Err(WANT_OF_MEMORY),
+        Err(_) => Err(OUT_OF_MEMORY),
     }
 }
 
