@@ -1,11 +1,11 @@
 -- Receptions that are given and not there.
-use Rattle.std.proofs.Common.{◌≡◌, ℕ, ◌<◌, ◌≤◌, ◌↔◌, ◌⊎◌, inl, inr, List, Bool, true, false, refl, sym, ◌∙◌, ap, subst, Contains, get_or}
+use Rattle.std.proofs.Common.{◌≡◌, ℕ, ◌↔◌, inl, inr, List, Bool, true, false, refl, Contains}
 use Rattle.std.proofs.lemmas.Bool.{false≢true, both_ways}
 use Rattle.scenario_text.specs.ScenarioParts.{ScenarioParts}
 use Rattle.radio_model.specs.OnAir.{Hearing, Sending}
 use Rattle.air_log.specs.declared.entry.Entry.{Entry}
 use Rattle.air_log.specs.Entries.{hearings_of}
-use Rattle.air_check.specs.Flags.{flag, AreFlags, IsDue}
+use Rattle.air_check.specs.Flags.{IsDue}
 use Rattle.air_check.specs.Verdicts.{IsGiven, IsMissing}
 
 module _ (s : ScenarioParts) (air : List Entry) (hs : List Hearing) (v : ℕ) (x : Sending) (received : Bool)

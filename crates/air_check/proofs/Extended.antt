@@ -5,7 +5,7 @@ use Rattle.std.specs.Prelude.{IsPermutation}
 use Rattle.std.specs.List.Sorted.{IsSortedBy}
 use Rattle.std.specs.Cmp.{IsStrictWeakOrder, nat_cmp_total, on_total, then_total}
 use Rattle.std.specs.Ordering.{nat_cmp, ordering_then, is_lt}
-use Rattle.std.proofs.lemmas.Bool.{cases_lt, cases_eq}
+use Rattle.std.proofs.lemmas.Bool.{cases_lt}
 use Rattle.std.proofs.lemmas.Bool.Decides.{nat_tests}
 use Rattle.std.proofs.lemmas.List.{map-append, get_or_append_left, get_or_push, take_more, drop_more, take_all}
 use Rattle.std.proofs.lemmas.List.Quantifiers.{all_pairs_push}
@@ -13,6 +13,7 @@ use Rattle.std.proofs.lemmas.List.Sorted.{ranks_by, sorted_far, Contains-permuta
 use Rattle.std.proofs.lemmas.List.Elements.{Contains-push, Contains-push_cases, Contains-append_left, Contains-get_or}
 use Rattle.radio_model.specs.OnAir.{Tuning}
 use Rattle.radio_model.proofs.Members.{not_in_none, in_head, in_tail, same_default}
+use Rattle.air_check.proofs.Gathered.{not_less}
 use Rattle.air_check.specs.Tunings.{IsNoLater, IsOf, IsIn, AreTuned, IsUntilAfter, tuning_by}
 use Rattle.air_check.specs.declared.tunings.Tuned.{Tuned}
 
@@ -165,7 +166,9 @@ module _ (done todo es : List Tuned) (r e : Tuned) (is : IsExtended done (r ∷ 
     node = λ d. ap (λ (x : Tuned). x.node) (new_at (length es) d refl) ∙ node;
     rank = λ d. ap (λ (x : Tuned). x.rank) (new_at (length es) d refl) ∙ rank;
     start = λ d. ap (λ (x : Tuned). x.start) (new_at (length es) d refl) ∙ start;
-    lasts = λ k d from below same_node same_rank. (let own = until.own in omega (arith, own, ap (λ (x : Tuned). x.until) (new_at k d (omega (arith, from, below, long)))));
+    lasts = λ k d from below same_node same_rank.
+        let own = until.own in
+        omega (arith, own, ap (λ (x : Tuned). x.until) (new_at k d (omega (arith, from, below, long))));
   }
 
   pub one_extended : IsExtended (done ++ r ∷ []) todo now
@@ -243,9 +246,6 @@ is_order : IsStrictWeakOrder before
 is_order = ranks_by (then_total (then_total (on_total (λ (t : ℕ × ℕ × ℕ). t.0) nat_cmp_total) (on_total (λ (t : ℕ × ℕ × ℕ). t.1) nat_cmp_total))
     (on_total (λ (t : ℕ × ℕ × ℕ). t.2) nat_cmp_total)) place_of
 
-not_less : (m n : ℕ) → (m < n → ⊥) → n ≤ m
-not_less m n never = elim (cases_lt m n) [ inl less ↦ absurd (never less) | inr by ↦ by ]
-
 by_first : (m n p q u v : ℕ) → m < n → is_lt (ordering_then (ordering_then (nat_cmp m n) (nat_cmp p q)) (nat_cmp u v)) ≡ true
 by_first m n p q u v less = grind (arith, nat_tests)
 
@@ -263,11 +263,13 @@ before_pairs xs sorted i j d less below =
     record {
       node = not_less y.node x.node (λ up. true≢false (sym (by_first y.node x.node y.rank x.rank y.start x.start up) ∙ so));
       rank = λ same. not_less y.rank x.rank (λ up. true≢false (sym (by_second y.node x.node y.rank x.rank y.start x.start (sym same) up) ∙ so));
-      start = λ same also. not_less y.start x.start (λ up. true≢false (sym (by_third y.node x.node y.rank x.rank y.start x.start (sym same) (sym also) up) ∙ so));
+      start = λ same also.
+          not_less y.start x.start (λ up. true≢false (sym (by_third y.node x.node y.rank x.rank y.start x.start (sym same) (sym also) up) ∙ so));
     }
 
 -- in another order they are the same tunings
-pub same_tunings : (ts : List Tuning) (raw sorts es : List Tuned) → map tuning_by raw ≡ ts → IsPermutation raw sorts → AreTuned (map tuning_by sorts) es → AreTuned ts es
+pub same_tunings : (ts : List Tuning) (raw sorts es : List Tuned) → map tuning_by raw ≡ ts → IsPermutation raw sorts
+    → AreTuned (map tuning_by sorts) es → AreTuned ts es
 same_tunings ts raw sorts es is same are =
     let across = IsPermutation-map tuning_by raw sorts same in
     let back : (t : Tuning) → Contains (map tuning_by sorts) t → Contains ts t =

@@ -1,10 +1,10 @@
 -- What a log holds, one entry more at a time, and in what order it is put.
-use Rattle.std.proofs.Common.{◌≡◌, ℕ, ◌+◌, ◌<◌, ◌≤◌, ◌^◌, List, [], ◌∷◌, ◌++◌, take, map, length, get_or, Bool, true, false, ◌==◌}
-use Rattle.std.proofs.Common.{if◌then◌else◌, nat_lt, Option, Some, None, option_map, option_to_list, filter_map, refl, sym, ◌∙◌, ap, subst, arith, inl, inr}
-use Rattle.std.proofs.Common.{lt-ltb, true≢false, eq-eqb, Contains, All, AllPairs}
+use Rattle.std.proofs.Common.{◌≡◌, ℕ, ◌+◌, ◌<◌, ◌≤◌, List, [], ◌++◌, take, map, length, get_or, Bool, true, false, ◌==◌}
+use Rattle.std.proofs.Common.{if◌then◌else◌, Option, Some, None, option_map, option_to_list, filter_map, refl, sym, ◌∙◌, ap, arith, inl, inr}
+use Rattle.std.proofs.Common.{true≢false, eq-eqb, Contains, All, AllPairs}
 use Rattle.std.specs.Prelude.{IsPermutation}
 use Rattle.std.specs.List.Sorted.{IsSortedBy}
-use Rattle.std.specs.Cmp.{IsStrictWeakOrder, nat_cmp_is, nat_cmp_total, on_total, then_total}
+use Rattle.std.specs.Cmp.{IsStrictWeakOrder, nat_cmp_total, on_total, then_total}
 use Rattle.std.specs.Ordering.{nat_cmp, ordering_then, is_lt}
 use Rattle.std.proofs.lemmas.Bool.{cases_order, cases_lt}
 use Rattle.std.proofs.lemmas.Bool.Decides.{nat_tests}
@@ -25,8 +25,8 @@ use Rattle.air_log.specs.declared.entry.Entry.{Entry}
 use Rattle.air_log.proofs.Elements.{in_filtered}
 use Rattle.air_log.proofs.TrailSendings.{in_order, each_sent}
 
-pub one_more : {Y : Type 0} (f : Entry → Option Y) (air : List Entry) (i : ℕ) (e : Entry) (old new : List Y) (o : Option Y) → i < length air → e ≡ get_or air i e
-    → o ≡ f e → old ≡ filter_map f (take i air) → new ≡ old ++ option_to_list o → new ≡ filter_map f (take (i + 1) air)
+pub one_more : {Y : Type 0} (f : Entry → Option Y) (air : List Entry) (i : ℕ) (e : Entry) (old new : List Y) (o : Option Y) → i < length air
+    → e ≡ get_or air i e → o ≡ f e → old ≡ filter_map f (take i air) → new ≡ old ++ option_to_list o → new ≡ filter_map f (take (i + 1) air)
 one_more {Y} f air i e old new o below at is so adds =
     adds ∙ ap (λ (l : List Y). l ++ option_to_list o) so ∙ ap (λ (p : Option Y). filter_map f (take i air) ++ option_to_list p) is
     ∙ sym (filter_map_more f air i e below at)
@@ -52,7 +52,7 @@ before x y = is_lt (ordering_then (nat_cmp x.start y.start) (nat_cmp x.node y.no
 is_order : IsStrictWeakOrder before
 is_order = ranks_by (then_total (on_total (λ (t : ℕ × ℕ). t.0) nat_cmp_total) (on_total (λ (t : ℕ × ℕ). t.1) nat_cmp_total)) place_of
 
-not_less : (m n : ℕ) → (m < n → ⊥) → n ≤ m
+pub not_less : (m n : ℕ) → (m < n → ⊥) → n ≤ m
 not_less m n never = elim (cases_lt m n) [ inl less ↦ absurd (never less) | inr by ↦ by ]
 
 by_first : (m n p q : ℕ) → m < n → is_lt (ordering_then (nat_cmp m n) (nat_cmp p q)) ≡ true
@@ -88,7 +88,8 @@ module _ (s : ScenarioParts) (clocks : ℕ → ℕ → ℕ) (air : List Entry) (
 
   pub all_in_run : (xs : List Sending) → IsPermutation (sendings_of air) xs → All (λ (y : Sending). y.start < run_end s) xs
   all_in_run xs same k d below =
-      in_run (get_or xs k d) (Contains-permutation xs (sendings_of air) (get_or xs k d) (IsPermutation-sym (sendings_of air) xs same) (Contains-get_or xs k d below))
+      in_run (get_or xs k d)
+      (Contains-permutation xs (sendings_of air) (get_or xs k d) (IsPermutation-sym (sendings_of air) xs same) (Contains-get_or xs k d below))
 
   one_start : (b : Bool) (v : ℕ) (x y : Sending) → Contains (if b then (trail_in s clocks air v).made.sent else []) x
       → Contains (if b then (trail_in s clocks air v).made.sent else []) y → x.start ≡ y.start → x ≡ y

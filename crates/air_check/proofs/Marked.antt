@@ -1,7 +1,7 @@
 -- One more reception has its flag.
 use Rattle.std.proofs.Common.{◌≡◌, ◌≢◌, ℕ, ◌+◌, ◌*◌, ◌<◌, ◌≤◌, ◌↔◌, ◌⊎◌, inl, inr, List, [], ◌∷◌, ◌++◌, length, set, Bool, true, false}
 use Rattle.std.proofs.Common.{refl, sym, ◌∙◌, ap, subst, arith, get_or, Contains}
-use Rattle.std.proofs.lemmas.Bool.{cases_lt, cases_eq, false≢true}
+use Rattle.std.proofs.lemmas.Bool.{cases_lt, cases_eq}
 use Rattle.std.proofs.lemmas.List.{length-set, get_or-set_same, get_or-set_other}
 use Rattle.std.proofs.lemmas.List.Elements.{Contains-push, Contains-push_cases, Contains-append_left}
 use Rattle.radio_model.specs.OnAir.{Hearing, Sending}
@@ -23,7 +23,10 @@ module _ (sent : List Sending) (old : List Bool) (v : ℕ) (x : Sending) (begin 
   pub first_marked : IsMarked sent old v x begin begin old
   first_marked = record {
     size = refl;
-    each = λ j w d below is_id. (λ so. inl so, λ either. elim either [ inl so ↦ so | inr fresh ↦ let from = fresh.from in let to = fresh.to in absurd (omega arith) ]);
+    each = λ j w d below is_id. (
+      λ so. inl so,
+      λ either. elim either [ inl so ↦ so | inr fresh ↦ let from = fresh.from in let to = fresh.to in absurd (omega arith) ],
+    );
   }
 
   -- one that is another
@@ -85,20 +88,23 @@ module _ (sent : List Sending) (old : List Bool) (v : ℕ) (x : Sending) (begin 
     size = is.size ∙ are.size;
     each = λ j w d below is_id. (
       λ so. elim ((is.each j w d below is_id).0 so) [
-        | inl before ↦ Contains-append_left hs (record { node = v; sending = x } ∷ []) (record { node = w; sending = get_or sent j d }) ((are.each j w d below is_id).0 before)
+        | inl before ↦
+            Contains-append_left hs (record { node = v; sending = x } ∷ []) (record { node = w; sending = get_or sent j d })
+            ((are.each j w d below is_id).0 before)
         | inr fresh ↦
             let same : record { node = v; sending = x } ≡ record { node = w; sending = get_or sent j d } =
             ap (λ (n : ℕ). let h : Hearing = record { node = n; sending = x } in h) (sym fresh.node)
             ∙ ap (λ (y : Sending). let h : Hearing = record { node = w; sending = y } in h) (sym fresh.there) in
             subst (λ (h : Hearing). Contains (hs ++ record { node = v; sending = x } ∷ []) h) same (Contains-push hs (record { node = v; sending = x }))
       ],
-      λ there. (is.each j w d below is_id).1 (elim (Contains-push_cases hs (record { node = v; sending = x }) (record { node = w; sending = get_or sent j d }) there) [
-        | inl before ↦ inl ((are.each j w d below is_id).1 before)
-        | inr same ↦
-            let node : w ≡ v = ap (λ (h : Hearing). h.node) (sym same) in
-            let here : get_or sent j d ≡ x = ap (λ (h : Hearing). h.sending) (sym same) in
-            let in_it = all j d below (ap (λ (y : Sending). y.start) here) in
-            inr (record { from = in_it.0; to = in_it.1; node = node; there = here })
-      ]),
+      λ there. (is.each j w d below is_id).1
+          (elim (Contains-push_cases hs (record { node = v; sending = x }) (record { node = w; sending = get_or sent j d }) there) [
+            | inl before ↦ inl ((are.each j w d below is_id).1 before)
+            | inr same ↦
+                let node : w ≡ v = ap (λ (h : Hearing). h.node) (sym same) in
+                let here : get_or sent j d ≡ x = ap (λ (h : Hearing). h.sending) (sym same) in
+                let in_it = all j d below (ap (λ (y : Sending). y.start) here) in
+                inr (record { from = in_it.0; to = in_it.1; node = node; there = here })
+          ]),
     );
   }

@@ -3,23 +3,22 @@ use Rattle.std.proofs.Common.{◌≡◌, ℕ, ◌+◌, ◌<◌, ◌≤◌, ◌�
 use Rattle.std.proofs.Common.{refl, sym, ◌∙◌, ap, subst, arith, Contains, All, AllPairs, length-take-le}
 use Rattle.std.specs.List.{list_any}
 use Rattle.std.proofs.lemmas.Bool.{and_parts, eqb-true, cases_order, cases_Bool}
-use Rattle.std.proofs.lemmas.List.{get_or-take, take_more}
+use Rattle.std.proofs.lemmas.List.{get_or-take}
 use Rattle.std.proofs.lemmas.List.Elements.{All-contains}
 use Rattle.link_trace.specs.Passes.{passes, is_link, is_loss, cut_off}
 use Rattle.link_trace.specs.declared.lines.LinkLine.{LinkLine}
-use Rattle.scenario_text.specs.FloodParts.{knows}
 use Rattle.scenario_text.specs.ScenarioFacts.{IsSoundScenario, AreEnds}
 use Rattle.scenario_text.specs.ScenarioParts.{ScenarioParts}
 use Rattle.scenario_text.specs.declared.lines.NodeLine.{NodeLine}
 use Rattle.radio_model.specs.Hearing.{Before}
-use Rattle.radio_model.specs.OnAir.{Hearing, Sending}
+use Rattle.radio_model.specs.OnAir.{Sending}
 use Rattle.radio_model.proofs.Members.{some_of, same_default}
 use Rattle.air_log.specs.declared.entry.Entry.{Entry}
-use Rattle.air_log.specs.Entries.{sendings_of, hearings_of, IsHeard}
+use Rattle.air_log.specs.Entries.{hearings_of, IsHeard}
 use Rattle.air_log.specs.Lawful.{FollowsTrails}
 use Rattle.air_check.specs.Flags.{flag, AreFlags, IsFirstOf}
-use Rattle.air_check.specs.Indexes.{IsIndex, IsSearchable}
-use Rattle.air_check.specs.Verdicts.{IsGiven, IsMissing, NoLater, IsFirstMissing}
+use Rattle.air_check.specs.Indexes.{IsIndex}
+use Rattle.air_check.specs.Verdicts.{IsGiven, IsMissing, IsFirstMissing}
 use Rattle.air_check.specs.declared.index.Index.{Index}
 use Rattle.air_check.proofs.Gathered.{one_of_node}
 
@@ -43,8 +42,8 @@ module _ (s : ScenarioParts) (sound : IsSoundScenario s) where
 in_taken : {X : Type 0} (xs : List X) (i k : ℕ) (x : X) → k < i → i ≤ length xs → get_or xs k x ≡ x → Contains (take i xs) x
 in_taken xs i k x less within at = (k, omega (arith, less, length-take-le i xs within), get_or-take i xs k x less ∙ at)
 
-pub least : (nodes : List NodeLine) (i : ℕ) (line : NodeLine) → AllPairs (λ (a b : NodeLine). a.node < b.node) nodes → i < length nodes → line ≡ get_or nodes i line
-    → (n : NodeLine) → Contains nodes n → (Contains (take i nodes) n → ⊥) → line.node ≤ n.node
+pub least : (nodes : List NodeLine) (i : ℕ) (line : NodeLine) → AllPairs (λ (a b : NodeLine). a.node < b.node) nodes → i < length nodes
+    → line ≡ get_or nodes i line → (n : NodeLine) → Contains nodes n → (Contains (take i nodes) n → ⊥) → line.node ≤ n.node
 least nodes i line ascends below is n (k, within, at) never =
     elim (cases_order k i) [
       | inl here ↦
@@ -98,8 +97,8 @@ module _ (s : ScenarioParts) (clocks : ℕ → ℕ → ℕ) (air : List Entry) (
         ];
   }
 
-pub all_there : (s : ScenarioParts) (air : List Entry) (i : Index) (flags : List Bool) → IsIndex air i → AreFlags i.sent.items (hearings_of air) flags → IsSoundScenario s
-    → (k : ℕ) → length i.sent.items ≤ k → ((j w : ℕ) (d : Sending) → j < k → IsMissing s air w (get_or i.sent.items j d) → ⊥)
+pub all_there : (s : ScenarioParts) (air : List Entry) (i : Index) (flags : List Bool) → IsIndex air i → AreFlags i.sent.items (hearings_of air) flags
+    → IsSoundScenario s → (k : ℕ) → length i.sent.items ≤ k → ((j w : ℕ) (d : Sending) → j < k → IsMissing s air w (get_or i.sent.items j d) → ⊥)
     → (v : ℕ) (x : Sending) → IsGiven s air v x → IsHeard air v x
 all_there s air i flags is are sound k over none v x given =
     let there = is.all_sent x given.heard.sent in

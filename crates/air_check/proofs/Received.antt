@@ -1,20 +1,19 @@
 -- What is looked at to decide a reception is what the rule of hearing asks.
-use Rattle.std.proofs.Common.{◌≡◌, ℕ, ◌+◌, ◌≤◌, ◌↔◌, ◌⊎◌, inl, inr, List, Bool, true, false, not, ◌&&◌, ◌||◌, ◌==◌}
-use Rattle.std.proofs.Common.{Option, Some, None, refl, sym, ◌∙◌, ap, subst, arith, eq-eqb, Contains}
+use Rattle.std.proofs.Common.{◌≡◌, ℕ, ◌+◌, ◌≤◌, ◌⊎◌, inl, inr, List, Bool, true, false, not, ◌&&◌, ◌||◌, ◌==◌}
+use Rattle.std.proofs.Common.{Option, Some, None, refl, sym, ◌∙◌, ap, subst, eq-eqb, Contains}
 use Rattle.std.proofs.lemmas.Bool.{and_parts, and_from, or_cases, or_left, or_right, eqb-true, cases_Bool}
 use Rattle.std.proofs.lemmas.Bool.{both_ways, not-true, not_from_false, false_from_ne_true, false≢true}
-use Rattle.std.proofs.lemmas.Slice.Eq.{bytes_eq-Decides}
 use Rattle.std.specs.List.{list_any}
 use Rattle.std.specs.Str.{bytes_eq}
 use Rattle.lwb_base.specs.Profile.{Numbers}
 use Rattle.link_trace.specs.Passes.{Lines, captured}
 use Rattle.radio_model.specs.OnAir.{Sending}
-use Rattle.radio_model.specs.Hearing.{Scene, Hears, Rival, Meets, Before, TunedThrough, frame_of, slot_of, counter_of}
+use Rattle.radio_model.specs.Hearing.{Scene, Hears, Rival, Before, TunedThrough, frame_of, slot_of, counter_of}
 use Rattle.radio_model.specs.Meetings.{comes_in_time}
 use Rattle.radio_model.specs.Stations.{overlaps}
 use Rattle.radio_model.proofs.Members.{any_of, some_of}
 use Rattle.radio_model.proofs.RivalFacts.{meets_true, meets_from, same_true, same_from, before_true, before_from}
-use Rattle.air_check.specs.Receptions.{AreNear, transmits, arrives, reaches, repeats, differs, spoils, repeats_from, is_captured, comes_through}
+use Rattle.air_check.specs.Receptions.{AreNear, transmits, arrives, meets_on, repeats, differs, spoils, repeats_from, is_captured, comes_through}
 
 none_any : {X : Type 0} (test : X → Bool) (xs : List X) (x : X) → list_any test xs ≡ false → Contains xs x → test x ≡ true → ⊥
 none_any test xs x none there so = both_ways (list_any test xs) none (any_of test xs x there so)
@@ -25,21 +24,23 @@ module _ (p : Numbers) (lines : Lines) (a : Scene) (numbers : a.numbers ≡ p) (
   rival_near : (y : Sending) → Rival a v x y → Contains near y
   rival_near y r = are.all y r.sent r.meets
 
-  rival_so : (y : Sending) → Rival a v x y → reaches p lines v x y ≡ true
-  rival_so y r =
-      and_from ((y.rank == x.rank) && overlaps x y) (arrives p lines v y)
-      (and_from (y.rank == x.rank) (overlaps x y) (eq-eqb y.rank x.rank r.channel) (meets_from x y r.meets))
-      (ap (λ (q : Numbers). arrives q lines v y) (sym numbers) ∙ ap (λ (l : Lines). arrives a.numbers l v y) (sym trace) ∙ r.arrives)
+  meets_so : (y : Sending) → Rival a v x y → meets_on x y ≡ true
+  meets_so y r = and_from (y.rank == x.rank) (overlaps x y) (eq-eqb y.rank x.rank r.channel) (meets_from x y r.meets)
 
-  rival_of : (y : Sending) → Contains near y → reaches p lines v x y ≡ true → Rival a v x y
-  rival_of y there so =
-      let two = and_parts ((y.rank == x.rank) && overlaps x y) (arrives p lines v y) so in
-      let one = and_parts (y.rank == x.rank) (overlaps x y) two.0 in
+  comes_so : (y : Sending) → Rival a v x y → arrives p lines v y ≡ true
+  comes_so y r = ap (λ (q : Numbers). arrives q lines v y) (sym numbers) ∙ ap (λ (l : Lines). arrives a.numbers l v y) (sym trace) ∙ r.arrives
+
+  repeats_so : (y : Sending) → Rival a v x y → y.packet ≡ x.packet → repeats x y ≡ true
+  repeats_so y r same = and_from (meets_on x y) (bytes_eq y.packet x.packet) (meets_so y r) (same_from y x same)
+
+  rival_of : (y : Sending) → Contains near y → meets_on x y ≡ true → arrives p lines v y ≡ true → Rival a v x y
+  rival_of y there on comes =
+      let one = and_parts (y.rank == x.rank) (overlaps x y) on in
       record {
         sent = are.among y there;
         channel = eqb-true y.rank x.rank one.0;
         meets = meets_true x y one.1;
-        arrives = ap (λ (l : Lines). arrives a.numbers l v y) trace ∙ ap (λ (q : Numbers). arrives q lines v y) numbers ∙ two.1;
+        arrives = ap (λ (l : Lines). arrives a.numbers l v y) trace ∙ ap (λ (q : Numbers). arrives q lines v y) numbers ∙ comes;
       }
 
   abbrev busy : Bool
@@ -87,8 +88,8 @@ module _ (p : Numbers) (lines : Lines) (a : Scene) (numbers : a.numbers ≡ p) (
     | inl so ↦ before_true p x y so
     | inr late ↦
         absurd (none_any (spoils p lines v x) near y q.clean (rival_near y r)
-        (and_from (repeats p lines v x y) (not (comes_in_time p x y))
-        (and_from (reaches p lines v x y) (bytes_eq y.packet x.packet) (rival_so y r) (same_from y x same)) (not_from_false (comes_in_time p x y) late)))
+        (and_from (repeats x y && not (comes_in_time p x y)) (arrives p lines v y)
+        (and_from (repeats x y) (not (comes_in_time p x y)) (repeats_so y r same) (not_from_false (comes_in_time p x y) late)) (comes_so y r)))
   ]
 
   alone : mixed ≡ false → (y : Sending) → Rival a v x y → y.packet ≡ x.packet
@@ -96,7 +97,8 @@ module _ (p : Numbers) (lines : Lines) (a : Scene) (numbers : a.numbers ≡ p) (
     | inl same ↦ same_true y x same
     | inr other ↦
         absurd (none_any (differs p lines v x) near y none (rival_near y r)
-        (and_from (reaches p lines v x y) (not (bytes_eq y.packet x.packet)) (rival_so y r) (not_from_false (bytes_eq y.packet x.packet) other)))
+        (and_from (meets_on x y && not (bytes_eq y.packet x.packet)) (arrives p lines v y)
+        (and_from (meets_on x y) (not (bytes_eq y.packet x.packet)) (meets_so y r) (not_from_false (bytes_eq y.packet x.packet) other)) (comes_so y r)))
   ]
 
   named_is : captured a.lines (frame_of a.numbers x) (slot_of x) (counter_of x) v ≡ named
@@ -129,13 +131,14 @@ module _ (p : Numbers) (lines : Lines) (a : Scene) (numbers : a.numbers ≡ p) (
           | inr so ↦
               let o = captured_parts named so in
               let s = some_of (repeats_from p lines v x o.0) near o.2 in
-              let two = and_parts (repeats p lines v x s.0) (s.0.node == o.0) s.2 in
-              let one = and_parts (reaches p lines v x s.0) (bytes_eq s.0.packet x.packet) two.0 in
+              let three = and_parts ((s.0.node == o.0) && repeats x s.0) (arrives p lines v s.0) s.2 in
+              let two = and_parts (s.0.node == o.0) (repeats x s.0) three.0 in
+              let one = and_parts (meets_on x s.0) (bytes_eq s.0.packet x.packet) two.1 in
               inr (record {
                 winner = s.0;
-                rival = rival_of s.0 s.1 one.0;
+                rival = rival_of s.0 s.1 one.0 three.1;
                 same = same_true s.0 x one.1;
-                named = named_is ∙ o.1 ∙ ap (λ (n : ℕ). Some n) (sym (eqb-true s.0.node o.0 two.1));
+                named = named_is ∙ o.1 ∙ ap (λ (n : ℕ). Some n) (sym (eqb-true s.0.node o.0 two.0));
               })
         ];
       }
@@ -149,22 +152,25 @@ module _ (p : Numbers) (lines : Lines) (a : Scene) (numbers : a.numbers ≡ p) (
         hears.silent y.0 (are.among y.0 y.1) (eqb-true y.0.node v two.0) (meets_true x y.0 two.1));
     clean = false_from_ne_true spoiled (λ some.
         let y = some_of (spoils p lines v x) near some in
-        let two = and_parts (repeats p lines v x y.0) (not (comes_in_time p x y.0)) y.2 in
-        let one = and_parts (reaches p lines v x y.0) (bytes_eq y.0.packet x.packet) two.0 in
-        let r = rival_of y.0 y.1 one.0 in
+        let three = and_parts (repeats x y.0 && not (comes_in_time p x y.0)) (arrives p lines v y.0) y.2 in
+        let two = and_parts (repeats x y.0) (not (comes_in_time p x y.0)) three.0 in
+        let one = and_parts (meets_on x y.0) (bytes_eq y.0.packet x.packet) two.0 in
+        let r = rival_of y.0 y.1 one.0 three.1 in
         let same = same_true y.0 x one.1 in
         both_ways (comes_in_time p x y.0) (not-true (comes_in_time p x y.0) two.1)
         (before_from p x y.0 (hears.first y.0 r same) (subst (λ (n : Numbers). y.0.start ≤ x.start + n.delta) numbers (hears.close y.0 r same))));
     chosen_so = elim hears.chosen [
       | inl alone ↦ inl (false_from_ne_true mixed (λ some.
           let y = some_of (differs p lines v x) near some in
-          let two = and_parts (reaches p lines v x y.0) (not (bytes_eq y.0.packet x.packet)) y.2 in
-          both_ways (bytes_eq y.0.packet x.packet) (not-true (bytes_eq y.0.packet x.packet) two.1) (same_from y.0 x (alone y.0 (rival_of y.0 y.1 two.0)))))
+          let three = and_parts (meets_on x y.0 && not (bytes_eq y.0.packet x.packet)) (arrives p lines v y.0) y.2 in
+          let two = and_parts (meets_on x y.0) (not (bytes_eq y.0.packet x.packet)) three.0 in
+          both_ways (bytes_eq y.0.packet x.packet) (not-true (bytes_eq y.0.packet x.packet) two.1)
+          (same_from y.0 x (alone y.0 (rival_of y.0 y.1 two.0 three.1)))))
       | inr c ↦
           let w = c.winner in
           inr (captured_from named w.node (sym named_is ∙ c.named)
           (any_of (repeats_from p lines v x w.node) near w (rival_near w c.rival)
-          (and_from (repeats p lines v x w) (w.node == w.node)
-          (and_from (reaches p lines v x w) (bytes_eq w.packet x.packet) (rival_so w c.rival) (same_from w x c.same)) (eq-eqb w.node w.node refl))))
+          (and_from ((w.node == w.node) && repeats x w) (arrives p lines v w)
+          (and_from (w.node == w.node) (repeats x w) (eq-eqb w.node w.node refl) (repeats_so w c.rival c.same)) (comes_so w c.rival))))
     ];
   })

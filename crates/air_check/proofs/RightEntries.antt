@@ -1,8 +1,9 @@
 -- Entries of a log that are right, one more at a time.
-use Rattle.std.proofs.Common.{◌≡◌, ◌≢◌, ℕ, ◌+◌, ◌-◌, ◌<◌, ◌≤◌, ◌⊎◌, inl, inr, List, [], ◌∷◌, ◌++◌, take, drop, length, get_or, Bool, true, false}
-use Rattle.std.proofs.Common.{Option, Some, None, option_to_list, refl, sym, ◌∙◌, ap, subst, arith, Contains, AllPairs, append-nil, length-append, length-take-le, take-append-drop}
-use Rattle.std.proofs.lemmas.Bool.{cases_lt}
-use Rattle.std.proofs.lemmas.List.{get_or_append_left, get_or_push, drop_more}
+use Rattle.std.proofs.Common.{◌≡◌, ◌≢◌, ℕ, ◌+◌, ◌<◌, inl, inr, List, [], ◌∷◌, ◌++◌, take, drop, length, get_or, Bool, true, false}
+use Rattle.std.proofs.Common.{Option, Some, None, option_to_list, refl, sym, ◌∙◌, ap, subst, arith, Contains, AllPairs, append-nil}
+use Rattle.std.proofs.Common.{length-take-le, take-append-drop}
+use Rattle.std.proofs.lemmas.List.{drop_more}
+use Rattle.std.proofs.lemmas.List.Quantifiers.{all_pairs_push}
 use Rattle.std.proofs.lemmas.List.Elements.{Contains-push_cases, Contains-get_or, filter_map-append}
 use Rattle.scenario_text.specs.ScenarioParts.{ScenarioParts}
 use Rattle.radio_model.specs.OnAir.{Hearing, Sending}
@@ -10,7 +11,7 @@ use Rattle.radio_model.proofs.Members.{not_in_none}
 use Rattle.radio_model.proofs.RivalLists.{one_kept}
 use Rattle.air_log.specs.declared.entry.Entry.{Entry}
 use Rattle.air_log.specs.declared.entry.Entry.TheVariants.{Sent, Heard, Tuned}
-use Rattle.air_log.specs.Entries.{hearing_in, hearings_of, heard_entry, IsHeard}
+use Rattle.air_log.specs.Entries.{hearing_in, hearings_of, heard_entry}
 use Rattle.air_check.specs.Flags.{AreFlags, TakesIn, GoesOn, IsWrong}
 use Rattle.air_check.specs.Verdicts.{IsGiven, AreGiven, IsFirstWrong}
 
@@ -31,19 +32,6 @@ heard_is (Heard x) h is = subst (λ (g : Hearing). Heard x ≡ heard_entry g.nod
   where
     some_is : {X : Type 0} {a b : X} → Some a ≡ Some b → a ≡ b
     some_is same = cc
-
-pairs_push : {X : Type 0} (R : X → X → Type 0) (xs : List X) (y : X) → AllPairs R xs → ((x : X) → Contains xs x → R x y) → AllPairs R (xs ++ y ∷ [])
-pairs_push {X} R xs y all last i j d less below =
-    let long = length-append xs (y ∷ []) in
-    let first : get_or (xs ++ y ∷ []) i d ≡ get_or xs i d = get_or_append_left xs (y ∷ []) d i (omega arith) in
-    elim (cases_lt j (length xs)) [
-      | inl inside ↦
-          subst (λ (x : X). R x (get_or (xs ++ y ∷ []) j d)) (sym first)
-          (subst (λ (z : X). R (get_or xs i d) z) (sym (get_or_append_left xs (y ∷ []) d j inside)) (all i j d less inside))
-      | inr end ↦
-          subst (λ (x : X). R x (get_or (xs ++ y ∷ []) j d)) (sym first)
-          (subst (λ (z : X). R (get_or xs i d) z) (sym (get_or_push xs y d j (omega arith))) (last (get_or xs i d) (Contains-get_or xs i d (omega arith))))
-    ]
 
 module _ (s : ScenarioParts) (air : List Entry) where
   pub none_wrong : AreGiven s air []
@@ -66,7 +54,8 @@ module _ (s : ScenarioParts) (air : List Entry) where
               | inr same ↦ subst (λ (g : Hearing). IsGiven s air g.node g.sending) same right
             ];
         once = subst (λ (hs : List Hearing). AllPairs (λ g k. g ≢ k) hs) (sym more)
-            (pairs_push (λ (g k : Hearing). g ≢ k) (hearings_of above) h given.once (λ g there same. new (subst (λ (k : Hearing). Contains (hearings_of above) k) same there)));
+            (all_pairs_push (λ (g k : Hearing). g ≢ k) (hearings_of above) h given.once
+            (λ k d below same. new (subst (λ (g : Hearing). Contains (hearings_of above) g) same (Contains-get_or (hearings_of above) k d below))));
       }
 
   pub takes : (sent : List Sending) (above : List Entry) (e : Entry) (h : Hearing) (flags : List Bool) (result : Bool) → hearing_in e ≡ Some h

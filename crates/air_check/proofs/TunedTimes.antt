@@ -1,10 +1,10 @@
 -- The search in the tunings of a log tells until when a node is on a channel.
-use Rattle.std.proofs.Common.{◌≡◌, ℕ, ◌+◌, ◌-◌, ◌<◌, ◌≤◌, ◌⊎◌, inl, inr, List, length, Bool, true, false, ◌&&◌, ◌||◌, ◌==◌, nat_lt, nat_le}
-use Rattle.std.proofs.Common.{Option, Some, None, IfSome, IfNone, refl, sym, ◌∙◌, ap, subst, arith, Contains, get_or, AllPairs, eq-eqb, true≢false}
-use Rattle.std.proofs.lemmas.Bool.{and_parts, and_from, or_cases, or_left, or_right, eqb-true, ltb-true, lt-ltb, leb-true, le-leb, cases_lt, cases_eq}
+use Rattle.std.proofs.Common.{◌≡◌, ℕ, ◌-◌, ◌<◌, ◌≤◌, ◌⊎◌, inl, inr, List, length, true, false, ◌&&◌, ◌||◌, ◌==◌, nat_lt, nat_le}
+use Rattle.std.proofs.Common.{Option, Some, None, IfSome, IfNone, sym, ◌∙◌, ap, subst, arith, Contains, get_or, AllPairs, eq-eqb, true≢false}
+use Rattle.std.proofs.lemmas.Bool.{and_parts, and_from, or_cases, or_left, or_right, eqb-true, ltb-true, lt-ltb, leb-true, le-leb, cases_lt}
 use Rattle.std.specs.List.Sorted.{IsPartitionedBy, IsPartitionPoint}
 use Rattle.radio_model.specs.Hearing.{Scene, IsTuned}
-use Rattle.air_check.specs.Tunings.{IsNoLater, IsOf, IsIn, AreTuned, IsUntil, begins_by}
+use Rattle.air_check.specs.Tunings.{IsNoLater, AreTuned, IsUntil, begins_by}
 use Rattle.air_check.specs.declared.tunings.Tuned.{Tuned}
 
 module _ (v channel t : ℕ) where
@@ -28,7 +28,8 @@ module _ (v channel t : ℕ) where
   ]
 
   begun_so : (e : Tuned) → Begins e → begins_by v channel t e ≡ true
-  begun_so e (inl less) = or_left (nat_lt e.node v) ((e.node == v) && (nat_lt e.rank channel || ((e.rank == channel) && nat_le e.start t))) (lt-ltb e.node v less)
+  begun_so e (inl less) =
+      or_left (nat_lt e.node v) ((e.node == v) && (nat_lt e.rank channel || ((e.rank == channel) && nat_le e.start t))) (lt-ltb e.node v less)
   begun_so e (inr (node, inl less)) =
       or_right (nat_lt e.node v) ((e.node == v) && (nat_lt e.rank channel || ((e.rank == channel) && nat_le e.start t)))
       (and_from (e.node == v) (nat_lt e.rank channel || ((e.rank == channel) && nat_le e.start t)) (eq-eqb e.node v node)
@@ -76,7 +77,8 @@ module _ (v channel t : ℕ) where
         elim (cases_lt e.place begun) [
           | inl below ↦ below
           | inr not ↦ absurd (true≢false (sym (begun_so (get_or es e.place d)
-              (inr (e.node d ∙ on.node, inr (e.rank d ∙ on.rank, (let s = e.start d in let since = on.since in omega arith))))) ∙ point.1 e.place d not e.below))
+              (inr (e.node d ∙ on.node, inr (e.rank d ∙ on.rank, (let s = e.start d in let since = on.since in omega arith)))))
+              ∙ point.1 e.place d not e.below))
         ]
 
     pub none_begun : begun ≡ 0 → IsTuned a v channel t → ⊥

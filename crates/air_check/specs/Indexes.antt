@@ -1,5 +1,5 @@
 -- The transmissions and tunings of a log, in orders in which they are searched.
-use Rattle.std.specs.Prelude.{◌≡◌, ℕ, ◌+◌, ◌<◌, ◌≤◌, List, All, AllPairs, Contains}
+use Rattle.std.specs.Prelude.{◌+◌, ◌<◌, ◌≤◌, List, All, AllPairs, Contains}
 use Rattle.radio_model.specs.Hearing.{Before}
 use Rattle.radio_model.specs.OnAir.{Sending}
 use Rattle.air_log.specs.declared.entry.Entry.{Entry}

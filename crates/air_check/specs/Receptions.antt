@@ -1,5 +1,5 @@
 -- What decides whether a node receives a transmission, over transmissions among which are all that overlap it.
-use Rattle.std.specs.Prelude.{◌≡◌, ℕ, ◌<◌, List, Bool, false, not, ◌&&◌, ◌||◌, ◌==◌, Option, Some, None, Contains}
+use Rattle.std.specs.Prelude.{ℕ, List, Bool, false, not, ◌&&◌, ◌||◌, ◌==◌, Option, Some, None, Contains}
 use Rattle.std.specs.List.{list_any}
 use Rattle.std.specs.Str.{bytes_eq}
 use Rattle.lwb_base.specs.Profile.{Numbers}
@@ -22,25 +22,25 @@ transmits v x y = (y.node == v) && overlaps x y
 abbrev pub arrives : Numbers → Lines → ℕ → Sending → Bool
 arrives p lines v y = passes lines (frame_of p y) (slot_of y) (counter_of y) y.node v
 
--- y comes to v on the channel of x while x does
-abbrev pub reaches : Numbers → Lines → ℕ → Sending → Sending → Bool
-reaches p lines v x y = (y.rank == x.rank) && overlaps x y && arrives p lines v y
+-- y is on the channel of x while x is on the air
+abbrev pub meets_on : Sending → Sending → Bool
+meets_on x y = (y.rank == x.rank) && overlaps x y
 
 -- with the packet of x
-abbrev pub repeats : Numbers → Lines → ℕ → Sending → Sending → Bool
-repeats p lines v x y = reaches p lines v x y && bytes_eq y.packet x.packet
+abbrev pub repeats : Sending → Sending → Bool
+repeats x y = meets_on x y && bytes_eq y.packet x.packet
 
--- with another packet
-abbrev pub differs : Numbers → Lines → ℕ → Sending → Sending → Bool
-differs p lines v x y = reaches p lines v x y && not (bytes_eq y.packet x.packet)
-
--- with the packet of x, but earlier than x or too late after it
+-- with the packet of x, but earlier than x or too late after it, y comes to v
 abbrev pub spoils : Numbers → Lines → ℕ → Sending → Sending → Bool
-spoils p lines v x y = repeats p lines v x y && not (comes_in_time p x y)
+spoils p lines v x y = repeats x y && not (comes_in_time p x y) && arrives p lines v y
 
--- with the packet of x, and from node u
+-- with another packet y comes to v
+abbrev pub differs : Numbers → Lines → ℕ → Sending → Sending → Bool
+differs p lines v x y = meets_on x y && not (bytes_eq y.packet x.packet) && arrives p lines v y
+
+-- with the packet of x, y comes to v from node u
 abbrev pub repeats_from : Numbers → Lines → ℕ → Sending → ℕ → Sending → Bool
-repeats_from p lines v x u y = repeats p lines v x y && (y.node == u)
+repeats_from p lines v x u y = (y.node == u) && repeats x y && arrives p lines v y
 
 -- the node that a capture line names sends the packet of x
 abbrev pub is_captured : Numbers → Lines → ℕ → Sending → List Sending → Option ℕ → Bool

@@ -1,5 +1,6 @@
 -- Until when a node is on a channel, by the tunings of a log in the order of node, channel and start.
-use Rattle.std.specs.Prelude.{◌≡◌, ℕ, ◌-◌, ◌<◌, ◌≤◌, ◌⊎◌, List, Bool, ◌||◌, ◌&&◌, ◌==◌, nat_lt, nat_le, Option, Some, None, Contains, AllPairs, length, slice_index_or}
+use Rattle.std.specs.Prelude.{◌≡◌, ℕ, ◌-◌, ◌<◌, ◌≤◌, ◌⊎◌, List, Bool, ◌||◌, ◌&&◌, ◌==◌, nat_lt, nat_le, Option, Some, None}
+use Rattle.std.specs.Prelude.{Contains, AllPairs, length, slice_index_or}
 use Rattle.radio_model.specs.Hearing.{Scene, IsTuned}
 use Rattle.radio_model.specs.OnAir.{Tuning}
 use Rattle.air_check.specs.declared.tunings.Tuned.{Tuned}

@@ -1,6 +1,7 @@
 //! Which receptions are in a log: a flag for each transmission and each id.
 
-ghost use Rattle.std.specs.Prelude.{◌≡◌, ◌≢◌, ◌+◌, ◌*◌, ◌<◌, ◌≤◌, ◌↔◌, ◌++◌, ◌∷◌, [], ℕ, List, true, IfOk, IfSome, IfNone, AllPairs, Contains, length, set, slice_index_or};
+ghost use Rattle.std.specs.Prelude.{◌≡◌, ◌+◌, ◌*◌, ◌<◌, ◌≤◌, ◌↔◌, ◌++◌, ◌∷◌, [], ℕ, List, true, IfOk, IfSome, IfNone};
+ghost use Rattle.std.specs.Prelude.{AllPairs, Contains, length, set, slice_index_or};
 ghost use Rattle.std.specs.Option.{option_map, option_copied};
 ghost use Rattle.radio_model.specs.Hearing.{Before};
 ghost use Rattle.air_log.specs.Entries.{hearing_in};

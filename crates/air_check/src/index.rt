@@ -1,7 +1,6 @@
 //! The transmissions and tunings of a log, in the orders in which they are searched.
 
 ghost use Rattle.std.specs.Prelude.{◌≡◌, ◌↔◌, ◌<◌, ◌≤◌, ◌^◌, length, slice_index_or, IfOk, OnOk, IsPermutation, AllPairs, Contains, ◌++◌, option_to_list, true};
-ghost use Rattle.std.specs.Option.{option_map};
 ghost use Rattle.radio_model.specs.Hearing.{Before};
 ghost use Rattle.scenario_clocks.specs.StatedClocks.{scenario_clock};
 ghost use Rattle.std.specs.Prelude.{List};

@@ -1,6 +1,6 @@
 //! The first reception that is missing in a log.
 
-ghost use Rattle.std.specs.Prelude.{◌≡◌, ◌≤◌, ◌*◌, ◌<◌, ◌++◌, ◌∷◌, [], ℕ, List, IfOk, OnOk, IfSome, IfNone, AllPairs, length, slice_index_or};
+ghost use Rattle.std.specs.Prelude.{◌≡◌, ◌*◌, ◌<◌, ◌++◌, ◌∷◌, [], ℕ, List, IfOk, IfSome, IfNone, AllPairs, length, slice_index_or};
 ghost use Rattle.scenario_text.specs.ScenarioGrammar.{IsScenario};
 ghost use Rattle.scenario_clocks.specs.StatedClocks.{scenario_clock};
 ghost use Rattle.air_log.specs.declared.entry.Entry.{Entry};

@@ -1,6 +1,6 @@
 //! Which transmissions of a log can overlap one of them.
 
-ghost use Rattle.std.specs.Prelude.{◌≡◌, ◌+◌, ◌≤◌, All, AllPairs, Contains};
+ghost use Rattle.std.specs.Prelude.{◌+◌, ◌≤◌, All, AllPairs};
 ghost use Rattle.radio_model.specs.Hearing.{Before};
 ghost use Rattle.air_check.specs.Receptions.{AreNear};
 

@@ -1,4 +1,4 @@
-//! What the transmissions do to a reception that overlap it.
+//! What transmissions that overlap another one do to its reception.
 
 ghost use Rattle.std.specs.Prelude.{◌≡◌, ◌≤◌, ◌^◌, All, true};
 ghost use Rattle.std.specs.List.{list_any};
@@ -7,7 +7,8 @@ ghost use Rattle.link_trace.specs.Passes.{captured};
 ghost use Rattle.radio_model.specs.Hearing.{frame_of, slot_of, counter_of};
 ghost use Rattle.radio_model.specs.Meetings.{comes_in_time as in_time};
 ghost use Rattle.radio_model.specs.Stations.{overlaps as overlap_of};
-ghost use Rattle.air_check.specs.Receptions.{transmits, arrives as arrival, reaches as reach, repeats as repetition, differs, spoils, repeats_from, is_captured as captured_by};
+ghost use Rattle.air_check.specs.Receptions.{transmits, arrives as arrival, meets_on as meets_on_channel, repeats as repetition};
+ghost use Rattle.air_check.specs.Receptions.{differs, spoils, repeats_from, is_captured as captured_by};
 
 use link_trace::Trace;
 use lwb_base::{NodeId, Profile};
@@ -42,7 +43,7 @@ pub(crate) fn is_spoiled(
     ensures { result ≡ list_any (spoils profile.now trace.now.lines node x.now) near.now }
 {
     for y in near {
-        if repeats(profile, trace, node, x, y) && !comes_in_time(profile, x, y) {
+        if repeats(x, y) && !comes_in_time(profile, x, y) && arrives(profile, trace, node, y) {
             return true;
         }
     }
@@ -61,7 +62,7 @@ pub(crate) fn is_mixed(
     ensures { result ≡ list_any (differs profile.now trace.now.lines node x.now) near.now }
 {
     for y in near {
-        if reaches(profile, trace, node, x, y) && !same_packet(x, y) {
+        if meets_on(x, y) && !same_packet(x, y) && arrives(profile, trace, node, y) {
             return true;
         }
     }
@@ -101,25 +102,24 @@ fn comes_from(
     ensures { result ≡ list_any (repeats_from profile.now trace.now.lines node x.now sender) near.now }
 {
     for y in near {
-        if repeats(profile, trace, node, x, y) && y.node == sender {
+        if y.node == sender && repeats(x, y) && arrives(profile, trace, node, y) {
             return true;
         }
     }
     false
 }
 
-fn repeats(profile: &Profile, trace: &Trace, node: NodeId, x: &Sending, y: &Sending) -> bool
-    requires { y.now.start ≤ 2 ^ 46 }
-    ensures { result ≡ repetition profile.now trace.now.lines node x.now y.now }
+fn repeats(x: &Sending, y: &Sending) -> bool
+    ensures { result ≡ repetition x.now y.now }
 {
-    reaches(profile, trace, node, x, y) && same_packet(x, y)
+    meets_on(x, y) && same_packet(x, y)
 }
 
-fn reaches(profile: &Profile, trace: &Trace, node: NodeId, x: &Sending, y: &Sending) -> bool
-    requires { y.now.start ≤ 2 ^ 46 }
-    ensures { result ≡ reach profile.now trace.now.lines node x.now y.now }
+// Whether y is on the channel of x while x is on the air.
+fn meets_on(x: &Sending, y: &Sending) -> bool
+    ensures { result ≡ meets_on_channel x.now y.now }
 {
-    y.rank == x.rank && overlap(x, y) && arrives(profile, trace, node, y)
+    y.rank == x.rank && overlap(x, y)
 }
 
 fn same_packet(x: &Sending, y: &Sending) -> bool

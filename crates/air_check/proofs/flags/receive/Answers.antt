@@ -1,4 +1,4 @@
-use Rattle.std.proofs.Common.{ℕ, ◌<◌, length, sym, ap, subst, arith, ◌∙◌, Bool}
+use Rattle.std.proofs.Common.{ℕ, ◌<◌, length, sym, subst, arith, ◌∙◌}
 use Rattle.std.proofs.lemmas.Bool.{both_ways}
 use Rattle.radio_model.proofs.Members.{same_default}
 use Rattle.air_log.specs.Courses.{hearing_of}

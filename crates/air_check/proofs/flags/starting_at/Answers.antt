@@ -13,7 +13,8 @@ returns-clause-all c =
     let count = c.partition_point-count.result in
     let begin = IsPartitionPoint-from_clause (λ (y : Sending). nat_lt y.start t) sent first c.partition_point-begin.ensures.partitioned
     (starts_before sent t c.requires) (λ a r g called. search rules) in
-    let rest : take (length sent - first) (drop first sent) ≡ drop first sent = take_all (length sent - first) (drop first sent) (omega (arith, length-drop first sent)) in
+    let rest : take (length sent - first) (drop first sent) ≡ drop first sent =
+    take_all (length sent - first) (drop first sent) (omega (arith, length-drop first sent)) in
     let end = IsPartitionPoint-from_clause (λ (y : Sending). nat_le y.start t) (take (length sent - first) (drop first sent)) count
     c.partition_point-count.ensures.partitioned (rw rest (rest_starts_by sent t first c.requires)) (λ a r g called. search rules) in
     starting sent c.requires t first count c.partition_point-begin.ensures.bound (rw rest at c.partition_point-count.ensures.bound) begin (rw rest at end)

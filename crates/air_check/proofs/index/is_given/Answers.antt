@@ -17,7 +17,8 @@ receives-requires-clause-starts c =
 
 pub receives-requires-clause-start : goal.receives-requires-clause-start
 receives-requires-clause-start c =
-    let early = All-contains (λ (y : Sending). y.start < run_end c.args.s.now) c.args.index.now.sent.items c.args.x.now c.requires.searchable.early c.requires.there in
+    let early =
+    All-contains (λ (y : Sending). y.start < run_end c.args.s.now) c.args.index.now.sent.items c.args.x.now c.requires.searchable.early c.requires.there in
     omega (arith, early, c.run_end.ensures.value, c.run_end.ensures.range)
 
 pub returns : goal.returns

@@ -1,4 +1,4 @@
-use Rattle.std.proofs.Common.{◌≡◌, ◌<◌, ℕ, get_or, inl, inr, sym, ap, subst, refl, arith, Bool, List, Option, Some}
+use Rattle.std.proofs.Common.{ℕ, get_or, inl, inr, sym, subst, refl, arith, Bool, List, Some}
 use Rattle.std.proofs.lemmas.Bool.{cases_lt}
 use Rattle.scenario_clocks.specs.StatedClocks.{scenario_clock}
 use Rattle.scenario_text.proofs.SoundScenarios.{sound}

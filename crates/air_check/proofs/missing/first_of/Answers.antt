@@ -1,9 +1,8 @@
-use Rattle.std.proofs.Common.{◌≡◌, ◌≤◌, ◌<◌, ◌+◌, ◌++◌, ◌∷◌, [], ℕ, get_or, inl, inr, take, Contains, AllPairs, sym, ap, subst, ◌∙◌, Bool, List, true, false}
+use Rattle.std.proofs.Common.{◌≡◌, ◌≤◌, ◌<◌, ◌+◌, ◌++◌, ◌∷◌, [], ℕ, get_or, inl, inr, take, Contains, AllPairs, sym, ap, subst, ◌∙◌, Bool, List}
 use Rattle.std.proofs.lemmas.List.{take_more, take_all}
 use Rattle.std.proofs.lemmas.List.Elements.{Contains-push_cases}
 use Rattle.scenario_text.specs.declared.lines.NodeLine.{NodeLine}
 use Rattle.scenario_text.proofs.SoundScenarios.{sound}
-use Rattle.radio_model.specs.OnAir.{Sending}
 use Rattle.air_log.specs.Entries.{hearings_of}
 use Rattle.air_check.specs.Flags.{IsDue}
 use Rattle.air_check.specs.Verdicts.{IsMissing}

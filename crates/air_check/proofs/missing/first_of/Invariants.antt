@@ -1,4 +1,4 @@
-use Rattle.std.proofs.Common.{ℕ, List, Contains, take, get_or}
+use Rattle.std.proofs.Common.{List, Contains, take, get_or}
 use Rattle.scenario_text.specs.declared.lines.NodeLine.{NodeLine}
 use Rattle.radio_model.specs.OnAir.{Sending}
 use Rattle.air_log.specs.declared.entry.Entry.{Entry}

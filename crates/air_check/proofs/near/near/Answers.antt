@@ -1,4 +1,4 @@
-use Rattle.std.proofs.Common.{◌≡◌, ◌-◌, ℕ, nat_lt, length, take, drop, arith, rules, length-drop}
+use Rattle.std.proofs.Common.{◌≡◌, ◌-◌, nat_lt, length, take, drop, arith, rules, length-drop}
 use Rattle.std.proofs.lemmas.List.{take_all}
 use Rattle.std.proofs.lemmas.List.Sorted.{IsPartitionPoint-from_clause}
 use Rattle.radio_model.specs.OnAir.{Sending}
@@ -14,7 +14,8 @@ returns c =
     let earliest = c.saturating_sub-earliest.result in
     let begin = IsPartitionPoint-from_clause (λ (y : Sending). nat_lt y.start earliest) sent first c.partition_point-first.ensures.partitioned
     (starts_before sent earliest c.requires.in_order) (λ a r g called. search rules) in
-    let rest : take (length sent - first) (drop first sent) ≡ drop first sent = take_all (length sent - first) (drop first sent) (omega (arith, length-drop first sent)) in
+    let rest : take (length sent - first) (drop first sent) ≡ drop first sent =
+    take_all (length sent - first) (drop first sent) (omega (arith, length-drop first sent)) in
     let end = IsPartitionPoint-from_clause (λ (y : Sending). nat_lt y.start x.end) (take (length sent - first) (drop first sent)) count
     c.partition_point-count.ensures.partitioned (rw rest (rest_starts_before sent x.end first c.requires.in_order)) (λ a r g called. search rules) in
     rw rest (are_near sent c.args.longest x c.requires.in_order c.requires.longest earliest first count c.partition_point-first.ensures.bound

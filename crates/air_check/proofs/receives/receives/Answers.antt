@@ -11,7 +11,9 @@ returns-then-is_tuned_through c =
     let near = c.args.near.now in
     let x = c.args.x.now in
     let v = c.args.node in (
-      λ so. gives p lines a numbers trace near x are v sent ((c.is_tuned_through.ensures a tuned).0 c.if-is_tuned_through.true) (sym c.comes_through.ensures ∙ so),
+      λ so.
+          gives p lines a numbers trace near x are v sent ((c.is_tuned_through.ensures a tuned).0 c.if-is_tuned_through.true)
+          (sym c.comes_through.ensures ∙ so),
       λ hears. c.comes_through.ensures ∙ asks p lines a numbers trace near x are v hears,
     )
 

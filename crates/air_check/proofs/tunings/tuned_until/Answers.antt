@@ -1,4 +1,4 @@
-use Rattle.std.proofs.Common.{rules, arith, ◌-◌}
+use Rattle.std.proofs.Common.{rules, arith}
 use Rattle.std.proofs.lemmas.List.Sorted.{IsPartitionPoint-from_clause}
 use Rattle.air_check.specs.Tunings.{begins_by}
 use Rattle.air_check.proofs.TunedTimes.{parted, none_begun, until_is}

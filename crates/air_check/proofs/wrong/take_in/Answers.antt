@@ -1,4 +1,4 @@
-use Rattle.std.proofs.Common.{◌≡◌, ◌++◌, ◌∷◌, [], Contains, inl, inr, get_or, ap, sym, subst, ◌∙◌, Bool, List, true, false}
+use Rattle.std.proofs.Common.{◌≡◌, ◌++◌, ◌∷◌, [], Contains, inl, get_or, ap, sym, subst, ◌∙◌, Bool, List, true, false}
 use Rattle.radio_model.specs.OnAir.{Sending}
 use Rattle.air_log.specs.Courses.{hearing_of}
 use Rattle.air_check.specs.Flags.{AreFlags, IsDue}
