@@ -1,10 +1,10 @@
-use Rattle.std.proofs.Common.{◌≡◌, ℕ, List, refl, rules}
+use Rattle.std.proofs.Common.{ℕ, refl, rules}
 use Rattle.radio_model.specs.declared.sending.Sending.{Sending}
 use Rattle.scenario_clocks.specs.StatedClocks.{scenario_clock}
 use Rattle.air_log.specs.Entries.{IsHeard}
-use Rattle.air_log.specs.Lawful.{FollowsTrails, Lawful as LawfulLog}
-use Rattle.air_check.specs.declared.verdict.Verdict.TheVariants.{Lawful, Heard}
-use Rattle.air_check.specs.Verdicts.{IsGiven, AreGiven, IsFirstWrong, IsVerdict}
+use Rattle.air_log.specs.Lawful.{FollowsTrails}
+use Rattle.air_check.specs.declared.verdict.Verdict.TheVariants.{Heard}
+use Rattle.air_check.specs.Verdicts.{IsGiven, AreGiven, IsFirstWrong}
 use Rattle.air_check.proofs.LawfulVerdicts.{is_lawful, lawful_where}
 use Rattle.air_check.proofs.log_check.check.Goals as goal
 
