@@ -11,12 +11,12 @@ ghost use Rattle.air_log.specs.Lawful.{FollowsTrails};
 ghost use Rattle.air_check.specs.Indexes.{IsIndex, IsSearchable};
 ghost use Rattle.air_check.specs.Verdicts.{IsGiven};
 
-use radio_model::near::{longest, near};
 use crate::receives::receives;
 use crate::tuned_index::tuned_of;
 use crate::tunings::Tuned;
 use air_log::{Air, Entry, SentEntry};
 use lwb_base::{Memory, NodeId};
+use radio_model::near::{longest, near};
 use radio_model::sending::Sending;
 use scenario_text::Scenario;
 use std::alloc::Global;

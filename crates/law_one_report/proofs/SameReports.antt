@@ -126,9 +126,11 @@ one_report laws (Demo seed nodes frames) asked bytes a b text other is also =
     let said : IsScenario s = (canonical s, laws.said seed nodes frames asked.1.2) in
     one_run laws s said summary (sums_alike laws s said) a b text other is also
 one_report laws Check asked bytes a b text other is also =
-    let same : (is.0, is.1) ≡ (also.0, also.1) = one_said (checked_text bytes) (is.0, is.1) (also.0, also.1) is.2 also.2 in
-    (one_check laws is.0 is.1 text other is.3.1
-    (subst (λ (t : ScenarioParts × List Entry). IsCheckReport t.0 t.1 other) (sym same) also.3.1), no_logs laws bytes a b text other is.3.0 also.3.0)
+    let same : (is.0, is.1) ≡ (also.0, also.1) = one_said (checked_text bytes) (is.0, is.1) (also.0, also.1) is.2 also.2 in (
+      one_check laws is.0 is.1 text other is.3.1
+          (subst (λ (t : ScenarioParts × List Entry). IsCheckReport t.0 t.1 other) (sym same) also.3.1),
+      no_logs laws bytes a b text other is.3.0 also.3.0,
+    )
 one_report laws Deadlines asked bytes a b text other is also =
     let here = subst (λ (p : Plan). IsDeadlineReport p other) (one_said _ also.0 is.0 also.1 is.1) also.2.1 in
     (one_plan_report is.0 text other is.2.1 here, no_logs laws bytes a b text other is.2.0 also.2.0)

@@ -10,9 +10,9 @@ ghost use Rattle.radio_model.specs.Stations.{overlaps as overlap_of};
 ghost use Rattle.radio_model.specs.Receptions.{transmits, arrives as arrival, meets_on as meets_on_channel, repeats as repetition};
 ghost use Rattle.radio_model.specs.Receptions.{differs, spoils, repeats_from, is_captured as captured_by};
 
+use crate::sending::Sending;
 use link_trace::Trace;
 use lwb_base::{NodeId, Profile};
-use crate::sending::Sending;
 
 /// Whether the node itself transmits while x is on the air.
 pub fn is_busy(near: &[Sending], node: NodeId, x: &Sending) -> bool

@@ -41,6 +41,5 @@ fn is_undisturbed(
     arrives(profile, trace, node, x)
         && !is_busy(near, node, x)
         && !is_spoiled(profile, trace, near, node, x)
-        && (!is_mixed(profile, trace, near, node, x)
-            || is_captured(profile, trace, near, node, x))
+        && (!is_mixed(profile, trace, near, node, x) || is_captured(profile, trace, near, node, x))
 }

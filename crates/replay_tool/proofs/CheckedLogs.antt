@@ -21,9 +21,9 @@ check_report s said log verdict judged text is = record {
   is = is;
   exactly = λ lawful. one_verdict s (scenario_clock s) log verdict Lawful judged lawful;
   bus = λ same.
-    bus_run s (scenario_clock s) log (record {
-      sound = sound s said;
-      drift = scenario_clocks_drift s said;
-      lawful = subst (IsVerdict s (scenario_clock s) log) same judged;
-    });
+      bus_run s (scenario_clock s) log (record {
+        sound = sound s said;
+        drift = scenario_clocks_drift s said;
+        lawful = subst (IsVerdict s (scenario_clock s) log) same judged;
+      });
 }

@@ -32,7 +32,8 @@ pub struct Outcome {
     pub air: Air,
 }
 
-const USAGE: &[u8; 76] = b"usage: flood | run | log | bus | demo SEED NODES FRAMES | check | deadlines\n";
+const USAGE: &[u8; 76] =
+    b"usage: flood | run | log | bus | demo SEED NODES FRAMES | check | deadlines\n";
 
 const TOO_LONG: &[u8; 15] = b"fault too long\n";
 

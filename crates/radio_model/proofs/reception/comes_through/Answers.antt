@@ -9,8 +9,7 @@ returns c =
     let lines = c.args.trace.now.lines in
     let near = c.args.near.now in
     let x = c.args.x.now in
-    let v = c.args.node in
-    (
+    let v = c.args.node in (
       λ so. gives p lines a numbers trace near x are v sent tuned (sym c.is_undisturbed.ensures ∙ so),
       λ hears. c.is_undisturbed.ensures ∙ asks p lines a numbers trace near x are v hears,
     )

@@ -9,6 +9,6 @@ returns c = (
   (
     c.new.ensures,
     check_report c.in-Ok.text.0 c.in-Ok.ensures.scenario c.in-Ok.text.1 c.in_ok-verdict.verdict c.in_ok-verdict.ensures.verdict _
-    c.in_ok-report.ensures,
+        c.in_ok-report.ensures,
   ),
 )
