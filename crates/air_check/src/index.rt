@@ -1,6 +1,6 @@
 //! The transmissions and tunings of a log, in the orders in which they are searched.
 
-ghost use Rattle.std.specs.Prelude.{◌≡◌, ◌↔◌, ◌<◌, ◌≤◌, ◌^◌, length, slice_index_or, IfOk, OnOk, IsPermutation, AllPairs, Contains, ◌++◌, option_to_list, true};
+ghost use Rattle.std.specs.Prelude.{◌≡◌, nat_lt, ◌↔◌, ◌<◌, ◌≤◌, ◌^◌, length, slice_index_or, IfOk, OnOk, IsPermutation, AllPairs, Contains, ◌++◌, option_to_list, true};
 ghost use Rattle.radio_model.specs.Hearing.{Before};
 ghost use Rattle.scenario_clocks.specs.StatedClocks.{scenario_clock};
 ghost use Rattle.std.specs.Prelude.{List};
@@ -53,7 +53,7 @@ pub(crate) fn is_given(s: &Scenario, index: &Index, node: NodeId, x: &Sending) -
     requires there { Contains index.now.sent.items x.now }
     ensures { (air : List Entry) → IsIndex air index.now → (result ≡ true ↔ IsGiven s.now air node x.now) }
 {
-    if x.end >= run_end(s) {
+    if !ends_in_run(s, x) {
         return false;
     }
     let near = near(&index.sent, index.longest, x);
@@ -66,6 +66,14 @@ pub(crate) fn entry_at(air: &Air, i: usize) -> &Entry
     ensures { result.now ≡ slice_index_or air.now i result.now }
 {
     air.at(i).unwrap()
+}
+
+// Whether x ends before the run does.
+fn ends_in_run(s: &Scenario, x: &Sending) -> bool
+    ensures value { result ≡ nat_lt x.now.end (run_end_of s.now) }
+    ensures range { run_end_of s.now ≤ 2 ^ 46 }
+{
+    x.end < run_end(s)
 }
 
 // The tick at which the run ends.
