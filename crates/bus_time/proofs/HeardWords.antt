@@ -1,0 +1,88 @@
+-- Where a node begins the flood of data without hosting, it has heard a schedule for the frame, and that was over before.
+use Rattle.std.proofs.Common.{◌≡◌, ℕ, ◌+◌, ◌<◌, ◌≤◌, inl, inr, List, length, Contains, Some, sym, subst, arith}
+use Rattle.std.specs.Prelude.{slice_index}
+use Rattle.std.proofs.Math.Nat.{mul-le-mul_right, mul-le-mul_left}
+use Rattle.std.proofs.lemmas.Bool.{cases_lt}
+use Rattle.lwb_base.specs.Profile.{step}
+use Rattle.lwb_base.specs.Messages.{Schedule}
+use Rattle.time_reference.specs.Budgets.{budget_of}
+use Rattle.time_reference.specs.Zeros.{starting, Good}
+use Rattle.bus_rules.specs.Slots.{Data, DataOf, ScheduleOf}
+use Rattle.lwb_member.specs.Said.{message_of}
+use Rattle.scenario_text.specs.ScenarioParts.{ScenarioParts}
+use Rattle.radio_model.specs.declared.sending.Sending.{Sending}
+use Rattle.radio_model.specs.Hearing.{frame_of, slot_of, counter_of}
+use Rattle.air_log.specs.declared.entry.Entry.{Entry}
+use Rattle.air_log.specs.Entries.{sendings_of, IsHeard}
+use Rattle.law_trails.proofs.SlotBounds.{slots_apart}
+use Rattle.law_trails.proofs.SaidPackets.{says}
+use Rattle.law_trails.proofs.ProfilePackets.{in_slot}
+use Rattle.law_safety.specs.FloodSendings.{IsOfFlood}
+use Rattle.law_safety.specs.Endings.{EndsInOrder}
+use Rattle.law_safety.proofs.FloodTimes.{after_frame_start, before_frame_end, host_drifts, in_flood, origin_drifts, packet_short, slot_in_round, zero_good}
+use Rattle.law_safety.proofs.RunFacts.{run_fits}
+use Rattle.law_safety.proofs.RunSendings.{of_flood}
+
+-- data is sent in slot 1 or later
+pub data_slot : (q : List ℕ) (d : Data) → message_of q ≡ Some (DataOf d) → 1 ≤ slice_index q 1
+data_slot q d is = (says q (DataOf d) is).place.0.slot.0
+
+module _ (s : ScenarioParts) (clocks : ℕ → ℕ → ℕ) (air : List Entry) (whole : EndsInOrder s clocks air) where
+  -- what is of an earlier slot of the round is over
+  earlier_slot : (x y : Sending) (is : IsOfFlood s clocks air x) (also : IsOfFlood s clocks air y) → x.rank ≡ y.rank
+      → frame_of s.profile x ≡ frame_of s.profile y → slot_of x < slot_of y → x.end < y.start
+  earlier_slot x y is also channel frame less =
+      let p = s.profile in
+      let b = budget_of p in
+      let host = clocks (slice_index s.hosts x.rank) in
+      let first = clocks is.origin.node in
+      let other = clocks also.origin.node in
+      let f = frame_of p x in
+      let drifts = host_drifts s clocks air whole.run x is in
+      let first_drifts = origin_drifts s clocks air whole.run x is in
+      let other_drifts = origin_drifts s clocks air whole.run y also in
+      let good : Good p b host other also.zero f (starting p (slot_of y)) =
+      subst (λ (r : ℕ). Good p b (clocks (slice_index s.hosts r)) other also.zero f (starting p (slot_of y))) (sym channel)
+      (subst (λ (g : ℕ). Good p b (clocks (slice_index s.hosts y.rank)) other also.zero g (starting p (slot_of y))) (sym frame)
+      (zero_good s clocks air whole.run y also)) in
+      subst (λ (e : ℕ). e < y.start) (sym is.lasts)
+      (slots_apart p b (run_fits s whole.run.driven.sound) host first other is.zero also.zero f (slot_of x) (slot_of y) (length x.packet) (length y.packet)
+      (counter_of x) (counter_of y) x.start y.start drifts first_drifts other_drifts
+      less (slot_in_round s clocks air whole.run y also) (packet_short s clocks air whole.run x is) (zero_good s clocks air whole.run x is) good
+      (in_flood s clocks air whole.run x is) (in_flood s clocks air whole.run y also))
+
+  was_sent : (v : ℕ) (h : Sending) → IsHeard air v h → Contains (sendings_of air) h
+  was_sent v h there = (whole.run.heedful.heard v h there).sent
+
+  -- a schedule for the frame of x, which is data
+  pub over_before : (v : ℕ) (h x : Sending) (y : Schedule) (d : Data) → IsHeard air v h → Contains (sendings_of air) x → h.rank ≡ x.rank
+      → message_of h.packet ≡ Some (ScheduleOf y) → message_of x.packet ≡ Some (DataOf d) → frame_of s.profile h + y.gap ≡ frame_of s.profile x
+      → h.end < x.start
+  over_before v h x y d heard there channel schedule payload due =
+      let sent = was_sent v h heard in
+      let is = of_flood s clocks air whole h sent in
+      let also = of_flood s clocks air whole x there in
+      elim (cases_lt 0 y.gap) [
+        | inl ahead ↦ (
+            let ends = before_frame_end s clocks air whole.run h is sent in
+            let starts = after_frame_start s clocks air whole.run x also there in
+            let later : frame_of s.profile h + 1 ≤ frame_of s.profile x = omega (arith, ahead, due) in
+            let frames = mul-le-mul_right s.profile.frame later in
+            omega (arith, ends, starts, frames)
+            )
+        | inr none ↦ (
+            let first : slot_of h ≡ 0 = (in_slot h.packet y schedule).opening (omega (arith, none)) in
+            let later = data_slot x.packet d payload in
+            earlier_slot h x is also channel (omega (arith, none, due)) (omega (arith, first, later))
+            )
+      ]
+
+  -- whoever began the flood of h began no later
+  pub origin_before : (h : Sending) (is : IsOfFlood s clocks air h) → is.origin.start ≤ h.start
+  origin_before h is =
+      let k = counter_of h in
+      let n = length h.packet in
+      let near = is.near.above in
+      let turn : 1 ≤ step s.profile n = (let short = (run_fits s whole.run.driven.sound).turn_apart in omega (arith, short)) in
+      let steps = mul-le-mul_left k turn in
+      omega (arith, near, steps)

@@ -1,0 +1,97 @@
+-- A host stays a host through the rows of the node table.
+use Rattle.std.proofs.Common.{◌≡◌, ℕ, List, Bool, true, false, if◌then◌else◌, Some, None, Option, refl, sym, ◌∙◌, ap, subst, true≢false}
+use Rattle.std.proofs.lemmas.Bool.{cond_both}
+use Rattle.std.specs.Option.{option_and_then, option_map, IfSome}
+use Rattle.lwb_base.specs.Messages.{Schedule}
+use Rattle.lwb_packets.specs.declared.kind.Kind as Kind
+use Rattle.glossy_relay.specs.Relaying.{accepted_of, counter_of, is_spelling}
+use Rattle.lwb_member.specs.Places.{kind_for}
+use Rattle.lwb_member.specs.Said.{message_of}
+use Rattle.node_core.specs.declared.stage.Stage.TheVariants.{InWindow}
+use Rattle.node_core.specs.Windows.{Window}
+use Rattle.node_core.specs.Nodes.{Node}
+use Rattle.node_core.specs.Rows.{accepted_in}
+use Rattle.law_trails.specs.NodeRanges.{IsNode, IsAt, IsOpen, IsCarried}
+use Rattle.law_trails.specs.PacketKinds.{kind_of}
+use Rattle.law_trails.proofs.SaidPackets.{kind_says}
+use Rattle.bus_rules.specs.declared.part.Part.{Part}
+use Rattle.bus_rules.specs.declared.part.Part.TheVariants.{Opening, Data as DataSlot, Contention, Closing}
+use Rattle.bus_rules.specs.declared.tune.Tune.{Tune}
+use Rattle.bus_rules.specs.declared.tune.Tune.TheVariants.{Scan, Hold, Host}
+use Rattle.bus_rules.specs.Tuning.{hosts, next_tune}
+use Rattle.bus_rules.specs.Cores.{Core, Setup, as_host, begins_host, frame_ended, is_fresh}
+use Rattle.bus_rules.specs.Slots.{Message, ScheduleOf, DataOf, RequestOf, Opened, opened, closed, hosts_now, host_closes, silent, slot_heard, is_schedule_part}
+
+-- what was heard leaves the tune
+heard_tune : (f : ℕ) (part : Part) (heard : Bool) (c : Core) → (slot_heard f part heard c).tune ≡ c.tune
+heard_tune f Opening heard c = refl
+heard_tune f (DataSlot owner) heard c = refl
+heard_tune f (Contention i) heard c = refl
+heard_tune f Closing heard c = refl
+
+-- at the end of a frame
+ended_by : (s : Setup) (f : ℕ) (c : Core) (tune : Tune) (joined : Bool) → hosts tune ≡ true
+    → (let next = next_tune tune f joined s.own s.ranks in
+    hosts (as_host s.profile (begins_host tune next) (record c { tune = next; own_slot = None })).tune ≡ true)
+ended_by s f c (Scan r waited) joined host = absurd (true≢false (sym host))
+ended_by s f c (Hold r due) joined host = absurd (true≢false (sym host))
+ended_by s f c (Host r due) joined host = refl
+
+pub ended_hosts : (s : Setup) (f : ℕ) (c : Core) → hosts c.tune ≡ true → hosts (frame_ended s f c).tune ≡ true
+ended_hosts s f c host = ended_by s f c c.tune (is_fresh c) host
+
+-- where a window opens
+pub opened_hosts : (s : Setup) (f : ℕ) (part : Part) (c : Core) → hosts c.tune ≡ true → hosts (opened s f part c).core.tune ≡ true
+opened_hosts s f Opening c host = host
+opened_hosts s f (DataSlot owner) c host = host
+opened_hosts s f (Contention i) c host = host
+opened_hosts s f Closing c host =
+    cond_both (hosts_now f c) (host_closes s f c) (silent c) (λ (o : Opened). hosts o.core.tune ≡ true) (λ now. refl) (λ later. host)
+
+-- and where it closes, unless it accepted a schedule
+pub closed_hosts : (s : Setup) (f : ℕ) (part : Part) (initiated : Bool) (c : Core) (m : Option Message) → ((y : Schedule) → m ≡ Some (ScheduleOf y) → ⊥)
+    → hosts c.tune ≡ true → hosts (closed s f part initiated c m).core.tune ≡ true
+closed_hosts s f part initiated c None none host = ap hosts (heard_tune f part initiated c) ∙ host
+closed_hosts s f part initiated c (Some (DataOf d)) none host = ap hosts (heard_tune f part true c) ∙ host
+closed_hosts s f part initiated c (Some (RequestOf a)) none host = host
+closed_hosts s f part initiated c (Some (ScheduleOf y)) none host = absurd (none y refl)
+
+-- ---- a host accepts no schedule
+
+-- what is read of an accepted packet
+packet_of : (o : Option (List ℕ × ℕ)) (m : Message) → option_and_then (λ (a : List ℕ × ℕ). message_of a.0) o ≡ Some m
+    → (a : List ℕ × ℕ) × (o ≡ Some a) × (message_of a.0 ≡ Some m)
+packet_of None m is = absurd cc
+packet_of (Some a) m is = (a, refl, is)
+
+-- a listener's first packet
+listener : (begun : Bool) (first : Option (List ℕ)) (a : List ℕ × ℕ)
+    → (if begun then None else option_map {U = List ℕ × ℕ} (λ (q : List ℕ). (q, counter_of q)) first) ≡ Some a → (begun ≡ false) × (first ≡ Some a.0)
+listener true first a is = absurd cc
+listener false None a is = absurd cc
+listener false (Some q) a is = (refl, ap (option_map {U = List ℕ} (λ (b : List ℕ × ℕ). b.0)) is)
+
+no_schedule : (part : Part) (kind : Kind.Kind) (q : List ℕ) (y : Schedule) → is_spelling kind q ≡ true → message_of q ≡ Some (ScheduleOf y)
+    → kind ≡ Kind.TheVariants.Schedule
+no_schedule part kind q y spelled says =
+    let k = kind_says kind q spelled in
+    let also : message_of q ≡ Some k.message = k.says in
+    let same : k.message ≡ ScheduleOf y = cc in
+    sym k.of_kind ∙ ap kind_of same
+
+of_schedules : (part : Part) → kind_for part ≡ Kind.TheVariants.Schedule → is_schedule_part part ≡ true
+of_schedules Opening is = refl
+of_schedules (DataSlot owner) is = absurd cc
+of_schedules (Contention i) is = absurd cc
+of_schedules Closing is = refl
+
+pub accepts_none : (s : Setup) (n : Node) (j : ℕ) (w : Window) → IsNode s n → n.stage ≡ InWindow j w
+    → (is_schedule_part w.part ≡ true → w.flood.initiated ≡ true) → (y : Schedule) → accepted_in w ≡ Some (ScheduleOf y) → ⊥
+accepts_none s n j w ranged stage own y accepted =
+    let taken = packet_of (accepted_of w.flood) (ScheduleOf y) accepted in
+    let listens = listener w.flood.initiated w.flood.first taken.0 taken.1 in
+    let open_so : IsOpen s n.frame n.core j w = subst (IsAt s n.frame n.core) stage ranged.stage in
+    let carried : IsCarried s (kind_for w.part) j taken.0.0 =
+    subst (λ (o : Option (List ℕ)). IfSome o (IsCarried s (kind_for w.part) j)) listens.1 open_so.flood.first in
+    let of_kind = no_schedule w.part (kind_for w.part) taken.0.0 y carried.spelled taken.2 in
+    true≢false (sym (own (of_schedules w.part of_kind)) ∙ listens.0)

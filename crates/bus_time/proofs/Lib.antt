@@ -1,0 +1,13 @@
+mod FirstWords
+mod KeptHosts
+mod HostingWalk
+mod HeardWords
+mod DataHosts
+mod BeginningOrder
+mod ReadMore
+mod FoundWords
+mod GivenWords
+mod StampTimes
+mod StampedLists
+mod NodePlaces
+mod StampedRuns

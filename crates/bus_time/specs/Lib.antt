@@ -1,0 +1,5 @@
+pub mod Stamps
+pub mod StampLaws
+pub mod Words
+pub mod Reading
+pub mod Stamping

@@ -1,0 +1,9 @@
+//! Laws of the data that nodes send, each as the contract of a function that does nothing.
+
+ghost use Rattle.bus_time.specs.StampLaws.{DataHostsLaw};
+
+/// Who begins the flood of a data packet along a valid (`Lawful`) log hosts, by its trace, if and only if the scenario names it as
+/// the host of the packet's channel.
+pub fn data_of_a_named_host_is_sent_as_a_host()
+    ensures { DataHostsLaw }
+{}
