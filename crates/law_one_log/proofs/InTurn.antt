@@ -6,7 +6,7 @@ use Rattle.std.proofs.lemmas.Bool.{cond_both, or_cases, and_parts, cases_order, 
 use Rattle.std.proofs.lemmas.List.Sorted.{IsPermutation-refl, IsPermutation-sym, IsPermutation-cons, IsPermutation-trans, IsPermutation-middle}
 use Rattle.std.proofs.lemmas.List.Sorted.{Contains-permutation}
 use Rattle.radio_model.specs.OnAir.{Hearing}
-use Rattle.law_one_log.proofs.SameElements.{same_order}
+use Rattle.air_log.proofs.StrictOrders.{same_order}
 use Rattle.radio_model.proofs.Members.{not_in_none, in_head, in_tail, in_either, pairs_cons, pairs_tail, pairs_head}
 use Rattle.air_log.specs.Lawful.{comes_before, put_in, by_end}
 

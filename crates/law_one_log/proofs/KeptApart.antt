@@ -1,30 +1,8 @@
--- Elements with a number each, of which no two have the same one: in another order, and put together from parts.
-use Rattle.std.proofs.Common.{◌≡◌, ◌≢◌, ℕ, inl, inr, List, [], ◌∷◌, Bool, true, false, ◌==◌, filter, Contains, AllPairs, get_or, refl, sym, ◌∙◌, subst, arith}
-use Rattle.std.specs.Prelude.{IsPermutation}
-use Rattle.std.proofs.lemmas.Bool.{cond_both, cond-true, eq-eqb, eqb-true, eqb-false, ne_eqb}
+-- What holds of any two elements, put together from parts.
+use Rattle.std.proofs.Common.{◌≡◌, ℕ, inl, inr, List, [], ◌∷◌, Bool, true, ◌==◌, filter, Contains, AllPairs, get_or, refl, sym, subst, arith}
+use Rattle.std.proofs.lemmas.Bool.{cond_both, cond-true, eq-eqb}
 use Rattle.std.proofs.lemmas.List.Elements.{Contains-get_or}
-use Rattle.std.proofs.lemmas.Map.Keys.{IsDistinct-IsPermutation, IsDistinct-from_apart, apart_from_distinct}
 use Rattle.radio_model.proofs.Members.{not_in_none, in_head, in_tail, in_either, pairs_cons, pairs_tail, pairs_head}
-
-turned : (a b : ℕ) → (a == b) ≡ (b == a)
-turned a b = by_test (a == b) refl
-  where
-    by_test : (c : Bool) → (a == b) ≡ c → (a == b) ≡ (b == a)
-    by_test true is = is ∙ sym (eq-eqb b a (sym (eqb-true a b is)))
-    by_test false is = is ∙ sym (ne_eqb b a (λ same. eqb-false a b is (sym same)))
-
-module _ {X : Type 0} (key : X → ℕ) where
-  abbrev together : X → X → Bool
-  together x y = key x == key y
-
-  abbrev pub Apart : X → X → Type 0
-  Apart x y = key x ≢ key y
-
-  pub in_other_order : (xs ys : List X) → IsPermutation xs ys → AllPairs Apart xs → AllPairs Apart ys
-  in_other_order xs ys moved all i j d less within =
-      let before = IsDistinct-from_apart together xs (λ i j d less within. ne_eqb (key (get_or xs i d)) (key (get_or xs j d)) (all i j d less within)) in
-      let after = IsDistinct-IsPermutation together (λ x y. turned (key x) (key y)) xs ys moved before in
-      eqb-false (key (get_or ys i d)) (key (get_or ys j d)) (apart_from_distinct together ys i j d after less within)
 
 -- what holds of any two of a list, by what is known of its elements
 pub weaker_pairs : {X : Type 0} (R Q : X → X → Type 0) (xs : List X) → AllPairs R xs

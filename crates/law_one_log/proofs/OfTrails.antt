@@ -15,12 +15,13 @@ use Rattle.air_log.specs.Lawful.{Lawful, heard_by, hearings_by, sent_by, tuned_b
 use Rattle.air_log.specs.Trails.{run_end, trail}
 use Rattle.air_log.proofs.Elements.{filtered}
 use Rattle.air_log.proofs.SendingsKept.{profile_lasts}
+use Rattle.air_log.proofs.StrictOrders.{Apart, in_other_order}
 use Rattle.air_log.proofs.TrailSendings.{in_order}
 use Rattle.air_log.proofs.TrailTunings.{each_tuned, tuned_in_turn}
 use Rattle.law_trails.proofs.SentInTrails.{sent_known, sent_lasts, sent_below}
 use Rattle.energy_account.proofs.SendingsApart.{sendings_apart}
 use Rattle.law_one_log.proofs.SameElements.{which_first}
-use Rattle.law_one_log.proofs.KeptApart.{Apart, in_other_order, weaker_pairs, of_all_nodes}
+use Rattle.law_one_log.proofs.KeptApart.{weaker_pairs, of_all_nodes}
 use Rattle.law_one_log.proofs.EntriesApart.{SendingsApart, TuningsApart, Other}
 use Rattle.law_one_log.proofs.InTurn.{EndApart}
 

@@ -16,13 +16,14 @@ use Rattle.air_log.specs.Entries.{sendings_of, hearings_of, tunings_of, IsHeard}
 use Rattle.air_log.specs.FloodLaw.{FloodLaw, OPENING, CLOSING}
 use Rattle.air_log.specs.HearsAir.{scene_of}
 use Rattle.air_log.specs.NodeEvents.{Event, Heard, Ended, sending_of, own_end, own_ends}
+use Rattle.air_log.proofs.StrictOrders.{same_order}
 use Rattle.lwb_flood.specs.FloodBySteps.{IsFloodBySteps}
 use Rattle.lwb_flood.specs.FloodLog.{HasClocks, HasSent, HasHeard, run_of}
 use Rattle.law_one_log.specs.OneLog.{OneFloodLogLaw}
 use Rattle.law_one_log.proofs.EntriesApart.{also_there}
 use Rattle.law_one_log.proofs.FloodFacts.{packet_at, step_of, same_sending, packet_is, timed, lasting, known, cause, meets}
 use Rattle.law_one_log.proofs.KeptApart.{weaker_pairs}
-use Rattle.law_one_log.proofs.SameElements.{same_elements, same_order}
+use Rattle.law_one_log.proofs.SameElements.{same_elements}
 
 -- what a sends in step k, b sends
 abbrev SentToo : ℕ → List Entry → List Entry → Type 0
