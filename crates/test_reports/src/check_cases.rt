@@ -25,27 +25,46 @@ const REST: &str = "sent 0 2 1344113152 1344150016 01000100010000000000\n\
     heard 0 2 1 1348386304 1348423168 01020204010000000000\n\
     sent 0 2 1348435456 1348472320 01020304010000000000\n";
 
-/// Logs of the first round, and what is said of them. A node relays what it received, so where a reception is not there its
-/// transmissions have no cause. Lines of a report may stand in a log, and their order is of no account.
-pub const CHECKS: &[(&str, &[&str], &str)] = &[
+/// The host's first transmission, by itself and by node 2, and one tick later.
+const SENT_BY_ANOTHER: &str = "sent 0 2 1344064000 1344100864 01000000010000000000\n";
+
+const SENT_LATE: &str = "sent 0 1 1344064001 1344100865 01000000010000000000\n";
+
+/// The first reception, one tick later, and of another packet.
+const HEARD_LATE: &str = "heard 0 2 1 1344064001 1344100865 01000000010000000000\n";
+
+const HEARD_OTHER: &str = "heard 0 2 1 1344064000 1344100864 01000000020000000000\n";
+
+/// The reception of the closing by node 2, a second time: its relay is ordered already, so it changes nothing that node 2 does.
+const CLOSING_AGAIN: &str = "heard 0 2 1 1348288000 1348324864 01020004010000000000\n";
+
+/// Logs of the first round, or of it with a third node that is never on, and what is said of them. A node relays what it
+/// received, so where a reception is not there, or is another, its transmissions have no cause. What comes to a node that is
+/// off, or ends with the run, changes nothing that a node does. Lines of a report may stand in a log, and the order of its
+/// lines is of no account.
+pub const CHECKS: &[(&str, &str, &[&str], &str)] = &[
     (
         "lawful log",
+        "",
         &[ON, FIRST_SENT, FIRST_HEARD, REST],
         "lawful\n",
     ),
     (
         "heard line taken away",
+        "",
         &[ON, FIRST_SENT, REST],
         "no trail 2\n",
     ),
-    ("empty log", &[], "no trail 1\n"),
+    ("empty log", "", &[], "no trail 1\n"),
     (
         "another order",
+        "",
         &[REST, FIRST_HEARD, ON, FIRST_SENT],
         "lawful\n",
     ),
     (
         "the lines of a report, a comment and an empty line",
+        "",
         &[
             "energy 1 of any form\n# 1\n\ndeliver\ndrop 9\n",
             ON,
@@ -56,7 +75,50 @@ pub const CHECKS: &[(&str, &[&str], &str)] = &[
         "lawful\n",
     ),
     (
+        "tuned lines dropped",
+        "",
+        &[FIRST_SENT, FIRST_HEARD, REST],
+        "no trail 1\n",
+    ),
+    (
+        "a transmission twice",
+        "",
+        &[ON, FIRST_SENT, FIRST_SENT, FIRST_HEARD, REST],
+        "no trail 1\n",
+    ),
+    (
+        "a transmission a tick late",
+        "",
+        &[ON, SENT_LATE, FIRST_HEARD, REST],
+        "no trail 1\n",
+    ),
+    (
+        "a transmission by another node",
+        "",
+        &[ON, SENT_BY_ANOTHER, FIRST_HEARD, REST],
+        "no trail 1\n",
+    ),
+    (
+        "a reception a tick late",
+        "",
+        &[ON, FIRST_SENT, HEARD_LATE, REST],
+        "no trail 2\n",
+    ),
+    (
+        "a byte of a reception changed",
+        "",
+        &[ON, FIRST_SENT, HEARD_OTHER, REST],
+        "no trail 2\n",
+    ),
+    (
+        "a reception twice",
+        "",
+        &[ON, FIRST_SENT, FIRST_HEARD, REST, CLOSING_AGAIN],
+        "no heard 22\n",
+    ),
+    (
         "a reception that ends with the run",
+        "",
         &[
             ON,
             FIRST_SENT,
@@ -65,6 +127,30 @@ pub const CHECKS: &[(&str, &[&str], &str)] = &[
             REST,
         ],
         "no heard 6\n",
+    ),
+    (
+        "a transmission of a node that is off",
+        "node 3 0\n",
+        &[ON, FIRST_SENT, FIRST_HEARD, REST, "sent 0 3 5 6 010000\n"],
+        "no trail 3\n",
+    ),
+    (
+        "a radio of a node that is off",
+        "node 3 0\n",
+        &[ON, FIRST_SENT, FIRST_HEARD, REST, "tuned 0 3 5 6\n"],
+        "no trail 3\n",
+    ),
+    (
+        "a reception of a node that is off",
+        "node 3 0\n",
+        &[
+            "heard 0 3 1 1344064000 1344100864 01000000010000000000\n",
+            ON,
+            FIRST_SENT,
+            FIRST_HEARD,
+            REST,
+        ],
+        "no heard 1\n",
     ),
 ];
 

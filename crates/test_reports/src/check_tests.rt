@@ -8,8 +8,9 @@ use std::test::Fail;
 #[test]
 fn verdicts_on_logs_of_a_first_round(rt: HostRuntime) -> Result<(), Fail> {
     let alloc = rt.alloc();
-    for (name, log, verdict) in CHECKS {
+    for (name, more, log, verdict) in CHECKS {
         let mut text = joined(alloc, FIRST_ROUND)?;
+        text.push_str(more)?;
         text.push_str("  log\t\n")?;
         text.push_str(joined(alloc, log)?.as_str())?;
         let (status, got) = answer(alloc, &["check"], text.as_bytes(), 4096)?;
