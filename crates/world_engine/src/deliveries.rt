@@ -11,7 +11,7 @@ use lwb_base::Memory;
 pub(crate) fn sort_deliveries(deliveries: &mut Vec<Delivery>) -> Result<(), Memory>
     ensures { OnOk result (deliveries.new.items ≡ in_order comes_before deliveries.old.items) }
 {
-    deliveries.sort_by_cached_key(|delivery| place(delivery))?;
+    deliveries.sort_by_key(|delivery| place(delivery))?;
     Ok(())
 }
 

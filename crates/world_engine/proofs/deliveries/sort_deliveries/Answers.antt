@@ -7,6 +7,6 @@ use Rattle.world_engine.proofs.deliveries.sort_deliveries.Goals as goal
 
 pub returns : goal.returns
 returns c =
-    sorted_by_insertion comes_before is_order c.args.deliveries.now.items c.sort_by_cached_key.new.self.items
-    (c.in_ok-sort_by_cached_key.ensures.sorted place_of (answers_always _ _ _ (λ f a r g h. search rules)))
-    (c.sort_by_cached_key.ensures.stable place_of (answers_always _ _ _ (λ f a r g h. search rules)))
+    sorted_by_insertion comes_before is_order c.args.deliveries.now.items c.sort_by_key.new.self.items
+    (c.in_ok-sort_by_key.ensures.sorted place_of (answers_always _ _ _ (λ f a r g h. search rules)))
+    (c.sort_by_key.ensures.stable place_of (answers_always _ _ _ (λ f a r g h. search rules)))
