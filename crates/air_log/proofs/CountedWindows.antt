@@ -1,6 +1,6 @@
 -- What windows count so far, event by event.
 use Rattle.std.proofs.Common.{◌≡◌, ℕ, ◌+◌, ◌%◌, ◌^◌, ◌≤◌, min, List, [], ◌∷◌, ◌++◌, Bool, true, false, ◌==◌, if◌then◌else◌, Option, Some}
-use Rattle.std.proofs.Common.{None, option_to_list, filter_map, length, sum_by, refl, sym, ◌∙◌, ap, arith, eqb-true, eq-eqb}
+use Rattle.std.proofs.Common.{None, is_some, option_to_list, filter_map, length, sum_by, refl, sym, ◌∙◌, ap, arith, eqb-true, eq-eqb}
 use Rattle.std.specs.List.{last_or}
 use Rattle.std.proofs.lemmas.Bool.{cond_both, ne_eqb}
 use Rattle.std.proofs.lemmas.List.{length-append}
@@ -14,9 +14,8 @@ use Rattle.bus_rules.specs.Charges.{last_of}
 use Rattle.node_core.specs.Nodes.{Node}
 use Rattle.node_core.specs.Windows.{Window}
 use Rattle.node_core.specs.declared.stage.Stage.{Stage}
-use Rattle.node_core.specs.declared.stage.Stage.TheVariants.{Idle, Scanning, AwaitFrame, AwaitSlot, InWindow}
 use Rattle.air_log.specs.Charges.{sent_in, sent_packets, counted}
-use Rattle.air_log.specs.WindowLogs.{WindowLog, is_alarm, happening, opened_log, gone_on, closed_log, windows_after}
+use Rattle.air_log.specs.WindowLogs.{WindowLog, is_alarm, happening, opened_log, gone_on, closed_log, window_of, windows_after, windows_by}
 use Rattle.air_log.specs.WindowSums.{WindowSum, charge_by, IsCountedTo, IsCounted, is_window, sent_with, opened_sum, only_if, sent_sum, with_packet, noted}
 
 -- the packets that an event adds
@@ -174,28 +173,11 @@ module _ (p : Numbers) (n : ℕ) (few : n ≤ 4) where
   pub after_event : (t : ℕ) (e : Event) (ended : Option Sending) (nd md : Node) (from to : Stage) (logs : List WindowLog) (x : WindowSum) → IsCounted p n logs x
       → (noted (is_window from) (is_window to) (is_alarm e) (sent_with e ended) x).last ≤ 2 ^ 28
       → IsCounted p n (windows_after t e ended nd md from to logs) (noted (is_window from) (is_window to) (is_alarm e) (sent_with e ended) x)
-  after_event t e ended nd md (InWindow j w) (InWindow i u) logs x is less = gone_on_counted t e ended u logs x is less
-  after_event t e ended nd md (InWindow j w) Idle logs x is less = closed_counted t md logs x is
-  after_event t e ended nd md (InWindow j w) Scanning logs x is less = closed_counted t md logs x is
-  after_event t e ended nd md (InWindow j w) AwaitFrame logs x is less = closed_counted t md logs x is
-  after_event t e ended nd md (InWindow j w) (AwaitSlot i) logs x is less = closed_counted t md logs x is
-  after_event t e ended nd md Idle (InWindow i u) logs x is less = opens_counted t e ended nd md i u logs x is less
-  after_event t e ended nd md Scanning (InWindow i u) logs x is less = opens_counted t e ended nd md i u logs x is less
-  after_event t e ended nd md AwaitFrame (InWindow i u) logs x is less = opens_counted t e ended nd md i u logs x is less
-  after_event t e ended nd md (AwaitSlot j) (InWindow i u) logs x is less = opens_counted t e ended nd md i u logs x is less
-  after_event t e ended nd md Idle Idle logs x is less = is
-  after_event t e ended nd md Idle Scanning logs x is less = is
-  after_event t e ended nd md Idle AwaitFrame logs x is less = is
-  after_event t e ended nd md Idle (AwaitSlot i) logs x is less = is
-  after_event t e ended nd md Scanning Idle logs x is less = is
-  after_event t e ended nd md Scanning Scanning logs x is less = is
-  after_event t e ended nd md Scanning AwaitFrame logs x is less = is
-  after_event t e ended nd md Scanning (AwaitSlot i) logs x is less = is
-  after_event t e ended nd md AwaitFrame Idle logs x is less = is
-  after_event t e ended nd md AwaitFrame Scanning logs x is less = is
-  after_event t e ended nd md AwaitFrame AwaitFrame logs x is less = is
-  after_event t e ended nd md AwaitFrame (AwaitSlot i) logs x is less = is
-  after_event t e ended nd md (AwaitSlot j) Idle logs x is less = is
-  after_event t e ended nd md (AwaitSlot j) Scanning logs x is less = is
-  after_event t e ended nd md (AwaitSlot j) AwaitFrame logs x is less = is
-  after_event t e ended nd md (AwaitSlot j) (AwaitSlot i) logs x is less = is
+  after_event t e ended nd md from to logs x is less = by_windows (window_of from) (window_of to) less
+    where
+      by_windows : (old new : Option (ℕ × Window)) → (noted (is_some old) (is_some new) (is_alarm e) (sent_with e ended) x).last ≤ 2 ^ 28
+          → IsCounted p n (windows_by t e ended nd md old new logs) (noted (is_some old) (is_some new) (is_alarm e) (sent_with e ended) x)
+      by_windows (Some old) (Some new) less = gone_on_counted t e ended new.1 logs x is less
+      by_windows (Some old) None less = closed_counted t md logs x is
+      by_windows None (Some new) less = opens_counted t e ended nd md new.0 new.1 logs x is less
+      by_windows None None less = is

@@ -20,7 +20,7 @@ use Rattle.node_core.specs.declared.stage.Stage.{Stage}
 use Rattle.node_core.specs.declared.stage.Stage.TheVariants.{Idle, Scanning, AwaitFrame, AwaitSlot, InWindow}
 use Rattle.node_core.proofs.KeptBoots.{KeepsBoot, boot_kept}
 use Rattle.air_log.specs.Devices.{Device, Power, PowerOff, PowerOn, obeyed, moved, stepped, silenced, tunes, listens_to}
-use Rattle.air_log.specs.WindowLogs.{WindowLog, is_alarm, gone_on, closed_log, windows_after}
+use Rattle.air_log.specs.WindowLogs.{WindowLog, is_alarm, gone_on, closed_log, window_of, windows_after, windows_by}
 use Rattle.air_log.proofs.AlarmRows.{InRange}
 
 -- how many of these opened by their alarm
@@ -62,31 +62,13 @@ opens e = if is_alarm e then 1 else 0
 
 pub one_at_most : (t : ℕ) (e : Event) (x : Option Sending) (n m : Node) (from to : Stage) (logs : List WindowLog)
     → by_alarm (windows_after t e x n m from to logs) ≤ opens e + by_alarm logs
-one_at_most t e x n m (InWindow j w) (InWindow i u) logs = omega (arith, gone_same t e x u logs)
-one_at_most t e x n m (InWindow j w) Idle logs = omega (arith, closed_same t m logs)
-one_at_most t e x n m (InWindow j w) Scanning logs = omega (arith, closed_same t m logs)
-one_at_most t e x n m (InWindow j w) AwaitFrame logs = omega (arith, closed_same t m logs)
-one_at_most t e x n m (InWindow j w) (AwaitSlot i) logs = omega (arith, closed_same t m logs)
-one_at_most t e x n m Idle (InWindow i u) logs = omega arith
-one_at_most t e x n m Scanning (InWindow i u) logs = omega arith
-one_at_most t e x n m AwaitFrame (InWindow i u) logs = omega arith
-one_at_most t e x n m (AwaitSlot j) (InWindow i u) logs = omega arith
-one_at_most t e x n m Idle Idle logs = omega arith
-one_at_most t e x n m Idle Scanning logs = omega arith
-one_at_most t e x n m Idle AwaitFrame logs = omega arith
-one_at_most t e x n m Idle (AwaitSlot i) logs = omega arith
-one_at_most t e x n m Scanning Idle logs = omega arith
-one_at_most t e x n m Scanning Scanning logs = omega arith
-one_at_most t e x n m Scanning AwaitFrame logs = omega arith
-one_at_most t e x n m Scanning (AwaitSlot i) logs = omega arith
-one_at_most t e x n m AwaitFrame Idle logs = omega arith
-one_at_most t e x n m AwaitFrame Scanning logs = omega arith
-one_at_most t e x n m AwaitFrame AwaitFrame logs = omega arith
-one_at_most t e x n m AwaitFrame (AwaitSlot i) logs = omega arith
-one_at_most t e x n m (AwaitSlot j) Idle logs = omega arith
-one_at_most t e x n m (AwaitSlot j) Scanning logs = omega arith
-one_at_most t e x n m (AwaitSlot j) AwaitFrame logs = omega arith
-one_at_most t e x n m (AwaitSlot j) (AwaitSlot i) logs = omega arith
+one_at_most t e x n m from to logs = by_windows (window_of from) (window_of to)
+  where
+    by_windows : (old new : Option (ℕ × Window)) → by_alarm (windows_by t e x n m old new logs) ≤ opens e + by_alarm logs
+    by_windows (Some old) (Some new) = omega (arith, gone_same t e x new.1 logs)
+    by_windows (Some old) None = omega (arith, closed_same t m logs)
+    by_windows None (Some new) = omega arith
+    by_windows None None = omega arith
 
 -- power and windows through orders
 abbrev Has : Power → List WindowLog → Device → Type 0

@@ -71,12 +71,21 @@ abbrev pub closed_log : ℕ → Node → List WindowLog → List WindowLog
 closed_log t m [] = []
 closed_log t m (x ∷ xs) = record x { closed = Some (record { tick = t; after = m }) } ∷ xs
 
--- the windows after an event at tick t that took the node n, in the one stage, to m, in the other
+-- the window of a stage, with its slot
+abbrev pub window_of : Stage → Option (ℕ × Window)
+window_of Idle = None
+window_of Scanning = None
+window_of AwaitFrame = None
+window_of (AwaitSlot j) = None
+window_of (InWindow j w) = Some (j, w)
+
+-- the windows after an event at tick t that took the node n to m: with a window before it and one after it the event belongs to
+-- that window, with one before it alone it closes that, and with one after it alone it opens it
+abbrev pub windows_by : ℕ → Event → Option Sending → Node → Node → Option (ℕ × Window) → Option (ℕ × Window) → List WindowLog → List WindowLog
+windows_by t e ended n m (Some old) (Some new) logs = gone_on t e ended new.1 logs
+windows_by t e ended n m (Some old) None logs = closed_log t m logs
+windows_by t e ended n m None (Some new) logs = opened_log t e ended n m new.0 new.1 ∷ logs
+windows_by t e ended n m None None logs = logs
+
 abbrev pub windows_after : ℕ → Event → Option Sending → Node → Node → Stage → Stage → List WindowLog → List WindowLog
-windows_after t e ended n m (InWindow j w) (InWindow i x) logs = gone_on t e ended x logs
-windows_after t e ended n m (InWindow j w) Idle logs = closed_log t m logs
-windows_after t e ended n m (InWindow j w) Scanning logs = closed_log t m logs
-windows_after t e ended n m (InWindow j w) AwaitFrame logs = closed_log t m logs
-windows_after t e ended n m (InWindow j w) (AwaitSlot i) logs = closed_log t m logs
-windows_after t e ended n m from (InWindow i x) logs = opened_log t e ended n m i x ∷ logs
-windows_after t e ended n m from to logs = logs
+windows_after t e ended n m from to logs = windows_by t e ended n m (window_of from) (window_of to) logs

@@ -1,5 +1,5 @@
 -- What the windows of a node count so far.
-use Rattle.std.specs.Prelude.{◌≡◌, ℕ, ◌+◌, ◌%◌, ◌^◌, ◌≤◌, ⊤, min, List, [], ◌∷◌, Bool, true, false, ◌==◌, if◌then◌else◌, Some, None, sum_by, length}
+use Rattle.std.specs.Prelude.{◌≡◌, ℕ, ◌+◌, ◌%◌, ◌^◌, ◌≤◌, ⊤, min, List, [], ◌∷◌, Bool, false, ◌==◌, if◌then◌else◌, is_some, Some, None, sum_by, length}
 use Rattle.std.specs.declared.option.Option.{Option}
 use Rattle.lwb_base.specs.Profile.{Numbers}
 use Rattle.lwb_base.specs.declared.event.Event.{Event}
@@ -7,10 +7,9 @@ use Rattle.lwb_base.specs.declared.event.Event.TheVariants.{Boot, Alarm, Heard, 
 use Rattle.radio_model.specs.declared.sending.Sending.{Sending}
 use Rattle.bus_rules.specs.Charges.{last_of}
 use Rattle.node_core.specs.declared.stage.Stage.{Stage}
-use Rattle.node_core.specs.declared.stage.Stage.TheVariants.{Idle, Scanning, AwaitFrame, AwaitSlot, InWindow}
 use Rattle.air_log.specs.Charges.{sent_packets, counted}
 use Rattle.air_log.specs.Devices.{Power, PowerOff, PowerOn}
-use Rattle.air_log.specs.WindowLogs.{WindowLog}
+use Rattle.air_log.specs.WindowLogs.{WindowLog, window_of}
 
 -- earlier: what all windows but the last one count, as 64 bits have it; last: what that one counts; by_alarm: it opened by
 -- its alarm; sent: how often the node has sent in it, where 5 stands for more as well
@@ -54,11 +53,7 @@ pub record IsCounted (p : Numbers) (n : ℕ) (logs : List WindowLog) (x : Window
 
 -- whether a window is open
 abbrev pub is_window : Stage → Bool
-is_window Idle = false
-is_window Scanning = false
-is_window AwaitFrame = false
-is_window (AwaitSlot j) = false
-is_window (InWindow j w) = true
+is_window stage = is_some (window_of stage)
 
 abbrev pub in_window : Power → Bool
 in_window (PowerOff boots) = false

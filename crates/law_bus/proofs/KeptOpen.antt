@@ -7,7 +7,6 @@ use Rattle.lwb_base.specs.declared.order.Order.{Order}
 use Rattle.lwb_base.specs.declared.order.Order.TheVariants.{Listen, Off, SendAt, Alarm}
 use Rattle.bus_rules.specs.Cores.{Setup}
 use Rattle.node_core.specs.declared.stage.Stage.{Stage}
-use Rattle.node_core.specs.declared.stage.Stage.TheVariants.{Idle, Scanning, AwaitFrame, AwaitSlot, InWindow}
 use Rattle.node_core.specs.Nodes.{Node}
 use Rattle.node_core.specs.Rows.{node_after}
 use Rattle.node_core.specs.Windows.{Window}
@@ -16,7 +15,7 @@ use Rattle.radio_model.specs.declared.sending.Sending.{Sending}
 use Rattle.scenario_text.specs.ScenarioParts.{ScenarioParts}
 use Rattle.air_log.specs.Devices.{Device, Listening, Ordered, obeyed, silenced, tunes, listens_to}
 use Rattle.air_log.specs.Trails.{Reception, setup_of, ended, alarmed, before_start, begun_by, starts, before_tick}
-use Rattle.air_log.specs.WindowLogs.{WindowLog, opened_log, gone_on, closed_log, windows_after}
+use Rattle.air_log.specs.WindowLogs.{WindowLog, opened_log, gone_on, closed_log, window_of, windows_after, windows_by}
 use Rattle.air_log.proofs.Elements.{not_in_none, contains_head, contains_tail, contains_cases}
 use Rattle.air_log.proofs.KeptByEvents.{IsKept, in_alarms, in_end, in_tick}
 use Rattle.law_trails.specs.Phases.{End, device_at}
@@ -86,31 +85,13 @@ module _ (t : ℕ) (first : WindowLog) where
 
   by_stages : (k : ℕ) → t ≤ k → (e : Event) (x : Option Sending) (n m : Node) (from to : Stage) (logs : List WindowLog) → IsStill logs
       → IsStill (windows_after k e x n m from to logs)
-  by_stages k late e x n m Idle Idle logs is = is
-  by_stages k late e x n m Idle Scanning logs is = is
-  by_stages k late e x n m Idle AwaitFrame logs is = is
-  by_stages k late e x n m Idle (AwaitSlot i) logs is = is
-  by_stages k late e x n m Idle (InWindow i u) logs is = one_more (opened_log k e x n m i u) logs is
-  by_stages k late e x n m Scanning Idle logs is = is
-  by_stages k late e x n m Scanning Scanning logs is = is
-  by_stages k late e x n m Scanning AwaitFrame logs is = is
-  by_stages k late e x n m Scanning (AwaitSlot i) logs is = is
-  by_stages k late e x n m Scanning (InWindow i u) logs is = one_more (opened_log k e x n m i u) logs is
-  by_stages k late e x n m AwaitFrame Idle logs is = is
-  by_stages k late e x n m AwaitFrame Scanning logs is = is
-  by_stages k late e x n m AwaitFrame AwaitFrame logs is = is
-  by_stages k late e x n m AwaitFrame (AwaitSlot i) logs is = is
-  by_stages k late e x n m AwaitFrame (InWindow i u) logs is = one_more (opened_log k e x n m i u) logs is
-  by_stages k late e x n m (AwaitSlot j) Idle logs is = is
-  by_stages k late e x n m (AwaitSlot j) Scanning logs is = is
-  by_stages k late e x n m (AwaitSlot j) AwaitFrame logs is = is
-  by_stages k late e x n m (AwaitSlot j) (AwaitSlot i) logs is = is
-  by_stages k late e x n m (AwaitSlot j) (InWindow i u) logs is = one_more (opened_log k e x n m i u) logs is
-  by_stages k late e x n m (InWindow j w) Idle logs is = closes k late m logs is
-  by_stages k late e x n m (InWindow j w) Scanning logs is = closes k late m logs is
-  by_stages k late e x n m (InWindow j w) AwaitFrame logs is = closes k late m logs is
-  by_stages k late e x n m (InWindow j w) (AwaitSlot i) logs is = closes k late m logs is
-  by_stages k late e x n m (InWindow j w) (InWindow i u) logs is = goes_on k e x u logs is
+  by_stages k late e x n m from to logs is = by_windows (window_of from) (window_of to)
+    where
+      by_windows : (old new : Option (ℕ × Window)) → IsStill (windows_by k e x n m old new logs)
+      by_windows None None = is
+      by_windows None (Some new) = one_more (opened_log k e x n m new.0 new.1) logs is
+      by_windows (Some old) None = closes k late m logs is
+      by_windows (Some old) (Some new) = goes_on k e x new.1 logs is
 
   on_still : (rank k : ℕ) (d : Device) (es : List Tuning) → IsStill d.made.windows → IsStill (tunes rank k d es).made.windows
   on_still rank k d [] is = is

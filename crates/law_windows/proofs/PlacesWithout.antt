@@ -1,5 +1,5 @@
 -- A node that has no window open, and what steps leave of its windows.
-use Rattle.std.proofs.Common.{◌≡◌, ℕ, List, Bool, true, false, ◌==◌, if◌then◌else◌, Option, refl}
+use Rattle.std.proofs.Common.{◌≡◌, ℕ, List, Bool, true, false, ◌==◌, if◌then◌else◌, Option, None, refl, ap, ◌∙◌}
 use Rattle.lwb_base.specs.declared.event.Event.{Event}
 use Rattle.radio_model.specs.declared.sending.Sending.{Sending}
 use Rattle.bus_rules.specs.declared.tune.Tune.{Tune}
@@ -8,7 +8,8 @@ use Rattle.node_core.specs.declared.stage.Stage.{Stage}
 use Rattle.node_core.specs.declared.stage.Stage.TheVariants.{Idle, Scanning, AwaitFrame, AwaitSlot, InWindow}
 use Rattle.node_core.specs.Nodes.{Node}
 use Rattle.node_core.specs.Rows.{stage_for}
-use Rattle.air_log.specs.WindowLogs.{WindowLog, windows_after}
+use Rattle.node_core.specs.Windows.{Window}
+use Rattle.air_log.specs.WindowLogs.{WindowLog, window_of, windows_after, windows_by}
 use Rattle.air_log.specs.Devices.{Power, PowerOff, PowerOn}
 use Rattle.law_trails.specs.Walks.{AwaitsFrame, HasNoWindow, NoWindow}
 use Rattle.law_safety.specs.CountedFrames.{IsResting}
@@ -57,27 +58,16 @@ after_frame (Scan r waited) f = tt
 after_frame (Hold r due) f = rests_either (due == f)
 after_frame (Host r due) f = rests_either (due == f)
 
+no_window_of : (stage : Stage) → NoWindow stage → window_of stage ≡ None
+no_window_of Idle none = refl
+no_window_of Scanning none = refl
+no_window_of AwaitFrame none = refl
+no_window_of (AwaitSlot i) none = refl
+no_window_of (InWindow j w) none = absurd none
+
 -- from one place without a window to another nothing is kept of windows
 pub unchanged : (t : ℕ) (e : Event) (x : Option Sending) (n m : Node) (from to : Stage) (logs : List WindowLog) → NoWindow from → NoWindow to
     → windows_after t e x n m from to logs ≡ logs
-unchanged t e x n m from (InWindow j w) logs none later = absurd later
-unchanged t e x n m (InWindow j w) Idle logs none later = absurd none
-unchanged t e x n m (InWindow j w) Scanning logs none later = absurd none
-unchanged t e x n m (InWindow j w) AwaitFrame logs none later = absurd none
-unchanged t e x n m (InWindow j w) (AwaitSlot i) logs none later = absurd none
-unchanged t e x n m Idle Idle logs none later = refl
-unchanged t e x n m Idle Scanning logs none later = refl
-unchanged t e x n m Idle AwaitFrame logs none later = refl
-unchanged t e x n m Idle (AwaitSlot i) logs none later = refl
-unchanged t e x n m Scanning Idle logs none later = refl
-unchanged t e x n m Scanning Scanning logs none later = refl
-unchanged t e x n m Scanning AwaitFrame logs none later = refl
-unchanged t e x n m Scanning (AwaitSlot i) logs none later = refl
-unchanged t e x n m AwaitFrame Idle logs none later = refl
-unchanged t e x n m AwaitFrame Scanning logs none later = refl
-unchanged t e x n m AwaitFrame AwaitFrame logs none later = refl
-unchanged t e x n m AwaitFrame (AwaitSlot i) logs none later = refl
-unchanged t e x n m (AwaitSlot j) Idle logs none later = refl
-unchanged t e x n m (AwaitSlot j) Scanning logs none later = refl
-unchanged t e x n m (AwaitSlot j) AwaitFrame logs none later = refl
-unchanged t e x n m (AwaitSlot j) (AwaitSlot i) logs none later = refl
+unchanged t e x n m from to logs none later =
+    ap (λ (old : Option (ℕ × Window)). windows_by t e x n m old (window_of to) logs) (no_window_of from none)
+    ∙ ap (λ (new : Option (ℕ × Window)). windows_by t e x n m None new logs) (no_window_of to later)
