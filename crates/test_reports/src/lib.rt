@@ -11,6 +11,8 @@ mod cases;
 #[cfg(test)]
 mod core_tests;
 #[cfg(test)]
+mod demo_tests;
+#[cfg(test)]
 mod end_tests;
 #[cfg(test)]
 mod flood_tests;
@@ -22,5 +24,7 @@ mod queue_tests;
 mod run_tests;
 #[cfg(test)]
 mod tests;
+#[cfg(test)]
+mod trace_tests;
 #[cfg(test)]
 mod worlds;
