@@ -1,7 +1,7 @@
 //! The command `bus` on worked texts, next to what `run` writes of them.
 
 use crate::calls::{answer, joined};
-use crate::cases::{BASE, BYTES_32, CASES, ONE_PACKET, TWO_CONTENTION_SLOTS, TWO_ON};
+use crate::cases::{BASE, BEGINNINGS, BYTES_32, CASES, ONE_PACKET, TWO_CONTENTION_SLOTS, TWO_ON};
 use std::alloc::{AllocError, Global};
 use std::test::Fail;
 
@@ -111,6 +111,23 @@ fn worked_buses(rt: HostRuntime) -> Result<(), Fail> {
     for (name, parts, beginning) in BUSES {
         let text = joined(alloc, parts)?;
         let expected = joined(alloc, beginning)?;
+        let (status, written) = answer(alloc, &["bus"], text.as_bytes(), 4096)?;
+        assert_eq!(rt; status, 0, "of {name}");
+        assert!(rt; written.starts_with(expected.as_bytes()), "of {name}");
+    }
+    Ok(())
+}
+
+// What `bus` writes of these begins as what `run` writes of them, up to what node 1 costs.
+#[test]
+fn beginnings_of_buses(rt: HostRuntime) -> Result<(), Fail> {
+    let alloc = rt.alloc();
+    for case in BEGINNINGS {
+        let name = case.name;
+        let text = joined(alloc, case.text)?;
+        let report = joined(alloc, case.written)?;
+        let lines = report.strip_suffix("energy 1 ").ok_or("energy")?;
+        let expected = joined(alloc, &[lines, "cost 1 "])?;
         let (status, written) = answer(alloc, &["bus"], text.as_bytes(), 4096)?;
         assert_eq!(rt; status, 0, "of {name}");
         assert!(rt; written.starts_with(expected.as_bytes()), "of {name}");

@@ -119,3 +119,24 @@ fn sendings(alloc: Global, air: &Air) -> Result<Vec<(u8, u64, u64)>, Fail> {
     }
     Ok(sendings)
 }
+
+// The step and the sender of each transmission: the counter of a packet is its step.
+fn steps(alloc: Global, air: &Air) -> Result<Vec<(u8, u8)>, Fail> {
+    let mut steps = Vec::new(alloc);
+    for i in 0..air.len() {
+        if let Some(Entry::Sent(sent)) = air.at(i) {
+            steps.push((sent.packet.counter(), sent.node.number()))?;
+        }
+    }
+    steps.sort()?;
+    Ok(steps)
+}
+
+#[test]
+fn steps_of_three_in_a_line(rt: HostRuntime) -> Result<(), Fail> {
+    let alloc = rt.alloc();
+    let air = log_with(alloc, "")?;
+    let wanted = [(0, 1), (1, 2), (2, 1), (2, 3), (3, 2), (4, 3)];
+    assert_eq!(rt; steps(alloc, &air)?.as_slice(), wanted.as_slice());
+    Ok(())
+}

@@ -15,6 +15,8 @@ mod check_tests;
 #[cfg(test)]
 mod core_tests;
 #[cfg(test)]
+mod demo_tests;
+#[cfg(test)]
 mod end_tests;
 #[cfg(test)]
 mod flood_tests;
@@ -26,5 +28,7 @@ mod queue_tests;
 mod run_tests;
 #[cfg(test)]
 mod tests;
+#[cfg(test)]
+mod trace_tests;
 #[cfg(test)]
 mod worlds;

@@ -1,6 +1,10 @@
 //! Scenarios, and their worlds over the clocks that they state.
 
-ghost use Rattle.std.specs.Prelude.{◌≡◌, IfOk};
+ghost use Rattle.std.specs.Prelude.{◌≡◌, ℕ, IfOk, length};
+ghost use Rattle.tick_clock.specs.ClockReadings.{segment_clock_reads};
+ghost use Rattle.scenario_clocks.specs.ClockLists.{clocks_by};
+ghost use Rattle.scenario_clocks.specs.StatedClocks.{scenario_clock};
+ghost use Rattle.air_log.specs.Lawful.{Lawful};
 ghost use Rattle.world_engine.specs.Worlds.{new_world};
 
 use crate::calls::joined;
@@ -22,10 +26,27 @@ pub fn scenario(alloc: Global, parts: &[&str]) -> Result<Scenario, Fail> {
     Ok(parse(alloc, bytes)?)
 }
 
+/// The clocks that a scenario states.
+pub fn clocks_of(alloc: Global, s: &Scenario) -> Result<Vec<SegmentClock>, Memory>
+    ensures count { IfOk result (λ cs. length cs.items ≡ length s.now.nodes) }
+    ensures stated { IfOk result (λ cs. (v : ℕ) → clocks_by segment_clock_reads s.now.nodes cs.items v ≡ scenario_clock s.now v) }
+{
+    stated_clocks(alloc, s.nodes(), s.rates())
+}
+
 /// The world of a scenario before its run.
 pub fn stated_world(alloc: Global, s: &Scenario) -> Result<World<'_, SegmentClock>, Memory>
-    ensures { IfOk result (λ w. w.0 ≡ new_world s.now) }
+    ensures new { IfOk result (λ w. w.0 ≡ new_world s.now) }
+    ensures clocks { IfOk result (λ w. (v : ℕ) → clocks_by segment_clock_reads s.now.nodes w.1 v ≡ scenario_clock s.now v) }
 {
-    let clocks = stated_clocks(alloc, s.nodes(), s.rates())?;
-    World::new(alloc, s, clocks)
+    World::new(alloc, s, clocks_of(alloc, s)?)
+}
+
+/// The world of a scenario after its run.
+pub fn world_after(alloc: Global, s: &Scenario) -> Result<World<'_, SegmentClock>, Memory>
+    ensures { IfOk result (λ w. Lawful s.now (scenario_clock s.now) w.0.air) }
+{
+    let mut world = stated_world(alloc, s)?;
+    world.run(alloc)?;
+    Ok(world)
 }

@@ -17,3 +17,5 @@ mod safe;
 mod safe_tests;
 #[cfg(test)]
 mod texts;
+#[cfg(test)]
+mod turn_tests;

@@ -1,5 +1,6 @@
 //! Runs over clocks that gain or lose as early as they may, and on the bus.
 
+use air_log::{Air, Trail, trail_of};
 use bus_model::Bus;
 use bus_rules::{Delivery, DropLine};
 use lwb_base::INPUT_LIMIT;
@@ -80,6 +81,16 @@ pub fn world_after(
     let mut world = World::new(alloc, s, clocks)?;
     world.run(alloc)?;
     Ok(world)
+}
+
+/// The traces of all nodes over the log of such a run, by ascending ids.
+pub fn trails(alloc: Global, s: &Scenario, air: &Air, speeds: Speeds) -> Result<Vec<Trail>, Fail> {
+    let clocks = jump_clocks(alloc, s.nodes(), speeds)?;
+    let mut trails = Vec::new(alloc);
+    for (line, clock) in s.nodes().iter().zip(clocks.as_slice()) {
+        trails.push(trail_of(alloc, s, air, line.node, clock)?)?;
+    }
+    Ok(trails)
 }
 
 fn write_delivery(text: &mut String, d: &Delivery) -> Result<(), AllocError> {

@@ -1,6 +1,7 @@
 //! Which transmissions are safe, tried plainly on each pair of them.
 
-use air_log::{HeardEntry, SentEntry};
+use air_log::{HeardEntry, SentEntry, Trail};
+use bus_rules::Tune;
 use lwb_base::Profile;
 use lwb_packets::{decode_payload, decode_request, same_body};
 use scenario_text::{Act, Scenario};
@@ -20,7 +21,7 @@ pub enum Clause {
     OneInitiator,
     /// A schedule is begun by the host of its channel.
     HostSchedules,
-    /// Who begins another flood is the host of its channel, or has received a schedule that allows it and stayed on.
+    /// Who begins another flood hosts by its trace, or has received a schedule that allows it and stayed on.
     Silence,
 }
 
@@ -34,12 +35,18 @@ impl Clause {
         Clause::Silence,
     ];
 
-    /// Whether each transmission, and each pair of them, keeps it.
-    pub fn holds(self, s: &Scenario, sent: &[SentEntry], heard: &[HeardEntry]) -> bool {
+    /// Whether each transmission, and each pair of them, keeps it. The traces are those of all nodes, by ascending ids.
+    pub fn holds(
+        self,
+        s: &Scenario,
+        sent: &[SentEntry],
+        heard: &[HeardEntry],
+        trails: &[Trail],
+    ) -> bool {
         let p = s.profile();
         for (i, x) in sent.iter().enumerate() {
             let earlier = &sent[..i];
-            if !self.holds_of_one(s, heard, x)
+            if !self.holds_of_one(s, heard, trails, x)
                 || !earlier.iter().all(|y| self.holds_of_two(&p, x, y))
             {
                 return false;
@@ -48,11 +55,17 @@ impl Clause {
         true
     }
 
-    fn holds_of_one(self, s: &Scenario, heard: &[HeardEntry], x: &SentEntry) -> bool {
+    fn holds_of_one(
+        self,
+        s: &Scenario,
+        heard: &[HeardEntry],
+        trails: &[Trail],
+        x: &SentEntry,
+    ) -> bool {
         match self {
             Clause::WithinOneFrame => ends_in_its_frame(&s.profile(), x),
             Clause::HostSchedules => host_schedules(s, x),
-            Clause::Silence => may_begin(s, x, heard),
+            Clause::Silence => may_begin(s, x, heard, trails),
             Clause::NoOverlap | Clause::SameButForCounter | Clause::OneInitiator => true,
         }
     }
@@ -119,11 +132,20 @@ fn host_schedules(s: &Scenario, x: &SentEntry) -> bool {
     x.packet.counter() != 0 || read(&x.packet).is_none() || is_hosts(s, x)
 }
 
-fn may_begin(s: &Scenario, x: &SentEntry, heard: &[HeardEntry]) -> bool {
+fn may_begin(s: &Scenario, x: &SentEntry, heard: &[HeardEntry], trails: &[Trail]) -> bool {
     x.packet.counter() != 0
         || read(&x.packet).is_some()
-        || is_hosts(s, x)
+        || hosts(s, x, trails)
         || heard.iter().any(|h| gives_word(s, h, x))
+}
+
+// Whether the sender hosts by its trace, in the frame in which it sends.
+fn hosts(s: &Scenario, x: &SentEntry, trails: &[Trail]) -> bool {
+    let frame = frame_at(&s.profile(), x.start) as u32;
+    let mut lines = s.nodes().iter().zip(trails);
+    lines.any(|(line, trail)| {
+        line.node == x.node && matches!(trail.tune_at(frame), Some(Tune::Host(_, _)))
+    })
 }
 
 // Whether the sender heard here that it may.

@@ -1,10 +1,10 @@
 //! Logs of worked scenarios are safe, and some that were changed manually are not.
 
 use crate::moves::{Move, MovedEntry, copied, moved};
-use crate::runs::{Speeds, scenario, world_after};
+use crate::runs::{Speeds, scenario, trails, world_after};
 use crate::safe::Clause;
 use crate::texts::{TWO_CONTENDERS, WORKED};
-use air_log::{Air, Entry, HeardEntry, SentEntry};
+use air_log::{Air, Entry, HeardEntry, SentEntry, Trail};
 use scenario_text::Scenario;
 use std::alloc::{AllocError, Global};
 use std::test::Fail;
@@ -40,9 +40,14 @@ fn hearings(alloc: Global, air: &Air) -> Result<Vec<HeardEntry>, AllocError> {
     Ok(heard)
 }
 
-fn first_broken(s: &Scenario, sent: &[SentEntry], heard: &[HeardEntry]) -> Option<Clause> {
+fn first_broken(
+    s: &Scenario,
+    sent: &[SentEntry],
+    heard: &[HeardEntry],
+    trails: &[Trail],
+) -> Option<Clause> {
     for clause in Clause::ALL {
-        if !clause.holds(s, sent, heard) {
+        if !clause.holds(s, sent, heard, trails) {
             return Some(clause);
         }
     }
@@ -53,7 +58,8 @@ fn broken_over(alloc: Global, s: &Scenario, speeds: Speeds) -> Result<Option<Cla
     let world = world_after(alloc, s, speeds)?;
     let sent = sendings(alloc, world.air())?;
     let heard = hearings(alloc, world.air())?;
-    Ok(first_broken(s, &sent, &heard))
+    let trails = trails(alloc, s, world.air(), speeds)?;
+    Ok(first_broken(s, &sent, &heard, &trails))
 }
 
 #[test]
@@ -151,11 +157,15 @@ fn logs_with_one_entry_moved(rt: HostRuntime) -> Result<(), Fail> {
     let world = world_after(alloc, &s, Speeds::Alternating)?;
     let sent = sendings(alloc, world.air())?;
     let heard = hearings(alloc, world.air())?;
+    let trails = trails(alloc, &s, world.air(), Speeds::Alternating)?;
     for row in &MOVES {
         let clause = row.breaks;
         let (changed, count) = moved(alloc, &p, &sent, row)?;
         assert_eq!(rt; count, 1, "for {clause:?}");
-        assert!(rt; !clause.holds(&s, &changed, &heard), "for {clause:?}");
+        assert!(rt;
+            !clause.holds(&s, &changed, &heard, &trails),
+            "for {clause:?}"
+        );
     }
     Ok(())
 }

@@ -1,0 +1,104 @@
+//! What each node does in a worked run, by its log: the trace and the account.
+
+use crate::cases::FIRST_ROUND;
+use crate::worlds::{clocks_of, scenario, world_after};
+use air_log::{Air, Trail, trail_of};
+use bus_rules::Tune;
+use energy_account::{Account, Energy};
+use lwb_base::NodeId;
+use scenario_text::Scenario;
+use std::alloc::Global;
+use std::test::Fail;
+
+/// A node of the first round: what its radio costs, its first transmission, and the first times at which it is tuned to rank 0.
+struct Row {
+    id: u8,
+    energy: Energy,
+    first_sent: (u64, u64),
+    first_tuned: &'static [(u64, u64)],
+    hosts: bool,
+}
+
+// Node 2 relays the opening a turnaround, 12,288 ticks, after it has received it.
+const ROWS: [Row; 2] = [
+    Row {
+        id: 1,
+        energy: Energy {
+            sent: 147_456,
+            windows: 2_494_336,
+            scanned: 5,
+            on: 1_231_294_336,
+        },
+        first_sent: (1_344_064_000, 1_344_100_864),
+        first_tuned: &[(0, 1_228_800_000), (1_344_000_000, 1_344_199_168)],
+        hosts: true,
+    },
+    Row {
+        id: 2,
+        energy: Energy {
+            sent: 147_456,
+            windows: 2_344_320,
+            scanned: 6,
+            on: 1_346_592_640,
+        },
+        first_sent: (1_344_113_152, 1_344_150_016),
+        first_tuned: &[(0, 1_344_248_320)],
+        hosts: false,
+    },
+];
+
+fn sent(alloc: Global, trail: &Trail) -> Result<Vec<(u64, u64)>, Fail> {
+    let mut sent = Vec::new(alloc);
+    for x in trail.sent() {
+        sent.push((x.start, x.end))?;
+    }
+    Ok(sent)
+}
+
+fn tuned(alloc: Global, trail: &Trail) -> Result<Vec<(u64, u64)>, Fail> {
+    let mut tuned = Vec::new(alloc);
+    for x in trail.tuned() {
+        tuned.push((x.start, x.end))?;
+    }
+    Ok(tuned)
+}
+
+// The trace of a node, which has this place among those of the scenario.
+fn trace(alloc: Global, s: &Scenario, air: &Air, place: usize) -> Result<Trail, Fail> {
+    let clocks = clocks_of(alloc, s)?;
+    let line = s.nodes().get(place).ok_or("node")?;
+    let clock = clocks.get(place).ok_or("clock")?;
+    Ok(trail_of(alloc, s, air, line.node, clock)?)
+}
+
+#[test]
+fn traces_of_a_first_round(rt: HostRuntime) -> Result<(), Fail> {
+    let alloc = rt.alloc();
+    let s = scenario(alloc, FIRST_ROUND)?;
+    let world = world_after(alloc, &s)?;
+    for (place, row) in ROWS.iter().enumerate() {
+        let id = row.id;
+        let trail = trace(alloc, &s, world.air(), place)?;
+        assert_eq!(rt; (trail.windows(), trail.scanned()), (row.energy.windows, row.energy.scanned), "of {id}");
+        assert!(rt; sent(alloc, &trail)?.starts_with(&[row.first_sent]), "of {id}");
+        assert!(rt; tuned(alloc, &trail)?.starts_with(row.first_tuned), "of {id}");
+        assert_eq!(rt; trail.deliveries().len(), 0, "of {id}");
+        let hosts = matches!(trail.tune_at(5), Some(Tune::Host(_, _)));
+        assert_eq!(rt; hosts, row.hosts, "of {id}");
+    }
+    Ok(())
+}
+
+#[test]
+fn account_of_a_first_round(rt: HostRuntime) -> Result<(), Fail> {
+    let alloc = rt.alloc();
+    let s = scenario(alloc, FIRST_ROUND)?;
+    let world = world_after(alloc, &s)?;
+    let account = Account::of(alloc, &s, world.air())?;
+    for row in &ROWS {
+        let id = row.id;
+        let node = NodeId::new(id).ok_or("id")?;
+        assert_eq!(rt; account.line(node), Some(row.energy), "of {id}");
+    }
+    Ok(())
+}
