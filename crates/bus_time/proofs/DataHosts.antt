@@ -50,7 +50,8 @@ module _ (s : ScenarioParts) (clocks : ℕ → ℕ → ℕ) (air : List Entry) (
   named : by_host s clocks air x ≡ true → IsHostOf s x.rank x.node
   named host = (hosting_before s clocks air x.node whole.run known (run_end s) (omega arith)).own x (in_trail s clocks air whole x begins.there) host
 
-  pub word : by_host s clocks air x ≡ false → (plan : _) × HasHeardPlan s air x.node x.rank (frame_of s.profile x) plan (suc (frame_start s (frame_of s.profile x)))
+  pub word : by_host s clocks air x ≡ false
+      → (plan : _) × HasHeardPlan s air x.node x.rank (frame_of s.profile x) plan (suc (frame_start s (frame_of s.profile x)))
   word guest =
       let z = (of_flood s clocks air whole x begins.there).zero in
       let may : SaysData s clocks air x.node x.rank (frame_of s.profile x) z (slot_of x) (by_host s clocks air x) begins.data_ =
@@ -74,7 +75,8 @@ module _ (s : ScenarioParts) (clocks : ℕ → ℕ → ℕ) (air : List Entry) (
       let host : IsHostOf s o.rank o.node = began_by_host s clocks air whole o y flood.begins.sent first says in
       let rank : o.rank ≡ x.rank = sym flood.slot.channel ∙ heard.schedule.channel in
       let node : o.node ≡ v = sym (host_is s x.rank o.node (subst (λ (r : ℕ). IsHostOf s r o.node) rank host)) ∙ host_is s x.rank v is in
-      let over = over_before s clocks air whole v h x y begins.data_ heard.schedule.there begins.there heard.schedule.channel heard.schedule.says begins.says heard.due in
+      let over = over_before s clocks air whole v h x y begins.data_ heard.schedule.there begins.there heard.schedule.channel heard.schedule.says
+      begins.says heard.due in
       let began = origin_before s clocks air whole h flood in
       let lasts = flood.lasts in
       let before : o.start < x.start = omega (arith, over, began, lasts) in

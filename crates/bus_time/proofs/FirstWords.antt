@@ -1,5 +1,6 @@
 -- One more word is noted.
-use Rattle.std.proofs.Common.{◌≡◌, ℕ, inl, inr, [], List, ◌∷◌, ◌++◌, Contains, true, false, ◌&&◌, ◌==◌, Some, None, Option, Bool, refl, sym, ◌∙◌, ap, subst, arith, eqb-true, true≢false}
+use Rattle.std.proofs.Common.{◌≡◌, ℕ, inl, inr, [], List, ◌∷◌, ◌++◌, Contains, true, false, ◌&&◌}
+use Rattle.std.proofs.Common.{◌==◌, Some, None, Option, Bool, refl, sym, ◌∙◌, ap, subst, arith, eqb-true, true≢false}
 use Rattle.std.proofs.lemmas.Bool.{and_parts}
 use Rattle.std.proofs.lemmas.Bool.Decides.{nat_tests}
 use Rattle.std.proofs.lemmas.List.Elements.{Contains-append_left, Contains-push, Contains-push_cases}
@@ -90,7 +91,8 @@ module _ (notes : List Note) (round : Round) (word : Word) where
   untouched other apart (Some first) is = (still (other, first) is.0, λ w there. is.1 w (was_old other apart w there))
 
   -- of each
-  at_each : (o : Round → Option Word) (new : Option Word) → ((other : Round) → IsFirstWord notes other (o other)) → IsFirstWord (notes ++ (round, word) ∷ []) round new
+  at_each : (o : Round → Option Word) (new : Option Word) → ((other : Round) → IsFirstWord notes other (o other))
+      → IsFirstWord (notes ++ (round, word) ∷ []) round new
       → (n : Round → Option Word) → n round ≡ new → ((other : Round) → same_round round other ≡ false → n other ≡ o other)
       → (other : Round) → IsFirstWord (notes ++ (round, word) ∷ []) other (n other)
   at_each o new are here n is keeps other = by_test (same_round round other) refl

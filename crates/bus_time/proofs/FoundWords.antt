@@ -1,5 +1,6 @@
 -- The words of a round are of the schedules that its node heard, and the first of them is that by which data is stamped.
-use Rattle.std.proofs.Common.{◌≡◌, ℕ, ◌+◌, ◌<◌, ◌≤◌, inl, inr, List, Contains, Bool, true, false, ◌==◌, if◌then◌else◌, filter_map, Some, None, Option, refl, sym, ◌∙◌, ap, subst}
+use Rattle.std.proofs.Common.{◌≡◌, ℕ, ◌+◌, ◌<◌, ◌≤◌, inl, inr, List, Contains, Bool, true}
+use Rattle.std.proofs.Common.{false, ◌==◌, if◌then◌else◌, filter_map, Some, None, Option, refl, sym, ◌∙◌, ap, subst}
 use Rattle.std.proofs.Common.{arith, true≢false, eq-eqb}
 use Rattle.std.specs.Prelude.{is_some}
 use Rattle.std.proofs.lemmas.Bool.{cases_lt}

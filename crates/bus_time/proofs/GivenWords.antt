@@ -1,5 +1,6 @@
 -- Who sends data and does not host has a word.
-use Rattle.std.proofs.Common.{◌≡◌, ◌⊎◌, ◌≤◌, ℕ, inl, inr, List, Contains, true, false, ◌==◌, filter_map, Some, None, Option, refl, sym, ◌∙◌, ap, subst, arith, eqb-true}
+use Rattle.std.proofs.Common.{◌≡◌, ◌⊎◌, ◌≤◌, ℕ, inl, inr, List, Contains, true, false, ◌==◌}
+use Rattle.std.proofs.Common.{filter_map, Some, None, Option, refl, sym, ◌∙◌, ap, subst, arith, eqb-true}
 use Rattle.std.proofs.lemmas.Bool.{cases_lt, and_parts, cond-true}
 use Rattle.lwb_base.specs.Messages.{Schedule}
 use Rattle.lwb_packets.specs.DataPackets.{is_data}
@@ -72,8 +73,13 @@ found s air x b is words notes are node rank same_node same_rank o at =
     subst (λ (r : Round). IsFirstWord notes r o) round (at notes are)
 
 -- what was found is late, or nothing was
-pub late_word : (o : Option Word) (start : ℕ) → ((first : Word) × (o ≡ Some first) × (start ≤ first.end)) ⊎ (o ≡ None) → (w : Word) → o ≡ Some w → start ≤ w.end
-late_word o start (inl late) w is = let same : late.0 ≡ w = some_same late.0 w (sym late.1 ∙ is) in let end = ap (λ (u : Word). u.end) same in let by = late.2 in omega (arith, end, by)
+pub late_word : (o : Option Word) (start : ℕ) → ((first : Word) × (o ≡ Some first) × (start ≤ first.end)) ⊎ (o ≡ None) → (w : Word) → o ≡ Some w
+    → start ≤ w.end
+late_word o start (inl late) w is =
+    let same : late.0 ≡ w = some_same late.0 w (sym late.1 ∙ is) in
+    let end = ap (λ (u : Word). u.end) same in
+    let by = late.2 in
+    omega (arith, end, by)
   where
     some_same : (u v : Word) → ◌≡◌ {A = Option Word} (Some u) (Some v) → u ≡ v
     some_same u v same = cc

@@ -1,5 +1,6 @@
 -- Who has begun a schedule's flood hosts as long as it does not go off, and who hosts sends on the channel of its own rank.
-use Rattle.std.proofs.Common.{◌≡◌, ℕ, zero, suc, ◌/◌, ◌<◌, ◌≤◌, inl, inr, List, [], ◌∷◌, Bool, true, false, Some, None, Option, Contains, refl, sym, ◌∙◌, ap, subst, arith}
+use Rattle.std.proofs.Common.{◌≡◌, ℕ, zero, suc, ◌/◌, ◌<◌, ◌≤◌, inl, inr, List, [], ◌∷◌}
+use Rattle.std.proofs.Common.{Bool, true, false, Some, None, Option, Contains, refl, sym, ◌∙◌, ap, subst, arith}
 use Rattle.std.proofs.Common.{true≢false, eqb-true}
 use Rattle.std.proofs.lemmas.List.Elements.{Contains-append_left, Contains-append_right, Contains-push_cases}
 use Rattle.lwb_base.specs.Messages.{Schedule}

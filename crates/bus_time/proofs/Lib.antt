@@ -11,3 +11,4 @@ mod StampTimes
 mod StampedLists
 mod NodePlaces
 mod StampedRuns
+mod StampErrors

@@ -1,5 +1,6 @@
 -- A node of a scenario has a place among its nodes.
-use Rattle.std.proofs.Common.{◌≡◌, ℕ, suc, ◌+◌, ◌<◌, not, List, [], ◌∷◌, Bool, true, false, ◌||◌, nat_lt, if◌then◌else◌, length, Some, None, Option, sym, ◌∙◌, arith, true≢false, lt-ltb}
+use Rattle.std.proofs.Common.{◌≡◌, ℕ, suc, ◌+◌, ◌<◌, not, List, [], ◌∷◌, Bool, true, false}
+use Rattle.std.proofs.Common.{◌||◌, nat_lt, if◌then◌else◌, length, Some, None, Option, sym, ◌∙◌, arith, true≢false, lt-ltb}
 use Rattle.std.specs.List.{list_any, position, position_or_len}
 use Rattle.std.proofs.lemmas.Bool.{cond-true}
 

@@ -3,3 +3,4 @@ pub mod StampLaws
 pub mod Words
 pub mod Reading
 pub mod Stamping
+pub mod StampErrors

@@ -1,5 +1,5 @@
 -- How far a stamp is from what the clock of the host reads.
-use Rattle.std.specs.Prelude.{◌≡◌, ℕ, ◌+◌, ◌-◌, ◌*◌, ◌/◌, ◌==◌, List, Contains, false, Some, if◌then◌else◌}
+use Rattle.std.specs.Prelude.{◌≡◌, ℕ, ◌+◌, ◌-◌, ◌*◌, ◌/◌, ◌==◌, List, Contains, Some, if◌then◌else◌}
 use Rattle.tick_clock.specs.Clocks.{Near}
 use Rattle.lwb_base.specs.Messages.{Schedule}
 use Rattle.bus_rules.specs.Slots.{ScheduleOf}
@@ -10,10 +10,10 @@ use Rattle.scenario_text.specs.ScenarioParts.{ScenarioParts}
 use Rattle.air_log.specs.declared.entry.Entry.{Entry}
 use Rattle.air_log.specs.Entries.{sendings_of}
 use Rattle.air_log.specs.Lawful.{Lawful}
-use Rattle.air_log.specs.Safe.{SameSlot, by_host}
+use Rattle.air_log.specs.Safe.{SameSlot}
 use Rattle.law_safety.specs.Invariant.{IsDrivenWell}
 use Rattle.law_safety.specs.SentPlans.{IsHostOf}
-use Rattle.bus_time.specs.Stamps.{IsReference, IsStamp, tick_by}
+use Rattle.bus_time.specs.Stamps.{IsReference, tick_by}
 use Rattle.bus_time.specs.StampLaws.{BeginsData}
 
 -- what a schedule of 61 bytes, or of 74, leaves open: in version 2 it names its contention slots

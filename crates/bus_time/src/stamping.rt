@@ -53,8 +53,8 @@ pub fn stamps(alloc: Global, s: &Scenario, air: &Air) -> Result<Vec<Stamp>, Memo
 fn word_for(reading: &Reading, begun: &Beginning) -> Word
     requires { (s : ScenarioParts) × (clocks : ℕ → ℕ → ℕ) × (air : List Entry) × (x : Sending)
         × MayStamp s clocks reading.now.present reading.now.ahead begun.now air x × (by_host s clocks air x ≡ false) }
-    ensures { (s : ScenarioParts) (clocks : ℕ → ℕ → ℕ) (air : List Entry) (x : Sending) → MayStamp s clocks reading.now.present reading.now.ahead begun.now air x
-        → by_host s clocks air x ≡ false → IsWordFor s air x result }
+    ensures { (s : ScenarioParts) (clocks : ℕ → ℕ → ℕ) (air : List Entry) (x : Sending)
+        → MayStamp s clocks reading.now.present reading.now.ahead begun.now air x → by_host s clocks air x ≡ false → IsWordFor s air x result }
 {
     let round = Round {
         node: begun.node.number(),

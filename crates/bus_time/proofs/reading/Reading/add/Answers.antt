@@ -7,5 +7,6 @@ use Rattle.bus_time.proofs.reading.Reading.add.Goals as goal
 
 pub returns-in-Tuned : goal.returns-in-Tuned
 returns-in-Tuned c = λ air is.
-    subst (λ (e : Entry). IsRead c.args.profile.now (air ++ e ∷ []) c.args.self.now.present c.args.self.now.ahead c.args.self.now.beginnings.items) (sym c.in-Tuned.is)
-    (none_read c.args.profile.now air (Tuned c.in-Tuned.field-0) c.args.self.now.present c.args.self.now.ahead c.args.self.now.beginnings.items is refl refl refl)
+    let old = c.args.self.now in
+    subst (λ (e : Entry). IsRead c.args.profile.now (air ++ e ∷ []) old.present old.ahead old.beginnings.items) (sym c.in-Tuned.is)
+    (none_read c.args.profile.now air (Tuned c.in-Tuned.field-0) old.present old.ahead old.beginnings.items is refl refl refl)

@@ -25,7 +25,8 @@ returns-in_ok-note-2 c = λ air is.
     let y : Schedule = c.in-Some.schedule in
     let some : schedule_of h.packet ≡ Some y = sym c.in-Some.ensures.value in
     both_read p air (Heard h) old.present old.ahead old.beginnings.items is _ (ap (note_now p g) some) refl c.note.new.self
-    (noted old.present c.note.new.self c.round_of.result (round_of p 0 g) c.word_of.result (word_of 0 g) c.round_of.ensures c.word_of.ensures c.in_ok-note.ensures)
+    (noted old.present c.note.new.self c.round_of.result (round_of p 0 g)
+    c.word_of.result (word_of 0 g) c.round_of.ensures c.word_of.ensures c.in_ok-note.ensures)
     _ (ap (note_ahead p g) some ∙ some_gap p g y (search rules)) c.note-then-gap-ne0.new.self
     (noted old.ahead c.note-then-gap-ne0.new.self c.round_of-then-gap-ne0.result (round_of p y.gap g) c.word_of-then-gap-ne0.result (word_of y.gap g)
     (search rules) (search rules) c.in_ok-note-2.ensures)
@@ -39,5 +40,6 @@ returns-else-gap-ne0 c = λ air is.
     let y : Schedule = c.in-Some.schedule in
     let some : schedule_of h.packet ≡ Some y = sym c.in-Some.ensures.value in
     now_read p air (Heard h) old.present old.ahead old.beginnings.items is _ (ap (note_now p g) some) refl c.note.new.self
-    (noted old.present c.note.new.self c.round_of.result (round_of p 0 g) c.word_of.result (word_of 0 g) c.round_of.ensures c.word_of.ensures c.in_ok-note.ensures)
+    (noted old.present c.note.new.self c.round_of.result (round_of p 0 g)
+    c.word_of.result (word_of 0 g) c.round_of.ensures c.word_of.ensures c.in_ok-note.ensures)
     (ap (note_ahead p g) some ∙ no_gap p g y (search rules))

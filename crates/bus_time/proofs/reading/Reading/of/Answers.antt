@@ -13,4 +13,5 @@ loop-i-preserved c =
     let more : take i air ++ e ∷ [] ≡ take (i + 1) air =
     sym (take_more air i e (omega (arith, c.loop-i-test.true, c.len-i-end.ensures))
     ∙ ap (λ (x : Entry). take i air ++ x ∷ []) (sym c.entry_at-entry.ensures)) in
-    subst (λ (l : List Entry). IsRead c.args.profile.now l new.present new.ahead new.beginnings.items) more (c.in_ok-add.ensures (take i air) c.loop-i.invariant)
+    subst (λ (l : List Entry). IsRead c.args.profile.now l new.present new.ahead new.beginnings.items) more
+    (c.in_ok-add.ensures (take i air) c.loop-i.invariant)
