@@ -55,10 +55,19 @@ fn summary_by_run(alloc: Global, seed: u64, nodes: u8, frames: u32) -> Result<St
 fn summaries_are_the_sums_of_runs(rt: HostRuntime) -> Result<(), Fail> {
     let alloc = rt.alloc();
     let (_, of_two) = answer(alloc, &["demo", "7", "2", "1"], b"", 4096)?;
-    assert_eq!(rt; of_two.as_slice(), summary_by_run(alloc, 7, 2, 1)?.as_bytes());
+    assert_eq!(rt;
+        of_two.as_slice(),
+        summary_by_run(alloc, 7, 2, 1)?.as_bytes()
+    );
     let (_, of_five) = answer(alloc, &["demo", "11", "5", "60"], b"", 4096)?;
-    assert_eq!(rt; of_five.as_slice(), summary_by_run(alloc, 11, 5, 60)?.as_bytes());
+    assert_eq!(rt;
+        of_five.as_slice(),
+        summary_by_run(alloc, 11, 5, 60)?.as_bytes()
+    );
     let (_, of_twenty) = answer(alloc, &["demo", "7", "20", "50"], b"", 4096)?;
-    assert_eq!(rt; of_twenty.as_slice(), summary_by_run(alloc, 7, 20, 50)?.as_bytes());
+    assert_eq!(rt;
+        of_twenty.as_slice(),
+        summary_by_run(alloc, 7, 20, 50)?.as_bytes()
+    );
     Ok(())
 }

@@ -79,9 +79,19 @@ fn traces_of_a_first_round(rt: HostRuntime) -> Result<(), Fail> {
     for (place, row) in ROWS.iter().enumerate() {
         let id = row.id;
         let trail = trace(alloc, &s, world.air(), place)?;
-        assert_eq!(rt; (trail.windows(), trail.scanned()), (row.energy.windows, row.energy.scanned), "of {id}");
-        assert!(rt; sent(alloc, &trail)?.starts_with(&[row.first_sent]), "of {id}");
-        assert!(rt; tuned(alloc, &trail)?.starts_with(row.first_tuned), "of {id}");
+        assert_eq!(rt;
+            (trail.windows(), trail.scanned()),
+            (row.energy.windows, row.energy.scanned),
+            "of {id}"
+        );
+        assert!(rt;
+            sent(alloc, &trail)?.starts_with(&[row.first_sent]),
+            "of {id}"
+        );
+        assert!(rt;
+            tuned(alloc, &trail)?.starts_with(row.first_tuned),
+            "of {id}"
+        );
         assert_eq!(rt; trail.deliveries().len(), 0, "of {id}");
         let hosts = matches!(trail.tune_at(5), Some(Tune::Host(_, _)));
         assert_eq!(rt; hosts, row.hosts, "of {id}");
