@@ -16,9 +16,9 @@ use text_readers::{FaultKind, first_line, is, split_words, word};
 /// Reads a text of fewer than 2^31 bytes: the lines of a scenario, a line whose only word is `log`, and the lines of a log.
 /// The first such line divides them.
 ///
-/// `Line` comes exactly where a line is refused: one of the scenario, with the line `log` as the one after its last, where
+/// `Line` comes if and only if a line is rejected: one of the scenario, with the line `log` as the one after its last, where
 /// something is missing; or one of the log (`parse_log`). A text without a line `log` has `Missing` in the line after its
-/// last one, unless the scenario is refused.
+/// last one, unless the scenario is rejected.
 pub fn parse_checked(alloc: Global, bytes: &[u8]) -> Result<(Scenario, Air), LogFault>
     requires { length bytes.now < 2 ^ 31 }
     ensures text { Gives result (checked_text bytes.now) }

@@ -1,4 +1,4 @@
-//! Recorded logs: how they are read, and whether one is lawful.
+//! Recorded logs: how they are read, and whether one is valid (`Lawful`).
 #![tactic(auto)]
 
 mod astray;

@@ -22,7 +22,7 @@ pub type LogFault = ParseFault;
 /// packets in hexadecimal digits of either case. Lines of a report (`deliver`, `drop`, `energy`), empty lines and comments
 /// are skipped, whatever they hold. `before` is the number of lines above, and the entries are in the order of their lines.
 ///
-/// `Line` comes exactly where a line is refused, with the first of them, counted over the whole input, and the first of
+/// `Line` comes if and only if a line is rejected, with the first of them, counted over the whole input, and the first of
 /// these that holds of it: `NotUtf8`; `BadWord`, for another first word or count of words, or a packet with an odd count of
 /// digits or another character; `BadNumber`; `Range`, for a rank above 3, an id outside 1 to 200, an end that isn't above
 /// its start, or a packet of fewer than 3 or more than 125 bytes; `UnknownNode`, for an id that is no node of the scenario.

@@ -1,4 +1,4 @@
-//! One pass over a log: what each node was told of its rounds, and the transmissions that are stamped.
+//! One pass over a log: what each node received of its rounds, and the transmissions that are stamped.
 
 ghost use Rattle.std.specs.Prelude.{◌≡◌, ◌<◌, ◌++◌, ◌∷◌, [], List, OnOk, IfOk, length, get_or, slice_index, ◌+◌, ◌/◌};
 ghost use Rattle.air_log.specs.declared.entry.Entry.{Entry as EntryOf};

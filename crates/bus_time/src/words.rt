@@ -1,4 +1,4 @@
-//! What nodes were told of their rounds: of each round the first word.
+//! What nodes received of their rounds: of each round the first word.
 
 ghost use Rattle.std.specs.Prelude.{◌≡◌, ◌++◌, ◌∷◌, [], List, OnOk, None, true};
 ghost use Rattle.bus_time.specs.Words.{Note, AreFirsts, IsFirstWord, comes_before};

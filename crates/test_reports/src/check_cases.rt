@@ -7,7 +7,7 @@ const FIRST_SENT: &str = "sent 0 1 1344064000 1344100864 01000000010000000000\n"
 
 const FIRST_HEARD: &str = "heard 0 2 1 1344064000 1344100864 01000000010000000000\n";
 
-/// The log of the first round behind its first reception.
+/// The log of the first round after its first reception.
 const REST: &str = "sent 0 2 1344113152 1344150016 01000100010000000000\n\
     heard 0 1 2 1344113152 1344150016 01000100010000000000\n\
     sent 0 1 1344162304 1344199168 01000200010000000000\n\
@@ -25,7 +25,7 @@ const REST: &str = "sent 0 2 1344113152 1344150016 01000100010000000000\n\
     heard 0 2 1 1348386304 1348423168 01020204010000000000\n\
     sent 0 2 1348435456 1348472320 01020304010000000000\n";
 
-/// The host's first transmission, by itself and by node 2, and one tick later.
+/// The host's first transmission, but of node 2, and one tick later.
 const SENT_BY_ANOTHER: &str = "sent 0 2 1344064000 1344100864 01000000010000000000\n";
 
 const SENT_LATE: &str = "sent 0 1 1344064001 1344100865 01000000010000000000\n";
@@ -35,12 +35,12 @@ const HEARD_LATE: &str = "heard 0 2 1 1344064001 1344100865 01000000010000000000
 
 const HEARD_OTHER: &str = "heard 0 2 1 1344064000 1344100864 01000000020000000000\n";
 
-/// The reception of the closing by node 2, a second time: its relay is ordered already, so it changes nothing that node 2 does.
+/// The reception of the closing schedule by node 2, a second time: its relay is ordered already, so it changes nothing that node 2 does.
 const CLOSING_AGAIN: &str = "heard 0 2 1 1348288000 1348324864 01020004010000000000\n";
 
 /// Logs of the first round, or of it with a third node that is never on, and what is said of them. A node relays what it
 /// received, so where a reception is not there, or is another, its transmissions have no cause. What comes to a node that is
-/// off, or ends with the run, changes nothing that a node does. Lines of a report may stand in a log, and the order of its
+/// off, or ends with the run, changes nothing that a node does. Lines of a report may be in a log, and the order of its
 /// lines is of no account.
 pub const CHECKS: &[(&str, &str, &[&str], &str)] = &[
     (
