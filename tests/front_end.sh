@@ -66,6 +66,13 @@ front_end_sentences() {
     explains "what is missing" 1 $'fault line 3: Missing\n' "a 'sends' line; a 'host' line; two 'node' lines"
     front run "$folder/long"
     explains "a long text" 1 $'fault too long\n' "more than 4,194,304 bytes"
+    { printf 'frames 6\n%s' "$base"; printf 'log\ntuned 0 1 6 6\n'; } > "$folder/range.check"
+    front check range.check
+    explains "a log line out of range" 1 $'fault line 8: Range\n' "line 8, 'tuned 0 1 6 6'"
+    says "a log line out of range: no range" grep -q 'tuned RANK NODE START END.* END above START' "$folder/err"
+    printf 'frames 6\n%s' "$base" > "$folder/no-log.check"
+    front check no-log.check
+    explains "no log" 1 $'fault line 7: Missing\n' "what is missing is a line 'log'"
     front run nowhere.scenario
     explains "no file" 2 "$usage" "there is no file 'nowhere.scenario'"
     front run "$top"
