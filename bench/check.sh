@@ -1,8 +1,8 @@
 #!/bin/sh
 # Times `check`. First a valid log: the scenario that bench/made.py draws from seed 7 for 64 nodes, over as many frames as its
-# text and its log fill 4 MiB, against `run` on the scenario alone. Then texts of 4 MiB that are made to cost much: all
-# receptions of one node at one tick, at a node that is on and at one that is off; and transmissions of all nodes at one tick.
-# It prints processor times: the least of three runs.
+# text and its log fill 4 MiB, against `run` on the scenario alone. Then texts of some 4 MB that are made to cost much: all
+# receptions of one node at one tick, at a node that is on; the same at one that is off, in a log that is valid without them;
+# and transmissions of all nodes at one tick. It prints processor times: the least of three times ten calls.
 # Usage: bench/check.sh PROGRAM, where PROGRAM is the proved program. It needs python3, for bench/made.py.
 set -eu
 
@@ -12,11 +12,13 @@ folder=$(mktemp -d)
 trap 'rm -rf "$folder"' EXIT
 limit=4194304
 
-# The least processor time in milliseconds of three calls of a command with its input.
+# The processor time in milliseconds of a call of a command with its input: the least of three times ten calls.
 milliseconds() {
     for round in 1 2 3; do
-        ( "$program" "$1" < "$2" > "$folder/answer"; times ) |
-            awk 'END { gsub(/[ms]/, " "); print 60000 * ($1 + $3) + 1000 * ($2 + $4) }'
+        (
+            for call in 1 2 3 4 5 6 7 8 9 10; do "$program" "$1" < "$2" > "$folder/answer"; done
+            times
+        ) | awk 'END { gsub(/[ms]/, " "); print 6000 * ($1 + $3) + 100 * ($2 + $4) }'
     done | sort -n | head -n 1
 }
 
@@ -46,12 +48,12 @@ transmissions() {
     }'
 }
 
-frames=64
+frames=256
 while [ "$frames" -gt 0 ]; do
     python3 "$bench/made.py" 7 64 "$frames" > "$folder/scenario"
     { cat "$folder/scenario"; echo log; "$program" log < "$folder/scenario"; } > "$folder/text"
     [ "$(wc -c < "$folder/text")" -gt "$limit" ] || break
-    frames=$((frames - 1))
+    frames=$((frames - 4))
 done
 run=$(milliseconds run "$folder/scenario")
 check=$(milliseconds check "$folder/text")
@@ -60,9 +62,9 @@ awk -v run="$run" -v check="$check" 'BEGIN {
     printf "valid: %.3f seconds of processor time, run %.3f, %.1f times as much\n", check / 1000, run / 1000, check / run
 }'
 
+alone | sed '$d' | "$program" log > "$folder/valid"
 for kind in "receptions 1" "receptions 64" transmissions; do
-    # One line has some 45 bytes.
-    { alone; $kind 80000; } | head -c "$limit" | sed '$d' > "$folder/text"
+    { alone; cat "$folder/valid"; $kind 88000; } | head -c "$limit" | sed '$d' > "$folder/text"
     time=$(milliseconds check "$folder/text")
     awk -v kind="$kind" -v ms="$time" -v said="$(cat "$folder/answer")" 'BEGIN {
         printf "%s: %.3f seconds of processor time, %s\n", kind, ms / 1000, said

@@ -141,7 +141,9 @@ fn may_begin(s: &Scenario, x: &SentEntry, heard: &[HeardEntry], trails: &[Trail]
 
 // Whether the sender hosts by its trace, in the frame in which it sends.
 fn hosts(s: &Scenario, x: &SentEntry, trails: &[Trail]) -> bool {
-    let frame = frame_at(&s.profile(), x.start) as u32;
+    let Ok(frame) = u32::try_from(frame_at(&s.profile(), x.start)) else {
+        return false;
+    };
     let mut lines = s.nodes().iter().zip(trails);
     lines.any(|(line, trail)| {
         line.node == x.node && matches!(trail.tune_at(frame), Some(Tune::Host(_, _)))
