@@ -100,7 +100,7 @@ mkdir -p "$out" && : >"$log" || exit 126
 trap stopped INT TERM HUP
 needed=$(needed)
 jobs=$(at_once)
-say "proving and building the program, $jobs crates at a time: from nothing about 26 minutes on 4 cores, some 40 on 2; 7 GB of memory, 7 GB of disk"
+say "proving and building the program, $jobs crates at a time: from nothing about 28 minutes on 4 cores, some 40 on 2; 7 GB of memory, 7 GB of disk"
 # In the folder of the program 'rt all' proves the program and what it stands on, and nothing else. The built program is run
 # once on the input that is stored beside it, so status 0 says that it is there.
 if ! build "$top/crates/foldcairn" rt all check --jobs "$jobs" || ! build "$top/crates/foldcairn" rt run -- flood; then
