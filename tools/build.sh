@@ -13,14 +13,14 @@ say() {
     echo "foldcairn: $*" >&2
 }
 
-# How many crates are in work at a time. A proof takes a processor and up to 2.5 GB of memory; a crate that waits for those
-# below it takes neither, so there are half as many places more.
+# How many proofs are in work at a time: one takes a processor and up to 2.5 GB of memory. A crate that waits for those below it
+# takes neither, so there are half as many places more.
 at_once() {
     processors=$(getconf _NPROCESSORS_ONLN 2>/dev/null) || processors=1
     free=$(awk '$1 == "MemAvailable:" { print int($2 / 2500000) }' /proc/meminfo 2>/dev/null)
     [ -n "$free" ] && [ "$free" -lt "$processors" ] && processors=$free
     [ "$processors" -ge 1 ] || processors=1
-    echo "$((processors * 3 / 2))"
+    echo "$processors"
 }
 
 # The crates that the program stands on, itself included, as crates.txt lists them.
@@ -36,6 +36,14 @@ needed() {
                 }
             }
         }' "$top/crates.txt"
+}
+
+# Whether all is proved but the command and the program, which wait for all others and for one another.
+only_last_left() {
+    for crate in $needed; do
+        case $crate in replay_tool | foldcairn) continue ;; esac
+        [ -e "$top/crates/$crate/out/rlib/stamp" ] || return 1
+    done
 }
 
 # How far the proofs are: the crates that are done, the functions of those that are in work, and the minutes so far. A crate
@@ -56,7 +64,8 @@ progress() {
     echo "$crates of $all crates proved$present; $((($(date +%s) - begun) / 60)) minutes"
 }
 
-# Says how far it is as long as the builder runs: on a terminal in one line that changes, elsewhere in a line a minute.
+# Says how far it is as long as the builder runs: on a terminal in one line that changes, elsewhere in a line a minute. It ends
+# a builder of which only that is asked, as soon as the command given says so.
 watch() {
     seconds=0
     while kill -0 "$builder" 2>/dev/null; do
@@ -65,6 +74,7 @@ watch() {
         elif [ "$seconds" -gt 0 ] && [ "$((seconds % 60))" -eq 0 ]; then
             say "$(progress)"
         fi
+        "$1" && kill "$builder" 2>/dev/null
         sleep 2
         seconds=$((seconds + 2))
     done
@@ -79,13 +89,14 @@ stopped() {
     exit 130
 }
 
-# Runs a command in a folder with its output in the log, and says how far it is.
+# Runs a command in the program's folder with its output in the log, and says how far it is. The first word is a command that
+# says when to end it early.
 build() {
-    folder=$1
+    enough=$1
     shift
-    (cd "$folder" && exec "$@") >>"$log" 2>&1 <"$top/crates/foldcairn/stdin" &
+    (cd "$top/crates/foldcairn" && exec "$@") >>"$log" 2>&1 <"$top/crates/foldcairn/stdin" &
     builder=$!
-    watch
+    watch "$enough"
     wait "$builder"
     status=$?
     builder=
@@ -100,10 +111,12 @@ mkdir -p "$out" && : >"$log" || exit 126
 trap stopped INT TERM HUP
 needed=$(needed)
 jobs=$(at_once)
-say "proving and building the program, $jobs crates at a time: from nothing about 28 minutes on 4 cores, some 40 on 2; 7 GB of memory, 7 GB of disk"
-# In the folder of the program 'rt all' proves the program and what it stands on, and nothing else. The built program is run
-# once on the input that is stored beside it, so status 0 says that it is there.
-if ! build "$top/crates/foldcairn" rt all check --jobs "$jobs" || ! build "$top/crates/foldcairn" rt run -- flood; then
+say "proving and building the program, $((jobs * 3 / 2)) crates at a time: from nothing about 28 minutes on 4 cores, some 40 on 2; 7 GB of memory, 7 GB of disk"
+# In the folder of the program 'rt all' proves the program and what it stands on, and nothing else, each crate by one job. Once
+# only the last two are left, which wait for one another, 'rt run' goes on with all jobs. The built program is run once on the
+# input that is stored beside it, so status 0 says that it is there.
+build only_last_left rt all check --jobs "$((jobs * 3 / 2))"
+if ! only_last_left || ! build false rt run --jobs "$jobs" -- flood; then
     say "the program could not be built; the end of $log:"
     tail -n 20 "$log" >&2
     exit 126
