@@ -13,6 +13,7 @@ use Rattle.air_log.specs.HearsAir.{scene_of, HearsAir}
 use Rattle.air_log.specs.Safe.{Safe, SameStep}
 use Rattle.law_trails.proofs.SentInTrails.{sent_lasts}
 use Rattle.law_trails.proofs.TunedInTrails.{tuned_listens}
+use Rattle.law_trails.specs.OnePacket.{hears as hearing}
 use Rattle.law_safety.proofs.SafeRuns.{lawful_logs_are_safe}
 use Rattle.law_terms.specs.LawfulRuns.{IsLawfulRun}
 use Rattle.law_one_log.proofs.EntriesApart.{HearingsApart, Other}
@@ -29,9 +30,6 @@ outlasts p (inr is) n =
     let long = ap (λ (q : Numbers). airtime q n) is.0 in
     let near = ap (λ (q : Numbers). q.delta) is.0 in
     omega (arith, long, near)
-
-abbrev hearing : ℕ → Sending → Hearing
-hearing v x = record { node = v; sending = x }
 
 module _ (s : ScenarioParts) (clocks : ℕ → ℕ → ℕ) (air : List Entry) (run : IsLawfulRun s clocks air) where
   abbrev scene : Scene

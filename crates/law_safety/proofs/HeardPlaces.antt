@@ -13,14 +13,6 @@ use Rattle.law_safety.specs.BegunFloods.{IsFirstOrdered}
 use Rattle.law_safety.specs.NodesInOrder.{IsOn}
 use Rattle.law_safety.specs.KnownInRows.{IsHeardNow}
 
-pub not_is : (b : Bool) → not b ≡ true → b ≡ false
-not_is true is = absurd (false≢true is)
-not_is false is = refl
-
-pub neither : (a b : Bool) → (a || b) ≡ false → (a ≡ false) × (b ≡ false)
-neither true b is = absurd (true≢false is)
-neither false b is = (refl, is)
-
 -- when a window takes a reference
 pub taken : {A : Type 0} (p : Bool) (x y : A) → p ≡ true → (if p && true && true && true then x else y) ≡ x
 taken true x y is = refl

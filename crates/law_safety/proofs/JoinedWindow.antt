@@ -24,6 +24,7 @@ use Rattle.node_core.specs.declared.stage.Stage.TheVariants.{Scanning, InWindow}
 use Rattle.node_core.specs.Windows.{Window}
 use Rattle.node_core.specs.Nodes.{Node, zero_from, closes_at}
 use Rattle.node_core.specs.Rows.{part_by, last_by}
+use Rattle.node_core.proofs.WindowKinds.{schedule_kind}
 use Rattle.scenario_text.specs.ScenarioParts.{ScenarioParts}
 use Rattle.radio_model.specs.declared.sending.Sending.{Sending}
 use Rattle.air_log.specs.declared.entry.Entry.{Entry}
@@ -69,9 +70,6 @@ module _ (s : ScenarioParts) (clocks : ℕ → ℕ → ℕ) (v : ℕ) (n : Node)
 
 all_true : (a b c : Bool) → a ≡ true → b ≡ true → c ≡ true → (a && true && b && c && true) ≡ true
 all_true a b c is so also = rw (is, so, also) refl
-
-kind_is : (y : Schedule) → Kind.TheVariants.Schedule ≡ kind_for (part_by y)
-kind_is y = cond_both (y.gap == 0) Opening Closing (λ (p : Part). Kind.TheVariants.Schedule ≡ kind_for p) (λ is. refl) (λ is. refl)
 
 module _ (s : ScenarioParts) (clocks : ℕ → ℕ → ℕ) (air : List Entry) (v t : ℕ) (at : AtTick s clocks air v t) (h : Reception) (d : Device)
     (now : IsHeardNow s clocks air v t h d)
@@ -213,7 +211,7 @@ module _ (s : ScenarioParts) (clocks : ℕ → ℕ → ℕ) (air : List Entry) (
       window_so : InOpenWindow s clocks air v (suc t) joined joined_device slot open_window
       window_so = record {
         flood = record {
-          kind = kind_is y;
+          kind = schedule_kind y;
           slot = refl;
           limit = refl;
           few = omega arith;

@@ -43,11 +43,6 @@ no_joining n (Scan r w) fresh = not_from_true (is_fresh n.core) (fresh refl)
 no_joining n (Hold r due) fresh = refl
 no_joining n (Host r due) fresh = refl
 
--- a radio at this channel listens to it
-pub listens : (r : ℕ) (l : Option Listening) → channel_of l ≡ Some r → listens_to r l ≡ true
-listens r None is = absurd cc
-listens r (Some l) is = let same : l.rank ≡ r = cc in eq-eqb l.rank r same
-
 -- the flood of a window has not sent
 pub flood_unsent : (s : Setup) (part : Part) (j : ℕ) (x : Option Message) → (flood_for s part j x).sent ≡ 0
 flood_unsent s part j None = refl

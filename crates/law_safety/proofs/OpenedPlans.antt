@@ -14,6 +14,7 @@ use Rattle.bus_rules.specs.Tuning.{hosts}
 use Rattle.bus_rules.specs.HostPlans.{HostPlan, host_plan}
 use Rattle.bus_rules.specs.Cores.{Core, Setup}
 use Rattle.bus_rules.specs.Slots.{Message, Opened, ScheduleOf, hosts_now, part_of, opened, host_closes, silent}
+use Rattle.bus_rules.proofs.Ranks.{planned_rank}
 use Rattle.lwb_member.specs.Places.{IsPlaced, kind_for}
 use Rattle.lwb_member.specs.Said.{bytes_of}
 use Rattle.lwb_member.proofs.Told.{told}
@@ -37,11 +38,6 @@ use Rattle.law_safety.specs.Rows.{AtTick}
 use Rattle.law_safety.proofs.AwaitedSlots.{Awaits}
 use Rattle.law_safety.proofs.OpeningRoles.{Role, SameStanding}
 use Rattle.law_safety.proofs.OpenedNodes.{is_set, left, window, after, next, role, standing, none_joins, hosts_round}
-
-planned_rank : (p : Numbers) (node boot rank frame : ℕ) (kept : List Ask) (t : Table) (x : Streams)
-    → (host_plan p node boot rank frame kept t x).plan.rank ≡ rank
-unfolding host_plan
-planned_rank p node boot rank frame kept t x = refl
 
 -- who goes on in the same standing knows the same
 module _ (s : ScenarioParts) (clocks : ℕ → ℕ → ℕ) (air : List Entry) (v told_to : ℕ) (n : Node) (j : ℕ) (plan : Plan) (e : Core) (stage : Stage)

@@ -18,16 +18,8 @@ use Rattle.bus_terms.specs.FloodOfText.{ids}
 use Rattle.bus_terms.specs.Flooding.{moment}
 use Rattle.bus_terms.specs.Rounds.{before_slot, round_deliveries}
 use Rattle.bus_terms.specs.Bus.{before_frame, state_at}
+use Rattle.bus_terms.proofs.WorkedBuses.{node, link, at}
 use Rattle.law_service.specs.Reach.{is_linked}
-
-abbrev pub node : ℕ → NodeLine
-node v = record { node = v; offset = 0 }
-
-abbrev pub link : ℕ → ℕ → LinkLine
-link u v = record { from = u; to = v }
-
-abbrev pub at : ℕ → ℕ → Act → ScriptLine
-at f v a = record { frame = f; node = v; act = a }
 
 -- links both ways between each node and the next
 abbrev chain : List ℕ → List LinkLine

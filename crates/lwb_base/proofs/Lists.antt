@@ -1,7 +1,9 @@
 -- Lists after a change of one place, a map, a filter, or with another behind them.
-use Rattle.std.proofs.Common.{◌≡◌, ◌≢◌, ℕ, zero, suc, ◌+◌, ◌≤◌, List, [], ◌∷◌, ◌++◌, Bool, true, false, cond, Option, Some, None}
-use Rattle.std.proofs.Common.{length, map, set, filter, filter_map, refl, sym, ◌∙◌, ap, arith}
-use Rattle.std.specs.List.{AllByRecursion, cons_option, slice_get}
+use Rattle.std.proofs.Common.{◌≡◌, ◌≢◌, ℕ, zero, suc, ◌+◌, ◌<◌, ◌≤◌, List, [], ◌∷◌, ◌++◌, Bool, true, false, cond, Option, Some, None}
+use Rattle.std.proofs.Common.{length, map, set, take, get_or, filter, filter_map, option_to_list, refl, sym, ◌∙◌, ap, arith}
+use Rattle.std.proofs.lemmas.List.{take_more}
+use Rattle.std.proofs.lemmas.List.Elements.{filter_map-append}
+use Rattle.std.specs.List.{AllByRecursion, cons_option, range_with_len, slice_get}
 
 -- one place is changed
 pub set_elsewhere : {X : Type 0} (xs : List X) (i j : ℕ) (y : X) → j ≢ i → slice_get (set xs i y) j ≡ slice_get xs j
@@ -41,6 +43,25 @@ length_option (Some x) xs ys le = omega arith
 pub length_sifted : {X : Type 0} (g : X → Option X) (xs : List X) → length (filter_map g xs) ≤ length xs
 length_sifted g [] = omega arith
 length_sifted g (x ∷ xs) = omega (arith, length_option (g x) (filter_map g xs) xs (length_sifted g xs))
+
+pub one_kept : {X Y : Type 0} (f : X → Option Y) (x : X) → filter_map f (x ∷ []) ≡ option_to_list (f x)
+one_kept {X} {Y} f x = of_one (f x)
+  where
+    of_one : (o : Option Y) → filter_map (λ (z : Option Y). z) (o ∷ []) ≡ option_to_list o
+    of_one None = refl
+    of_one (Some y) = refl
+
+pub filter_map_more : {X Y : Type 0} (f : X → Option Y) (xs : List X) (i : ℕ) (x : X) → i < length xs → x ≡ get_or xs i x
+    → filter_map f (take (i + 1) xs) ≡ filter_map f (take i xs) ++ option_to_list (f x)
+filter_map_more f xs i x below at =
+    ap (filter_map f) (take_more xs i x below ∙ ap (λ (y : _). take i xs ++ y ∷ []) (sym at))
+    ∙ filter_map-append f (take i xs) (x ∷ [])
+    ∙ ap (λ (l : List _). filter_map f (take i xs) ++ l) (one_kept f x)
+
+-- the numbers of a range
+pub range_more : (a n : ℕ) → range_with_len a (suc n) ≡ range_with_len a n ++ (a + n) ∷ []
+range_more a zero = ap (λ (k : ℕ). k ∷ []) (omega arith)
+range_more a (suc n) = ap (λ (xs : List ℕ). a ∷ xs) (range_more (a + 1) n ∙ ap (λ (k : ℕ). range_with_len (a + 1) n ++ k ∷ []) (omega arith))
 
 -- what holds of each element
 pub each_more : {X : Type 0} (P Q : X → Type 0) → ((x : X) → P x → Q x) → (xs : List X) → AllByRecursion P xs → AllByRecursion Q xs

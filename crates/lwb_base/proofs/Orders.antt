@@ -1,6 +1,6 @@
 -- Numbers in order: how they compare, alone and three or four of them one after another, and when two are the same.
-use Rattle.std.proofs.Common.{◌≡◌, ℕ, suc, ◌*◌, ◌<◌, ◌≤◌, ◌==◌, Bool, true, false, List, inl, inr, Ordering, Less, Equal, refl, sym, ◌∙◌, ap, arith}
-use Rattle.std.proofs.lemmas.Bool.{cases_order, lt-ltb, cond-true, eq-eqb, eqb-true, eqb-false, ne_eqb}
+use Rattle.std.proofs.Common.{◌≡◌, ℕ, suc, ◌*◌, ◌<◌, ◌≤◌, ◌==◌, Bool, true, false, List, length, get_or, AllPairs, inl, inr, Ordering, Less, Equal, refl, sym, ◌∙◌, ap, arith}
+use Rattle.std.proofs.lemmas.Bool.{cases_lt, cases_order, lt-ltb, cond-true, eq-eqb, eqb-true, eqb-false, ne_eqb}
 use Rattle.std.proofs.Math.Nat.{mul-le-mul_right}
 use Rattle.std.proofs.lemmas.List.Sorted.{IsPermutation-refl}
 use Rattle.std.specs.Cmp.{IsTotalOrder, nat_cmp_is, nat_cmp_total, on_total, then_total}
@@ -35,6 +35,12 @@ equal_turned a b = by_test (a == b) refl
     by_test : (c : Bool) → (a == b) ≡ c → (a == b) ≡ (b == a)
     by_test true is = is ∙ sym (eq-eqb b a (sym (eqb-true a b is)))
     by_test false is = is ∙ sym (ne_eqb b a (λ same. eqb-false a b is (sym same)))
+
+pub rising : (ns : List ℕ) → AllPairs (λ a b. a < b) ns → (i j : ℕ) → i ≤ j → j < length ns → get_or ns i 0 ≤ get_or ns j 0
+rising ns ascending i j le inside = elim (cases_lt i j) [
+  | inl before ↦ omega (arith, ascending i j 0 before inside)
+  | inr not_before ↦ let same : i ≡ j = omega arith in rw same (omega arith)
+]
 
 -- several numbers one after another
 abbrev pub by_three : ℕ × ℕ × ℕ → ℕ × ℕ × ℕ → Ordering

@@ -19,7 +19,7 @@ use Rattle.radio_model.specs.declared.recent.Recent.{Recent}
 use Rattle.radio_model.specs.declared.sending.Sending.{Sending}
 use Rattle.radio_model.specs.declared.station.Station.{Station}
 use Rattle.radio_model.proofs.Marked.{no_rivals_aside}
-use Rattle.radio_model.proofs.Members.{of_option}
+use Rattle.lwb_base.proofs.Elements.{of_option}
 use Rattle.radio_model.proofs.BegunOrigins.{can_start, can't_start}
 use Rattle.radio_model.proofs.Places.{nodes_from}
 
@@ -53,11 +53,6 @@ recent_stay now t sts mks r i old new below at back later are = record {
   within = λ k one. omega (arith, are.within k one, length-set sts i new);
   latest = λ k e inside. are.latest k e (omega (arith, inside, length-set sts i new));
 }
-
-pub retuned_sending : (rank : Option ℕ) (t : ℕ) (st : Station) → (retuned rank t st).sending ≡ st.sending
-retuned_sending None t st = refl
-retuned_sending (Some r) t st = cond_both (is_tuned_to st.tuned r) st (tuned_in r t (tuned_out t st)) (λ (s : Station). s.sending
-    ≡ st.sending) (λ _. refl) (λ _. refl)
 
 -- another sending begins
 module _ (now t : ℕ) (sts : List Station) (mks : List Mark) (r s : Recent) (i : ℕ) (new : Station) (x : Sending) (mk : Mark) (below : i < length sts)

@@ -31,10 +31,6 @@ pub record AreTold (first : List Entry) (s : ScenarioParts) (clocks : ℕ → �
   pub run : IsRunning s clocks (take k s.script) (frame_start s f) (InLines (take k s.script)) w due
   pub stay : TrailsStay s clocks (frame_start s f) first w.air
 
--- the tick at which a frame starts, as it is computed
-pub tick_of : (s : ScenarioParts) (f i j : ℕ) (p : Numbers) → i ≡ f → j ≡ p.frame → p ≡ s.profile → i * j ≡ frame_start s f
-tick_of s f i j p frame ticks profile = ap (λ (n : ℕ). n * j) frame ∙ ap (λ (n : ℕ). f * n) (ticks ∙ ap (λ (q : Numbers). q.frame) profile)
-
 -- what is read at an index of a list stands there
 pub read_line : (script read : List ScriptLine) (k : ℕ) (l : ScriptLine) → read ≡ script → true ≡ nat_lt k (length read) → l ≡ get_or read k l
     → slice_get script k ≡ Some l

@@ -28,11 +28,6 @@ mapped f [] p x is = cc
 mapped f (y ∷ xs) zero x is = ap (λ (z : _). Some (f z)) (same_Some y x is)
 mapped f (y ∷ xs) (suc p) x is = mapped f xs p x is
 
--- time passes
-ended_later : (t u : ℕ) (es : List Tuning) → t ≤ u → EndedBefore t es → EndedBefore u es
-ended_later t u [] order all = tt
-ended_later t u (e ∷ es) order all = omega (arith, all)
-
 if_later : {X : Type 0} (o : Option X) (P Q : X → Type 0) → ((x : X) → P x → Q x) → IfSome o P → IfSome o Q
 if_later None P Q on is = tt
 if_later (Some x) P Q on is = on x is
