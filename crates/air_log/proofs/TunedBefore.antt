@@ -117,7 +117,10 @@ module _ (t rank : ℕ) where
   joined : (e : Tuning) (es : List Tuning) → AllBy t (e ∷ es) None → e.rank ≡ rank → e.end ≡ t
       → Stays t (e ∷ es) None es (Some (record { rank = rank; since = e.start }))
   joined e es by of at = record {
-    by = record { ended = λ d there. by.ended d (contains_tail e es d there); since = (let all = by.ended e (contains_head e es) in omega (arith, all.0, all.1)) };
+    by = record {
+      ended = λ d there. by.ended d (contains_tail e es d there);
+      since = (let all = by.ended e (contains_head e es) in omega (arith, all.0, all.1));
+    };
     same = λ r k before. (
       λ is. elim is [
         | inl d ↦ inl (d.0, contains_tail e es d.0 d.1, d.2)

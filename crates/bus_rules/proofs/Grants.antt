@@ -1,6 +1,6 @@
 -- Acknowledgements and grants, counted.
-use Rattle.std.proofs.Common.{◌≡◌, ℕ, zero, suc, ◌+◌, ◌≤◌, ◌==◌, List, [], ◌∷◌, length, replicate, Bool, cond, if◌then◌else◌, nat_le, nat_lt, refl, ◌∙◌, ap, arith, eq-eqb}
-use Rattle.std.proofs.Common.{sum_by}
+use Rattle.std.proofs.Common.{◌≡◌, ℕ, zero, suc, ◌+◌, ◌≤◌, ◌==◌, List, [], ◌∷◌, length, replicate, Bool, cond, if◌then◌else◌}
+use Rattle.std.proofs.Common.{nat_le, nat_lt, sum_by, refl, ◌∙◌, ap, arith, eq-eqb}
 use Rattle.std.proofs.lemmas.Bool.{cond_both}
 use Rattle.std.proofs.lemmas.List.Sums.{sum_by-cons}
 use Rattle.lwb_base.specs.Messages.{Ask, code_of}

@@ -44,7 +44,8 @@ module _ (d e : Entry) where
   Before = is_before d e ≡ true
 
   by_start : start_of d < start_of e → Before
-  by_start less = ap (λ (c : Ordering). then_so c (nat_cmp (kind_of d) (kind_of e)) (nat_cmp (node_of d) (node_of e))) (compares_less (start_of d) (start_of e) less)
+  by_start less =
+      ap (λ (c : Ordering). then_so c (nat_cmp (kind_of d) (kind_of e)) (nat_cmp (node_of d) (node_of e))) (compares_less (start_of d) (start_of e) less)
 
   by_kind : start_of d ≡ start_of e → kind_of d < kind_of e → Before
   by_kind start less =

@@ -81,7 +81,8 @@ module _ (nodes : List ℕ) where
         let n = nat_lt i (length nodes) in
         elim (cases_lt i 64) [
           | inl near ↦
-              bit_at_and a (bit_not w64 b) i ∙ rw (a_is i, bit_at_not w64 b i small near, b_is i) (without (n && p u) (n && q u)) ∙ ap one_if (less n (p u) (q u))
+              bit_at_and a (bit_not w64 b) i ∙ rw (a_is i, bit_at_not w64 b i small near, b_is i) (without (n && p u) (n && q u))
+              ∙ ap one_if (less n (p u) (q u))
           | inr far ↦
               (let none : bit_at a i ≡ 0 = a_is i ∙ past p i far in bit_at_and a (bit_not w64 b) i ∙ omega (arith, none))
               ∙ sym (past (λ u. p u && not (q u)) i far)

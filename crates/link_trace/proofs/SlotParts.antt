@@ -64,8 +64,10 @@ module _ {L : Type 0} (slot_of : L → ℕ) (first last : ℕ) (order : first �
   holds_slots lines b e ordered within before after = record {
     ascends = λ by up. part_ascends by b (e - b) lines up;
     all = λ test of. part_passes test b e lines ordered within
-        (λ k d low high. false_from_ne_true (test (get_or lines k d)) (λ passes. let there = of (get_or lines k d) passes in omega (arith, there.0, before k d low high)))
-        (λ k d low high. false_from_ne_true (test (get_or lines k d)) (λ passes. let there = of (get_or lines k d) passes in omega (arith, there.1, after k d low high)));
+        (λ k d low high. false_from_ne_true (test (get_or lines k d))
+        (λ passes. let there = of (get_or lines k d) passes in omega (arith, there.0, before k d low high)))
+        (λ k d low high. false_from_ne_true (test (get_or lines k d))
+        (λ passes. let there = of (get_or lines k d) passes in omega (arith, there.1, after k d low high)));
   }
 
 -- one more start

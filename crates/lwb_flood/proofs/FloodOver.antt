@@ -63,7 +63,8 @@ node_if n v false z x at own is = absurd (cc)
 ended_node : (e : Entry) (v : ℕ) (x : Sending) → event_in v e ≡ Some (Ended x) → x.node ≡ v
 ended_node (Sent s) v x is = node_if s.node v (s.node == v)
     (record { rank = s.rank; node = s.node; start = s.start; end = s.end; packet = s.packet }) x (λ same. eqb-true s.node v same) refl is
-ended_node (HeardOf h) v x is = absurd (heard_is_not (h.node == v) (record { rank = h.rank; node = h.from; start = h.start; end = h.end; packet = h.packet }) x is)
+ended_node (HeardOf h) v x is =
+    absurd (heard_is_not (h.node == v) (record { rank = h.rank; node = h.from; start = h.start; end = h.end; packet = h.packet }) x is)
 ended_node (Tuned t) v x is = absurd (cc)
 
 -- no tuning lasts

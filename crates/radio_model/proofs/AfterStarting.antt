@@ -26,7 +26,8 @@ with_next ys (Some x) n = sym (append-nil (ys ++ x ∷ []))
 pub in_turn_push : (from : ℕ) (ys : List Sending) (x : Sending) → InTurn from ys → from ≤ x.start → ((y : Sending) → Contains ys y → y.end ≤ x.start)
     → InTurn from (ys ++ x ∷ [])
 in_turn_push from [] x turn first over = (first, tt)
-in_turn_push from (y ∷ ys) x turn first over = (turn.0, in_turn_push y.end ys x turn.1 (over y (contains_head y ys)) (λ z there. over z (contains_tail y ys z there)))
+in_turn_push from (y ∷ ys) x turn first over =
+    (turn.0, in_turn_push y.end ys x turn.1 (over y (contains_head y ys)) (λ z there. over z (contains_tail y ys z there)))
 
 module _ (p : Numbers) (t : ℕ) (packet : List ℕ) (short : 3 ≤ length packet) (long : length packet ≤ 125) where
   abbrev next : Station → Option Sending

@@ -16,7 +16,8 @@ use Rattle.radio_model.proofs.Scenes.{stands}
 
 is_fresh : (k : ℕ) (vs : List ℕ) (st : Station) → Contains (stations_from k vs) st → (v : ℕ) × (i : ℕ) × (fresh v i ≡ st)
 is_fresh k [] st there = absurd (not_in_none st there)
-is_fresh k (v ∷ vs) st there = elim (contains_cases (fresh v k) (stations_from (k + 1) vs) st there) [ inl is ↦ (v, k, is) | inr rest ↦ is_fresh (k + 1) vs st rest ]
+is_fresh k (v ∷ vs) st there =
+    elim (contains_cases (fresh v k) (stations_from (k + 1) vs) st there) [ inl is ↦ (v, k, is) | inr rest ↦ is_fresh (k + 1) vs st rest ]
 
 module _ (p : Numbers) (nodes : List ℕ) (profile : IsProfile p) (are : AreNodes nodes) (lines : Lines) where
   abbrev m : MediumState

@@ -39,7 +39,11 @@ returns-then-sends_packet c =
     let st = c.index-stations-i.result in
     let mk = c.index-marks-i-then-sends_packet.result in
     inr (sender_joins c.args.stations.now mks i c.args.t c.args.packet.now st (get_or mks i mk)
-    (record { below = below; station = sym c.index-stations-i.is; mark = get_or_default mks i (get_or mks i mk) mk (omega (arith, below, c.requires.one_each)) })
+    (record {
+      below = below;
+      station = sym c.index-stations-i.is;
+      mark = get_or_default mks i (get_or mks i mk) mk (omega (arith, below, c.requires.one_each));
+    })
     (sym c.sends_packet.ensures ∙ c.if-sends_packet.true))
 
 pub returns : goal.returns
