@@ -1,7 +1,7 @@
 -- Trails are computed from one tick at which something is due to the next. The search for the first tick at which a clock
 -- reads a number cannot be computed, so a function that gives the same is put in its place.
 use Rattle.std.proofs.Common.{◌≡◌, ℕ, zero, suc, ◌+◌, ◌/◌, ◌<◌, ◌≤◌, IfSome, max, List, [], ◌∷◌, Bool, true, false, not, ◌==◌, ◌&&◌, ◌||◌, nat_lt, nat_le}
-use Rattle.std.proofs.Common.{if◌then◌else◌, fold, Option, Some, None, Contains, ◌⊎◌, inl, inr, refl, sym, ◌∙◌, ap, subst, arith, true≢false, ltb-true}
+use Rattle.std.proofs.Common.{if◌then◌else◌, fold, Option, Some, None, ◌⊎◌, inl, inr, refl, ◌∙◌, ap, subst, arith, ltb-true}
 use Rattle.std.proofs.lemmas.Bool.{and_parts, leb-true, eq-eqb}
 use Rattle.std.specs.List.{list_all}
 use Rattle.std.proofs.Math.Path.{fun_ext}
@@ -25,7 +25,7 @@ use Rattle.air_log.specs.Devices.{Device, Power, PowerOff, PowerOn, Ordered, at_
 use Rattle.air_log.specs.ScriptedDevices.{dropped, switched_off, with_new_core, put_or_dropped}
 use Rattle.air_log.specs.Trails.{Reception, setup_of, frame_start, lines_at, ending_at, is_due, alarms, begun, tick, before_tick}
 use Rattle.air_log.specs.Ahead.{NextDue}
-use Rattle.lwb_base.proofs.Elements.{contains_cases, not_in_none, all_passes}
+use Rattle.lwb_base.proofs.Elements.{all_passes}
 use Rattle.lwb_base.proofs.Truths.{implied}
 use Rattle.air_log.proofs.NextDue.{until_next}
 

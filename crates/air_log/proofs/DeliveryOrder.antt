@@ -1,9 +1,8 @@
 -- Deliveries by frame, rank, slot and node.
-use Rattle.std.proofs.Common.{◌≡◌, ℕ, ◌<◌, Bool, true, false, not, ◌&&◌, inl, inr, Ordering, Less, Equal, refl, sym, ◌∙◌, ap, arith, true≢false}
-use Rattle.std.specs.Cmp.{IsTotalOrder, IsStrictWeakOrder, nat_cmp_is, nat_cmp_total, on_total, then_total}
+use Rattle.std.proofs.Common.{◌≡◌, ℕ, ◌<◌, Bool, true, Ordering, Equal, sym, ◌∙◌, ap, true≢false}
+use Rattle.std.specs.Cmp.{IsStrictWeakOrder}
 use Rattle.std.specs.List.Sorted.{ties}
 use Rattle.std.specs.Ordering.{nat_cmp, ordering_then, is_lt}
-use Rattle.std.proofs.lemmas.Bool.{cases_lt}
 use Rattle.std.proofs.lemmas.List.Sorted.{ranks_by}
 use Rattle.lwb_base.proofs.Orders.{compares_less, by_four_total, compares_equal, one_number}
 use Rattle.lwb_base.proofs.Truths.{both_not}

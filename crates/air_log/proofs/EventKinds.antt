@@ -1,7 +1,7 @@
 -- The events of a flood are told apart.
 use Rattle.std.proofs.Common.{◌≡◌}
 use Rattle.radio_model.specs.declared.sending.Sending.{Sending}
-use Rattle.air_log.specs.NodeEvents.{Event, Heard, Ended}
+use Rattle.air_log.specs.NodeEvents.{Heard, Ended}
 
 pub ended_not_heard : (x y : Sending) → Ended x ≡ Heard y → ⊥
 ended_not_heard x y is = cc

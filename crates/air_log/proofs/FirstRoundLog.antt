@@ -1,7 +1,6 @@
 -- The log of the worked first round is lawful.
-use Rattle.std.proofs.Common.{◌≡◌, ◌≢◌, ℕ, List, [], Bool, true, false, ◌==◌, ◌||◌, IsPermutation, refl, sym, ◌∙◌, subst, inl, inr, eqb-true}
+use Rattle.std.proofs.Common.{◌≡◌, ◌≢◌, ℕ, [], Bool, true, false, ◌==◌, ◌||◌, IsPermutation, refl, sym, ◌∙◌, subst, inl, inr, eqb-true}
 use Rattle.std.proofs.lemmas.Bool.{cases_eq, ne_eqb}
-use Rattle.std.proofs.lemmas.List.Sorted.{IsPermutation-refl}
 use Rattle.lwb_base.proofs.Orders.{same_list}
 use Rattle.lwb_base.proofs.Elements.{all_passes}
 use Rattle.radio_model.specs.declared.sending.Sending.{Sending}

@@ -13,12 +13,12 @@ use Rattle.bus_rules.specs.Slots.{Message, ScheduleOf, DataOf, RequestOf}
 use Rattle.bus_rules.specs.Tuning.{rank_of}
 use Rattle.lwb_member.specs.Said.{message_of}
 use Rattle.node_core.specs.Nodes.{Node}
-use Rattle.node_core.specs.Rows.{Stepped, row, joins, scanner_hears, sends, at_alarm, at_heard, at_sent, boots}
+use Rattle.node_core.specs.Rows.{row, joins, scanner_hears, sends, at_alarm, at_heard, at_sent, boots}
 use Rattle.node_core.specs.Rows.{node_after, orders_by}
 use Rattle.node_core.specs.Windows.{Window}
 use Rattle.node_core.specs.declared.stage.Stage.{Stage}
 use Rattle.node_core.specs.declared.stage.Stage.TheVariants.{Idle, Scanning, AwaitFrame, AwaitSlot, InWindow}
-use Rattle.node_core.proofs.KeptBoots.{KeepsBoot, boot_kept}
+use Rattle.node_core.proofs.KeptBoots.{boot_kept}
 use Rattle.air_log.specs.Devices.{Device, Power, PowerOff, PowerOn, obeyed, moved, stepped, silenced, tunes, listens_to}
 use Rattle.air_log.specs.WindowLogs.{WindowLog, is_alarm, gone_on, closed_log, window_of, windows_after, windows_by}
 use Rattle.air_log.proofs.AlarmRows.{InRange}

@@ -7,7 +7,7 @@ use Rattle.std.proofs.lemmas.Bool.{or_cases, and_parts, eqb-true, false≢true, 
 use Rattle.std.proofs.lemmas.List.Elements.{All-nil, All-cons}
 use Rattle.std.proofs.lemmas.List.Kept.{AllPairs-cons}
 use Rattle.lwb_base.specs.Profile.{one}
-use Rattle.tick_clock.specs.Clocks.{IsClock, due}
+use Rattle.tick_clock.specs.Clocks.{due}
 use Rattle.tick_clock.proofs.DueTicks.{due_at_most, due_is}
 use Rattle.tick_clock.proofs.Readings.{true_clock}
 use Rattle.glossy_relay.specs.Relaying.{counter_of, reply_to}
@@ -25,7 +25,7 @@ use Rattle.air_log.specs.NodeEvents.{Event, Heard, Ended, sending_of, InOrder, a
 use Rattle.air_log.specs.FloodLaw.{FloodLaw, AreEventsOf, IsRelay, Lasts, START, first_packet, first_flood, tuning_by, sending_at}
 use Rattle.air_log.specs.TwoNodeLog.{two_nodes, true_time, packet_with, two_node_log}
 use Rattle.air_log.proofs.EventKinds.{ended_not_heard, heard_not_ended}
-use Rattle.lwb_base.proofs.Elements.{not_in_none, contains_head, contains_tail, contains_cases, one_of, one_of_two, all_passes}
+use Rattle.lwb_base.proofs.Elements.{contains_head, contains_tail, one_of, one_of_two, all_passes}
 
 -- such a clock comes to a reading at that tick
 due_then : (x : ℕ) → x ≤ 2 ^ 47 → due (λ t. t) x ≡ x

@@ -7,7 +7,7 @@ use Rattle.bus_rules.specs.declared.part.Part.{Part}
 use Rattle.bus_rules.specs.declared.part.Part.TheVariants.{Opening, Data as DataSlot, Contention, Closing}
 use Rattle.bus_rules.specs.Cores.{Core}
 use Rattle.bus_rules.specs.HostPlans.{host_plan}
-use Rattle.bus_rules.specs.Slots.{Message, ScheduleOf, slot_heard}
+use Rattle.bus_rules.specs.Slots.{ScheduleOf, slot_heard}
 use Rattle.bus_rules.specs.Streams.{Streams}
 use Rattle.bus_rules.specs.Tables.{Table}
 use Rattle.bus_rules.specs.declared.tune.Tune.{Tune}

@@ -1,6 +1,6 @@
 -- A flood with one initiator: each origin is that one, and who hears is reached by a path.
 use Rattle.std.proofs.Common.{◌≡◌, ℕ, zero, suc, ◌+◌, ◌<◌, List, [], ◌∷◌, Bool, true, false, not, ◌&&◌, ◌||◌, if◌then◌else◌, inl, inr, ⊎_elim}
-use Rattle.std.proofs.Common.{eq-eqb, Option, Some, None, is_some, is_none, refl, sym, ◌∙◌, ap, subst, filter_map, ◌==◌, nat_lt}
+use Rattle.std.proofs.Common.{eq-eqb, Option, Some, None, is_some, refl, sym, ◌∙◌, ap, subst, filter_map, ◌==◌, nat_lt}
 use Rattle.std.proofs.lemmas.Bool.{cases_eq, or_right, or_left, or_from, not_from_false, ne_eqb, cond_both, or_cases, eqb-true, and_parts, and_from}
 use Rattle.std.proofs.lemmas.Bool.{false≢true, ltb-true, lt-ltb}
 use Rattle.std.specs.List.{list_any, list_all, cons_option}

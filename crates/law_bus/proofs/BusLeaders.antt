@@ -1,12 +1,11 @@
 -- Who leads a round of the bus, and by which plan it goes.
-use Rattle.std.proofs.Common.{◌≡◌, ℕ, List, [], ◌∷◌, Bool, true, ◌==◌, ◌||◌, inl, inr, Option, Some, None, find, option_and_then, refl, sym, ◌∙◌, ap, subst}
+use Rattle.std.proofs.Common.{◌≡◌, ℕ, List, [], ◌∷◌, Bool, true, ◌==◌, inl, inr, Option, Some, None, find, option_and_then, refl, sym, ◌∙◌, ap, subst}
 use Rattle.std.proofs.Common.{eq-eqb, true≢false}
 use Rattle.std.specs.Option.{option_or}
 use Rattle.std.proofs.lemmas.Bool.{cases_Bool, cond-true, cond-false, or_cases, or_left, or_right, eqb-true, false≢true}
 use Rattle.lwb_base.specs.Messages.{Plan}
 use Rattle.scenario_text.specs.ScenarioParts.{ScenarioParts}
 use Rattle.scenario_text.specs.FloodParts.{knows}
-use Rattle.scenario_text.specs.declared.lines.NodeLine.{NodeLine}
 use Rattle.bus_rules.specs.Tuning.{hosts_in, holds_in}
 use Rattle.bus_rules.specs.Cores.{Core}
 use Rattle.bus_rules.specs.States.{State, StateOff, StateOn}

@@ -1,11 +1,11 @@
 -- A slot that is a run of the flood theorem: its windows have accepted and initiated what their nodes do on the bus.
-use Rattle.std.proofs.Common.{◌≡◌, ℕ, ◌≤◌, List, [], ◌∷◌, Bool, true, false, ◌==◌, ◌||◌, if◌then◌else◌, Some, None, Option, IfSome, inl, inr, is_some, fold}
+use Rattle.std.proofs.Common.{◌≡◌, ℕ, ◌≤◌, List, [], ◌∷◌, Bool, true, false, if◌then◌else◌, Some, None, Option, IfSome, inl, inr, is_some, fold}
 use Rattle.std.proofs.Common.{slice_set, option_and_then, refl, sym, ◌∙◌, ap, subst, arith, true≢false}
-use Rattle.std.proofs.lemmas.Bool.{cases_Bool, cond_both, false≢true}
+use Rattle.std.proofs.lemmas.Bool.{cases_Bool, false≢true}
 use Rattle.lwb_base.specs.Messages.{Plan}
 use Rattle.lwb_base.proofs.Options.{some_is}
 use Rattle.glossy_relay.specs.FloodState.{FloodState}
-use Rattle.glossy_relay.specs.Relaying.{accepted_of, after_heard, fits}
+use Rattle.glossy_relay.specs.Relaying.{accepted_of, after_heard}
 use Rattle.glossy_relay.proofs.CountedPackets.{begun_here}
 use Rattle.bus_rules.specs.declared.part.Part.{Part}
 use Rattle.bus_rules.specs.Cores.{Setup, is_member}
@@ -15,7 +15,6 @@ use Rattle.lwb_member.specs.Said.{MaySay, message_of}
 use Rattle.node_core.specs.Rows.{flood_for}
 use Rattle.scenario_text.specs.ScenarioParts.{ScenarioParts}
 use Rattle.scenario_text.specs.FloodParts.{knows}
-use Rattle.scenario_text.specs.declared.lines.NodeLine.{NodeLine}
 use Rattle.air_log.specs.declared.entry.Entry.{Entry}
 use Rattle.air_log.specs.Trails.{run_end, setup_of}
 use Rattle.air_log.specs.WindowLogs.{WindowLog, Happening, HeardAt, SentAt}

@@ -1,14 +1,13 @@
 -- Who takes part in the round of a rank and a frame, by its tune.
-use Rattle.std.proofs.Common.{◌≡◌, ℕ, Bool, true, false, ◌==◌, ◌&&◌, ◌||◌, inl, inr, refl, sym, ◌∙◌, arith, eq-eqb, true≢false}
-use Rattle.std.proofs.lemmas.Bool.{cases_eq, ne_eqb, and_right}
+use Rattle.std.proofs.Common.{◌≡◌, ℕ, Bool, true, false, ◌==◌, ◌&&◌, ◌||◌, refl, sym, arith, eq-eqb, true≢false}
+use Rattle.std.proofs.lemmas.Bool.{ne_eqb, and_right}
 use Rattle.bus_rules.specs.declared.tune.Tune.{Tune}
 use Rattle.bus_rules.specs.declared.tune.Tune.TheVariants.{Scan, Hold, Host}
 use Rattle.bus_rules.specs.Tuning.{rank_of, hosts, hosts_in, holds_in, scans}
-use Rattle.bus_rules.specs.Cores.{Core, is_fresh, is_member}
+use Rattle.bus_rules.specs.Cores.{is_fresh}
 use Rattle.node_core.specs.Nodes.{Node}
 use Rattle.scenario_text.specs.ScenarioParts.{ScenarioParts}
 use Rattle.law_safety.specs.TunedNodes.{IsRoundOf, Scans}
-use Rattle.bus_terms.proofs.OtherRanks.{not_member}
 
 abbrev pub takes_by : ℕ → ℕ → Tune → Bool → Bool
 takes_by rank f t fresh = hosts_in rank f t || holds_in rank f t || (scans rank t && fresh)

@@ -1,7 +1,6 @@
 -- What a node sends in a slot, step by step: in the air what it sends in the flood of the bus, and as long.
 use Rattle.std.proofs.Common.{◌≡◌, ℕ, ◌≤◌, List, true, Some, None, Option, Contains, option_map, is_some, length, refl, sym, ◌∙◌, ap, subst, arith}
 use Rattle.std.specs.Option.{option_map_or}
-use Rattle.std.proofs.lemmas.Bool.{false≢true}
 use Rattle.std.proofs.lemmas.List.{length-set}
 use Rattle.lwb_base.specs.Messages.{Plan}
 use Rattle.lwb_base.proofs.Options.{some_is}

@@ -1,7 +1,7 @@
 -- Who takes part in a slot without a window by an alarm is tuned through what is sent in it, tick by tick, until its last
 -- own sending has ended: behind each tick it is as the frame has found it, or in the window of the slot that it has joined.
-use Rattle.std.proofs.Common.{◌≡◌, ℕ, suc, ◌-◌, ◌/◌, ◌<◌, ◌≤◌, inl, inr, List, true, false, Some, None, Option, Contains, get_or, refl, sym}
-use Rattle.std.proofs.Common.{◌∙◌, ap, subst, arith, eqb-true, true≢false}
+use Rattle.std.proofs.Common.{◌≡◌, ℕ, suc, ◌-◌, ◌/◌, ◌<◌, ◌≤◌, inl, inr, List, true, false, Some, Option, Contains, get_or, refl, sym}
+use Rattle.std.proofs.Common.{◌∙◌, ap, subst, arith}
 use Rattle.std.specs.Prelude.{◌⊎◌}
 use Rattle.std.specs.Option.{IfSome}
 use Rattle.lwb_base.specs.Messages.{Plan}
@@ -15,7 +15,7 @@ use Rattle.scenario_text.specs.FloodParts.{knows}
 use Rattle.radio_model.specs.declared.sending.Sending.{Sending}
 use Rattle.radio_model.specs.Hearing.{Scene, IsTuned, frame_of}
 use Rattle.air_log.specs.declared.entry.Entry.{Entry}
-use Rattle.air_log.specs.Devices.{Device, Listening, Power, PowerOff, PowerOn, listens_to}
+use Rattle.air_log.specs.Devices.{Device, Power, PowerOff, PowerOn}
 use Rattle.air_log.specs.Entries.{sendings_of}
 use Rattle.air_log.specs.HearsAir.{scene_of}
 use Rattle.air_log.specs.Lawful.{heard_by, trail_in}
@@ -23,7 +23,6 @@ use Rattle.air_log.specs.NodeEvents.{Event, own_ends}
 use Rattle.air_log.specs.Trails.{run_end}
 use Rattle.air_log.specs.WindowLogs.{WindowLog, Happening, Closing}
 use Rattle.lwb_base.proofs.Elements.{contains_head}
-use Rattle.law_trails.specs.Obeying.{channel_of}
 use Rattle.law_trails.specs.Phases.{Over}
 use Rattle.law_trails.specs.TrailLinks.{device_in}
 use Rattle.law_trails.specs.Walks.{NoWindow}

@@ -1,19 +1,17 @@
 -- What is known of the log of one flood: the packets and the times of its transmissions, and what made a node relay.
-use Rattle.std.proofs.Common.{◌≡◌, ℕ, ◌+◌, ◌*◌, ◌≤◌, inl, inr, List, [], ◌∷◌, Contains, length, true, sym, ◌∙◌, ap, subst, arith}
+use Rattle.std.proofs.Common.{◌≡◌, ℕ, ◌+◌, ◌*◌, ◌≤◌, List, Contains, length, true, sym, ◌∙◌, ap, subst, arith}
 use Rattle.std.specs.Prelude.{slice_set, slice_index}
 use Rattle.std.proofs.lemmas.List.{length-set}
 use Rattle.tick_clock.specs.Clocks.{Near}
-use Rattle.glossy_relay.specs.FloodState.{FloodState}
-use Rattle.glossy_relay.specs.Relaying.{counter_of}
 use Rattle.glossy_relay.proofs.CountedPackets.{counter_set, fitting_long, relayed_parts}
 use Rattle.radio_model.specs.declared.sending.Sending.{Sending}
 use Rattle.radio_model.specs.Hearing.{Meets}
-use Rattle.lwb_base.proofs.Elements.{not_in_none, contains_head, contains_tail, contains_cases}
+use Rattle.lwb_base.proofs.Elements.{contains_head, contains_tail, contains_cases}
 use Rattle.scenario_text.specs.FloodParts.{FloodParts, knows}
 use Rattle.air_log.specs.declared.entry.Entry.{Entry}
 use Rattle.air_log.specs.Entries.{sendings_of, IsHeard}
 use Rattle.air_log.specs.FloodLaw.{FloodLaw, IsRelay, Lasts, first_packet, first_flood, sending_at}
-use Rattle.air_log.specs.NodeEvents.{Event, Heard, Occasion, occasions, after}
+use Rattle.air_log.specs.NodeEvents.{Heard, after}
 use Rattle.lwb_flood.specs.FloodBySteps.{IsFloodBySteps}
 use Rattle.lwb_flood.specs.FloodLog.{run_of}
 use Rattle.lwb_flood.proofs.SendingTimes.{occasion_event}

@@ -1,11 +1,10 @@
 -- Entries of which no two have the same start, kind and node stand in one order in the log text.
 use Rattle.std.proofs.Common.{◌≡◌, ℕ, ◌<◌, Bool, true, inl, inr, List, [], ◌∷◌, filter, flat_map, Contains, AllPairs}
-use Rattle.std.proofs.Common.{Ordering, Less, Equal, refl, sym, ◌∙◌, ap, arith, true≢false}
+use Rattle.std.proofs.Common.{Ordering, Equal, refl, sym, ◌∙◌, ap, arith, true≢false}
 use Rattle.std.specs.Prelude.{IsPermutation}
-use Rattle.std.specs.Cmp.{IsTotalOrder, IsStrictWeakOrder, nat_cmp_is, nat_cmp_total, on_total, then_total}
+use Rattle.std.specs.Cmp.{IsStrictWeakOrder}
 use Rattle.std.specs.List.Sorted.{ties}
 use Rattle.std.specs.Ordering.{nat_cmp, ordering_then, is_lt}
-use Rattle.std.proofs.lemmas.Bool.{cases_order}
 use Rattle.std.proofs.lemmas.List.Kept.{AllPairs-filter}
 use Rattle.std.proofs.lemmas.List.Sorted.{ranks_by, Contains-permutation, IsPermutation-sym}
 use Rattle.lwb_base.proofs.Elements.{not_in_none, contains_head, contains_cases, in_filtered, filtered}

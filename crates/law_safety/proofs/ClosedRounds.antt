@@ -6,7 +6,7 @@ use Rattle.std.specs.Prelude.{⊤}
 use Rattle.std.proofs.lemmas.Bool.{cond-true, cond-false, ne_eqb}
 use Rattle.lwb_packets.specs.declared.kind.Kind as Kind
 use Rattle.lwb_base.specs.Messages.{Plan, Schedule}
-use Rattle.glossy_relay.specs.Relaying.{accepted_of, counter_of, is_spelling}
+use Rattle.glossy_relay.specs.Relaying.{accepted_of, counter_of}
 use Rattle.bus_rules.specs.declared.part.Part.{Part}
 use Rattle.bus_rules.specs.declared.part.Part.TheVariants.{Opening, Data as DataSlot, Contention, Closing}
 use Rattle.bus_rules.specs.Plans.{last_slot}
@@ -25,8 +25,6 @@ use Rattle.air_log.specs.declared.entry.Entry.{Entry}
 use Rattle.air_log.specs.Devices.{Device}
 use Rattle.air_log.specs.Trails.{setup_of}
 use Rattle.law_trails.specs.NodeRanges.{IsNode, IsAt, IsOpen, IsCarried}
-use Rattle.law_trails.specs.PacketKinds.{kind_of}
-use Rattle.law_trails.proofs.SaidPackets.{kind_says}
 use Rattle.law_trails.proofs.WindowsInRange.{schedule_said}
 use Rattle.law_safety.specs.RoundZeros.{RefFor}
 use Rattle.law_safety.specs.SetAlarms.{rank_at}

@@ -13,7 +13,7 @@ use Rattle.schedule_codec.specs.Reading.{schedule_of, asks_in}
 use Rattle.radio_model.specs.declared.sending.Sending.{Sending}
 use Rattle.air_log.specs.WindowLogs.{WindowLog}
 use Rattle.law_trails.specs.OnePacket.{reopening_0, request_0, opening_1, opening_3, request_2, grant_1, grant_3, reopening_1, data_0, sent_by_member}
-use Rattle.law_trails.specs.OnePacket.{data_2, closing_0, closing_1, closing_3, reopening_with, closing_with}
+use Rattle.law_trails.specs.OnePacket.{data_2, closing_0, reopening_with, closing_with}
 use Rattle.law_trails.specs.OnePacketNodes.{granted_plan}
 use Rattle.law_trails.specs.OnePacketMember.{member_28, member_34, member_53, member_60}
 use Rattle.law_trails.proofs.OnePacketZeros.{member_due_at, granted, reopened, closed}

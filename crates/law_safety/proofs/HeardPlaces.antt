@@ -1,5 +1,5 @@
 -- Where a node is that hears: its frame is the true one, and its radio is at the channel of what it hears.
-use Rattle.std.proofs.Common.{◌≡◌, ℕ, suc, ◌/◌, ◌<◌, List, Bool, true, false, not, ◌&&◌, ◌||◌, if◌then◌else◌, Some, None, Option, is_some, unwrap_or}
+use Rattle.std.proofs.Common.{◌≡◌, ℕ, suc, ◌/◌, ◌<◌, List, Bool, true, false, ◌&&◌, if◌then◌else◌, Some, None, Option, is_some, unwrap_or}
 use Rattle.std.proofs.Common.{true≢false, eqb-true, inl, inr, refl, sym, ◌∙◌, ap, subst, arith}
 use Rattle.std.specs.Prelude.{slice_index}
 use Rattle.std.proofs.lemmas.Bool.{false≢true}

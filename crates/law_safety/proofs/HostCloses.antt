@@ -13,8 +13,8 @@ use Rattle.schedule_codec.specs.Reading.{schedule_of, asks_in}
 use Rattle.radio_model.specs.declared.sending.Sending.{Sending}
 use Rattle.radio_model.specs.Hearing.{slot_of, counter_of, frame_of}
 use Rattle.air_log.specs.WindowLogs.{WindowLog}
-use Rattle.law_trails.specs.OnePacket.{drifting, opening_0, opening_2, request_1, request_3, grant_0, grant_2, reopening_0, data_0, data_1, data_3, closing_0}
-use Rattle.law_trails.specs.OnePacket.{closing_2, sent_by_host}
+use Rattle.law_trails.specs.OnePacket.{drifting, opening_0, opening_2, request_1, request_3, grant_0, grant_2, reopening_0, data_0, data_1, data_3}
+use Rattle.law_trails.specs.OnePacket.{sent_by_host}
 use Rattle.law_trails.specs.OnePacketNodes.{granted_plan}
 use Rattle.law_trails.specs.OnePacketHost.{host_38, host_46, host_53, host_59}
 use Rattle.law_trails.proofs.DriftingClocks.{fast, fast_due}

@@ -2,7 +2,7 @@
 use Rattle.std.proofs.Common.{◌≡◌, ℕ, suc, ◌+◌, ◌/◌, ◌<◌, ◌≤◌, List, Bool, true, false, not, ◌&&◌, ◌||◌, ◌==◌, nat_lt, Some, None}
 use Rattle.std.proofs.Common.{Option, is_some, IfSome, Contains, lt-ltb, eq-eqb, inl, refl, sym, ap, subst, arith}
 use Rattle.std.specs.Prelude.{⊤, slice_index, max}
-use Rattle.std.proofs.lemmas.Bool.{cond_both, false≢true}
+use Rattle.std.proofs.lemmas.Bool.{false≢true}
 use Rattle.lwb_base.specs.Messages.{Schedule}
 use Rattle.schedule_codec.specs.Reading.{is_schedule}
 use Rattle.lwb_packets.specs.declared.kind.Kind as Kind
@@ -12,13 +12,10 @@ use Rattle.time_reference.specs.Zeros.{closing}
 use Rattle.glossy_relay.specs.FloodState.{FloodState, listening}
 use Rattle.glossy_relay.specs.Relaying.{fits}
 use Rattle.bus_rules.specs.declared.delivery.Delivery.{Delivery}
-use Rattle.bus_rules.specs.declared.part.Part.{Part}
-use Rattle.bus_rules.specs.declared.part.Part.TheVariants.{Opening, Closing}
 use Rattle.bus_rules.specs.declared.tune.Tune.{Tune}
 use Rattle.bus_rules.specs.declared.tune.Tune.TheVariants.{Scan, Hold, Host}
 use Rattle.bus_rules.specs.Tuning.{hosts}
 use Rattle.bus_rules.specs.Slots.{ScheduleOf}
-use Rattle.lwb_member.specs.Places.{kind_for}
 use Rattle.lwb_member.specs.Said.{message_of}
 use Rattle.node_core.specs.declared.stage.Stage.TheVariants.{Scanning, InWindow}
 use Rattle.node_core.specs.Windows.{Window}

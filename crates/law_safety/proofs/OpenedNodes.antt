@@ -18,11 +18,10 @@ use Rattle.node_core.specs.Nodes.{Node, closes_at}
 use Rattle.node_core.specs.Rows.{flood_for}
 use Rattle.scenario_text.specs.ScenarioParts.{ScenarioParts}
 use Rattle.air_log.specs.declared.entry.Entry.{Entry}
-use Rattle.air_log.specs.Devices.{Device, Listening, listens_to}
+use Rattle.air_log.specs.Devices.{Device}
 use Rattle.air_log.specs.Trails.{setup_of}
 use Rattle.law_trails.specs.CoreRanges.{IsSetup}
 use Rattle.law_trails.specs.NodeRanges.{IsNode}
-use Rattle.law_trails.specs.Obeying.{channel_of}
 use Rattle.law_trails.specs.RowEffects.{Leaves, when, said}
 use Rattle.law_trails.proofs.CoresInRange.{host_plan_of}
 use Rattle.law_trails.proofs.CoresInRange.{host_now}

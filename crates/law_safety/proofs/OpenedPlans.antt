@@ -3,15 +3,12 @@ use Rattle.std.proofs.Common.{◌≡◌, ℕ, suc, ◌-◌, ◌<◌, ◌≤◌, 
 use Rattle.std.proofs.Common.{None, IfSome, refl, sym, ◌∙◌, ap, subst, arith, eq-eqb, true≢false}
 use Rattle.std.specs.Prelude.{⊤, slice_index}
 use Rattle.std.proofs.lemmas.Bool.{cond-true}
-use Rattle.lwb_base.specs.Messages.{Plan, Ask, Schedule}
-use Rattle.lwb_base.specs.Profile.{Numbers}
+use Rattle.lwb_base.specs.Messages.{Plan, Schedule}
 use Rattle.bus_rules.specs.declared.part.Part.{Part}
 use Rattle.bus_rules.specs.declared.part.Part.TheVariants.{Opening, Data as DataSlot, Contention, Closing}
 use Rattle.bus_rules.specs.Plans.{opening as opening_of, last_slot}
-use Rattle.bus_rules.specs.Streams.{Streams}
-use Rattle.bus_rules.specs.Tables.{Table}
 use Rattle.bus_rules.specs.Tuning.{hosts}
-use Rattle.bus_rules.specs.HostPlans.{HostPlan, host_plan}
+use Rattle.bus_rules.specs.HostPlans.{HostPlan}
 use Rattle.bus_rules.specs.Cores.{Core, Setup}
 use Rattle.bus_rules.specs.Slots.{Message, Opened, ScheduleOf, hosts_now, part_of, opened, host_closes, silent}
 use Rattle.bus_rules.proofs.Ranks.{planned_rank}

@@ -1,7 +1,6 @@
 -- The row boot: power comes on at the first tick of a frame, and the node scans from the true frame on.
-use Rattle.std.proofs.Common.{◌≡◌, ℕ, ◌+◌, ◌/◌, ◌≤◌, inl, List, true, length, Some, None, Option, Contains, refl, sym, ◌∙◌, ap, subst, arith, true≢false}
-use Rattle.std.specs.Prelude.{max, is_some}
-use Rattle.std.proofs.lemmas.Bool.{eq-eqb}
+use Rattle.std.proofs.Common.{◌≡◌, ℕ, ◌+◌, ◌/◌, ◌≤◌, inl, List, length, Some, None, Option, Contains, refl, sym, ◌∙◌, ap, subst, arith, true≢false}
+use Rattle.std.specs.Prelude.{max}
 use Rattle.lwb_base.specs.declared.event.Event.TheVariants.{Boot}
 use Rattle.tick_clock.specs.Clocks.{IsClock, due}
 use Rattle.time_reference.specs.Budgets.{budget_of}
@@ -14,12 +13,11 @@ use Rattle.scenario_text.specs.declared.script.ScriptLine.{ScriptLine}
 use Rattle.radio_model.specs.declared.sending.Sending.{Sending}
 use Rattle.radio_model.specs.Hearing.{frame_of}
 use Rattle.air_log.specs.declared.entry.Entry.{Entry}
-use Rattle.air_log.specs.Devices.{Device, Power, PowerOff, PowerOn, Listening, Ordered, listens_to, moved}
+use Rattle.air_log.specs.Devices.{Device, Power, PowerOff, PowerOn, Ordered, moved}
 use Rattle.air_log.specs.ScriptedDevices.{switched_on}
 use Rattle.air_log.specs.Lawful.{heard_by}
 use Rattle.air_log.specs.Trails.{setup_of, frame_start}
 use Rattle.law_trails.specs.Lives.{Life, ComesOn, after_step}
-use Rattle.law_trails.specs.Obeying.{channel_of}
 use Rattle.law_trails.specs.Phases.{Lines, IsNextLine}
 use Rattle.law_trails.proofs.LifeSteps.{step_quiet}
 use Rattle.law_trails.proofs.ObeyedOrders.{has_obeyed}

@@ -3,7 +3,6 @@ use Rattle.std.proofs.Common.{◌≡◌, ℕ, suc, ◌+◌, ◌*◌, ◌/◌, Li
 use Rattle.std.proofs.Common.{ap, subst, arith, eq-eqb}
 use Rattle.std.proofs.lemmas.Bool.{cond-true, cond-false, ne_eqb}
 use Rattle.lwb_base.specs.Messages.{Schedule}
-use Rattle.lwb_base.specs.Profile.{Numbers}
 use Rattle.lwb_base.specs.declared.event.Event.TheVariants.{Alarm}
 use Rattle.time_reference.specs.Reference.{stopped}
 use Rattle.bus_rules.specs.Cores.{Core, Setup, opening_accepted, closing_accepted}

@@ -1,5 +1,5 @@
 -- A radio and its channel.
-use Rattle.std.proofs.Common.{◌≡◌, ℕ, true, Some, None, Option, refl, sym, ap, eqb-true, true≢false}
+use Rattle.std.proofs.Common.{◌≡◌, ℕ, true, Some, None, Option, refl, sym}
 use Rattle.std.proofs.lemmas.Bool.{eq-eqb}
 use Rattle.std.proofs.lemmas.Option.{same_Some, none-some}
 use Rattle.air_log.specs.Devices.{Listening, listens_to}

@@ -1,6 +1,6 @@
 -- A host leads its round from the opening to the closing, and is the only node that says a schedule in it.
 use Rattle.std.proofs.Common.{◌≡◌, ◌<◌, ◌≤◌, ◌==◌, ℕ, zero, suc, List, [], ◌∷◌, Bool, true, false, Option, Some, None, if◌then◌else◌, inl, inr, nat_lt, nat_le}
-use Rattle.std.proofs.Common.{add-one, is_some, length, option_and_then, refl, sym, ◌∙◌, ap, subst, arith}
+use Rattle.std.proofs.Common.{add-one, is_some, length, option_and_then, refl, sym, ◌∙◌, ap, arith}
 use Rattle.std.specs.List.{find}
 use Rattle.std.specs.Option.{option_or}
 use Rattle.std.proofs.lemmas.Bool.{false≢true, or_cases, eqb-true, cond_both, cond-true, cond-false, lt-ltb, le-ltb, lt-leb, ne_eqb}

@@ -1,20 +1,12 @@
 -- Script lines at a device and in the bus.
-use Rattle.std.proofs.Common.{◌≡◌, ℕ, ◌+◌, List, [], ◌∷◌, Bool, true, false, ◌==◌, ◌&&◌, None, Option, refl, ap, ◌∙◌, fold}
-use Rattle.std.proofs.lemmas.Bool.{cond_both}
-use Rattle.lwb_base.specs.declared.event.Event.{Event}
+use Rattle.std.proofs.Common.{◌≡◌, ℕ, ◌+◌, List, [], ◌∷◌, Bool, true, false, None, refl, ap, ◌∙◌, fold}
 use Rattle.lwb_base.specs.declared.event.Event.TheVariants.{Boot}
-use Rattle.lwb_base.specs.declared.order.Order.{Order}
-use Rattle.lwb_base.specs.declared.order.Order.TheVariants.{Listen, Off as RadioOff, SendAt, Alarm}
-use Rattle.radio_model.specs.declared.sending.Sending.{Sending}
-use Rattle.radio_model.specs.OnAir.{Tuning}
 use Rattle.scenario_text.specs.declared.script.Act.{Act}
 use Rattle.scenario_text.specs.declared.script.Act.TheVariants.{On, Off, Declare, Leave, Put}
 use Rattle.scenario_text.specs.declared.script.ScriptLine.{ScriptLine}
 use Rattle.bus_rules.specs.Cores.{Setup}
 use Rattle.node_core.specs.Nodes.{Node, rebooted}
-use Rattle.node_core.specs.Rows.{row}
-use Rattle.node_core.specs.Rows.{node_after, orders_by}
-use Rattle.air_log.specs.Devices.{Device, Power, PowerOff, PowerOn, obeyed, tunes, listens_to, silenced, stepped, moved}
+use Rattle.air_log.specs.Devices.{Device, Power, PowerOff, PowerOn}
 use Rattle.air_log.specs.ScriptedDevices as Air
 use Rattle.air_log.specs.Drops as AirDrops
 use Rattle.bus_rules.specs.States.{State, StateOn, refuses}

@@ -1,5 +1,5 @@
 -- The plan that a host makes can be written, and what it leaves is in its ranges.
-use Rattle.std.proofs.Common.{◌≡◌, ℕ, zero, suc, ◌+◌, ◌≤◌, List, [], ◌∷◌, ◌++◌, length, fold, replicate, true, ◌==◌, nat_lt, nat_le, if◌then◌else◌, Some, None}
+use Rattle.std.proofs.Common.{◌≡◌, ℕ, zero, suc, ◌+◌, ◌≤◌, List, [], ◌∷◌, ◌++◌, length, fold, replicate, true, ◌==◌, nat_le, if◌then◌else◌, Some, None}
 use Rattle.std.proofs.Common.{Option, refl, arith}
 use Rattle.std.specs.Prelude.{All}
 use Rattle.std.specs.List.{list_all, sum_by}
@@ -7,7 +7,7 @@ use Rattle.std.specs.Option.{IfSome}
 use Rattle.std.proofs.lemmas.Bool.{cond_both, and_from, and_parts, le-leb}
 use Rattle.std.proofs.lemmas.List.Elements.{All-head, All-tail}
 use Rattle.lwb_base.specs.Profile.{Numbers, IsProfile}
-use Rattle.lwb_base.specs.Messages.{Ask, code, code_of}
+use Rattle.lwb_base.specs.Messages.{Ask, code}
 use Rattle.lwb_packets.specs.Ranges.{between}
 use Rattle.schedule_codec.specs.AckLists.{ask_in_range}
 use Rattle.schedule_codec.specs.OwnerLists.{ascend}
@@ -18,7 +18,6 @@ use Rattle.bus_rules.specs.Tables.{Entry, Table, Above, is_full, interval_of}
 use Rattle.bus_rules.specs.Granting.{Grants, grant, owners_by, granted_by, grants_for, share_in, given, last_code, gap_of, owed_to, plan_round}
 use Rattle.bus_rules.specs.HostPlans.{Answered, Served, with_ack, answer, answered, put_if, serve, served, host_plan}
 use Rattle.bus_rules.proofs.Grants.{with_few}
-use Rattle.stream_table.proofs.Order.{Keeps}
 use Rattle.stream_table.proofs.Changes.{grant_keeps}
 use Rattle.host_scheduler.proofs.Shares.{Rises, owners_rise}
 use Rattle.lwb_member.specs.Members.{IsBoot}

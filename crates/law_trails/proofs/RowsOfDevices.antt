@@ -8,8 +8,8 @@ use Rattle.radio_model.specs.declared.sending.Sending.{Sending}
 use Rattle.bus_rules.specs.Cores.{Setup}
 use Rattle.node_core.specs.Nodes.{Node, frame_alarm, rebooted}
 use Rattle.node_core.specs.Rows.{Stepped, boots, row}
-use Rattle.node_core.specs.Rows.{node_after, orders_by}
-use Rattle.air_log.specs.Devices.{Device, PowerOn, moved, stepped}
+use Rattle.node_core.specs.Rows.{orders_by}
+use Rattle.air_log.specs.Devices.{Device, PowerOn, moved}
 use Rattle.air_log.specs.ScriptedDevices.{switched_on}
 use Rattle.law_trails.specs.Obeying.{channel_of, HasObeyed}
 use Rattle.law_trails.specs.Walks.{after_row}

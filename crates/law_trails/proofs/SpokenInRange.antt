@@ -13,7 +13,7 @@ use Rattle.lwb_packets.specs.declared.kind.Kind.TheVariants as Kinds
 use Rattle.schedule_codec.specs.Packing.{fit}
 use Rattle.schedule_codec.specs.Spelling.{spelling, in_range}
 use Rattle.schedule_codec.specs.Reading.{schedule_of, is_schedule}
-use Rattle.schedule_codec.proofs.Readings.{Parts, parts_of, range_from, spelled_by, bytes_same, length-spelling, schedule_spelled}
+use Rattle.schedule_codec.proofs.Readings.{range_from, spelled_by, bytes_same, length-spelling, schedule_spelled}
 use Rattle.glossy_relay.specs.FloodState.{FloodState}
 use Rattle.glossy_relay.specs.Relaying.{is_packet, is_spelling, slot_of, counter_of, fits, reply_to}
 use Rattle.glossy_relay.specs.declared.flood.Reply.TheVariants.{Relay}

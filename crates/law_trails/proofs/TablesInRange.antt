@@ -1,5 +1,5 @@
 -- Whatever a host does to its table, it stays in its ranges.
-use Rattle.std.proofs.Common.{◌≡◌, ◌≢◌, ◌⊎◌, inl, inr, ℕ, ◌+◌, ◌≤◌, List, [], ◌∷◌, length, filter, filter_map, map, Bool, true, false, not, ◌&&◌, ◌==◌, nat_lt}
+use Rattle.std.proofs.Common.{◌≡◌, ◌≢◌, ◌⊎◌, inl, inr, ℕ, ◌+◌, ◌≤◌, List, [], ◌∷◌, length, filter_map, map, Bool, true, false, not, ◌&&◌, ◌==◌, nat_lt}
 use Rattle.std.proofs.Common.{is_none, cond, if◌then◌else◌, Some, None, Option, refl, sym, subst, arith}
 use Rattle.std.specs.Prelude.{All}
 use Rattle.std.specs.List.{cons_option}
@@ -9,12 +9,12 @@ use Rattle.std.proofs.lemmas.List.{length-map}
 use Rattle.std.proofs.lemmas.List.Elements.{All-nil, All-cons, All-head, All-tail, All-map, All-weaker, All-filter}
 use Rattle.lwb_packets.specs.Ranges.{between}
 use Rattle.lwb_base.specs.Messages.{Ask, code_of}
-use Rattle.lwb_base.proofs.Lists.{length_cond, length_filtered, length_option, length_sifted}
+use Rattle.lwb_base.proofs.Lists.{length_cond, length_filtered, length_sifted}
 use Rattle.schedule_codec.specs.AckLists.{ask_in_range}
 use Rattle.bus_rules.specs.Tables.{Entry, Table, AreEntries, Above, Ascends, no_table, has_code, entry_of, without, with_entry, is_full, new_entry}
 use Rattle.bus_rules.specs.Tables.{after_request, interval_in, interval_of, seen, missed}
 use Rattle.bus_rules.specs.Slots.{owner_heard}
-use Rattle.stream_table.proofs.Order.{Keeps, Sifts, none_above, ascends_map, ascends_filter_map, ascends_filter, ascends_with}
+use Rattle.stream_table.proofs.Order.{Keeps, none_above, ascends_map, ascends_filter_map, ascends_filter, ascends_with}
 use Rattle.stream_table.proofs.Changes.{seen_keeps, missed_sifts}
 use Rattle.law_trails.specs.TableRanges.{IsEntry, IsTable}
 

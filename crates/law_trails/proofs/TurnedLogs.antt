@@ -13,7 +13,7 @@ use Rattle.radio_model.specs.OnAir.{Hearing, Tuning}
 use Rattle.radio_model.specs.Hearing.{Scene, Hears, Meets, IsTuned, TunedThrough, Arrives, Before, frame_of, slot_of, counter_of}
 use Rattle.scenario_text.specs.ScenarioParts.{ScenarioParts}
 use Rattle.air_log.specs.Trails.{run_end}
-use Rattle.lwb_base.proofs.Elements.{not_in_none, contains_cases, contains_head, contains_tail, all_passes, some_of}
+use Rattle.lwb_base.proofs.Elements.{not_in_none, contains_cases, all_passes, some_of}
 
 -- the same sending
 abbrev is_same : Sending → Sending → Bool

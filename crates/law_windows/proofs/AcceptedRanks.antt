@@ -4,10 +4,9 @@ use Rattle.std.specs.Option.{option_and_then}
 use Rattle.std.proofs.lemmas.Bool.{cond_both}
 use Rattle.glossy_relay.specs.Relaying.{accepted_of}
 use Rattle.bus_rules.specs.declared.part.Part.{Part}
-use Rattle.bus_rules.specs.declared.part.Part.TheVariants.{Opening, Data as DataSlot, Contention, Closing}
 use Rattle.bus_rules.specs.Tuning.{rank_of}
 use Rattle.bus_rules.specs.Cores.{Core, Setup, opening_accepted, closing_accepted}
-use Rattle.bus_rules.specs.Slots.{Message, ScheduleOf, DataOf, RequestOf, closed, slot_heard}
+use Rattle.bus_rules.specs.Slots.{Message, ScheduleOf, DataOf, RequestOf, closed}
 use Rattle.bus_rules.proofs.Ranks.{heard_rank}
 use Rattle.lwb_member.specs.Said.{message_of}
 use Rattle.node_core.specs.Windows.{Window}

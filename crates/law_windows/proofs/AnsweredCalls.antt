@@ -1,6 +1,5 @@
 -- What one step makes of the calls of a node's windows, over plain lists.
 use Rattle.std.proofs.Common.{◌≡◌, ℕ, ◌+◌, ◌⊎◌, inl, inr, List, [], ◌∷◌, ◌++◌, true, Some, None, Option, is_some, Contains, fold, refl, sym, ◌∙◌, ap, subst}
-use Rattle.std.proofs.Common.{true≢false}
 use Rattle.std.specs.Option.{IfSome}
 use Rattle.std.proofs.lemmas.List.{append-nil}
 use Rattle.std.proofs.lemmas.List.Elements.{Contains-append_left, Contains-append_right, Contains-push_cases}

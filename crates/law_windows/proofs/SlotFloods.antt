@@ -1,5 +1,5 @@
 -- The flood of each window is of the kind of the part that the window goes by.
-use Rattle.std.proofs.Common.{◌≡◌, ℕ, List, refl, sym, ◌∙◌, ap, subst, nat_lt, ◌==◌}
+use Rattle.std.proofs.Common.{◌≡◌, ℕ, List, refl, sym, ◌∙◌, ap, subst, nat_lt}
 use Rattle.std.proofs.lemmas.Bool.{cond_both}
 use Rattle.std.specs.Prelude.{slice_index}
 use Rattle.lwb_base.specs.Messages.{Schedule}
@@ -7,15 +7,13 @@ use Rattle.lwb_packets.specs.declared.kind.Kind as Kind
 use Rattle.glossy_relay.specs.FloodState.{FloodState, listening}
 use Rattle.glossy_relay.specs.Relaying.{after_heard, counter_of, first_of, fits}
 use Rattle.bus_rules.specs.Cores.{Setup}
-use Rattle.bus_rules.specs.declared.part.Part.{Part}
-use Rattle.bus_rules.specs.declared.part.Part.TheVariants.{Opening, Closing}
 use Rattle.bus_rules.specs.Tuning.{rank_of}
 use Rattle.lwb_member.specs.Said.{message_of}
 use Rattle.lwb_member.specs.Places.{kind_for}
 use Rattle.node_core.specs.declared.stage.Stage.TheVariants.{AwaitSlot}
 use Rattle.node_core.specs.Windows.{Window}
 use Rattle.node_core.specs.Nodes.{Node}
-use Rattle.node_core.specs.Rows.{flood_by, is_foreign, part_by}
+use Rattle.node_core.specs.Rows.{flood_by, is_foreign}
 use Rattle.node_core.proofs.WindowKinds.{schedule_kind}
 use Rattle.scenario_text.specs.ScenarioParts.{ScenarioParts}
 use Rattle.air_log.specs.declared.entry.Entry.{Entry}

@@ -1,6 +1,6 @@
 -- How long the radio of a node is on in each of its windows.
 use Rattle.std.proofs.Common.{◌≡◌, ℕ, suc, ◌+◌, ◌<◌, ◌≤◌, inl, inr, List, [], ◌∷◌, ◌++◌, Bool, true, false, nat_lt, nat_le, if◌then◌else◌, Some, None, Option}
-use Rattle.std.proofs.Common.{Contains, fold, refl, sym, ◌∙◌, ap, subst, arith, true≢false, lt-ltb, ltb-true, eqb-true, IfSome}
+use Rattle.std.proofs.Common.{Contains, fold, refl, sym, ◌∙◌, ap, subst, arith, lt-ltb, ltb-true, IfSome}
 use Rattle.std.specs.Prelude.{slice_index}
 use Rattle.std.proofs.lemmas.Bool.{leb-true, le-leb}
 use Rattle.glossy_relay.specs.FloodState.{FloodState}

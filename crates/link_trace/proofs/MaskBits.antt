@@ -1,6 +1,6 @@
 -- Masks of nodes bit by bit: one more node, one node alone, both masks together, and one without the other.
 use Rattle.std.proofs.Common.{◌≡◌, ◌≢◌, ℕ, ◌+◌, ◌-◌, ◌*◌, ◌%◌, ◌^◌, ◌<◌, ◌≤◌, min, max, List, Bool, true, false, not, ◌||◌, ◌&&◌, ◌==◌, nat_lt}
-use Rattle.std.proofs.Common.{length, get_or, take, if◌then◌else◌, bit_and, bit_or, w64, Ok, Err, refl, sym, ◌∙◌, ap, arith, inl, inr}
+use Rattle.std.proofs.Common.{length, get_or, take, bit_and, bit_or, w64, Ok, Err, refl, sym, ◌∙◌, ap, arith, inl, inr}
 use Rattle.std.proofs.lemmas.Bool.{cases_lt, cases_eq, lt-ltb, le-ltb, eq-eqb, ne_eqb}
 use Rattle.std.proofs.lemmas.List.Folds.{list_any_more}
 use Rattle.std.specs.List.{list_any, AllPairs}

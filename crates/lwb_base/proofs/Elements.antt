@@ -1,5 +1,5 @@
 -- Elements of lists, and what a map, a filter, a choice and a reversal do to them.
-use Rattle.std.proofs.Common.{◌≡◌, ◌≢◌, ℕ, zero, suc, ◌+◌, ◌<◌, ◌==◌, Bool, true, Option, Some, None, filter, filter_map, option_to_list, reverse, take, length}
+use Rattle.std.proofs.Common.{◌≡◌, ◌≢◌, ℕ, zero, suc, ◌+◌, ◌<◌, Bool, true, Option, Some, None, filter, filter_map, option_to_list, reverse, take, length}
 use Rattle.std.proofs.Common.{get_or, ◌∙◌, sym, ap, List, [], ◌∷◌, ◌++◌, inl, inr, refl, subst, arith, map, drop}
 use Rattle.std.specs.Prelude.{Contains, ◌⊎◌, AllPairs, slice_get}
 use Rattle.std.specs.List.{cons_option, flat_map, list_all, list_any}

@@ -1,5 +1,5 @@
 -- What an option is by the tests of it.
-use Rattle.std.proofs.Common.{◌≡◌, ◌∙◌, Bool, true, Option, Some, None, is_some, is_none, refl, sym}
+use Rattle.std.proofs.Common.{◌≡◌, ◌∙◌, true, Option, Some, None, is_some, is_none, refl, sym}
 use Rattle.std.proofs.lemmas.Bool.{false≢true}
 use Rattle.std.proofs.lemmas.Option.{none-some}
 

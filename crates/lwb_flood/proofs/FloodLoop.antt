@@ -7,13 +7,12 @@ use Rattle.std.proofs.lemmas.List.Elements.{filter_map-append}
 use Rattle.std.proofs.lemmas.List.{length-append, append-nil, get_or_default}
 use Rattle.lwb_base.specs.Profile.{one}
 use Rattle.glossy_relay.specs.FloodState.{FloodState}
-use Rattle.glossy_relay.specs.Relaying.{fits, after_heard, counter_of, first_of}
 use Rattle.scenario_text.specs.FloodParts.{FloodParts}
 use Rattle.bus_terms.specs.FloodOfText.{ids}
 use Rattle.radio_model.specs.declared.sending.Sending.{Sending}
 use Rattle.radio_model.specs.Stations.{nodes_of}
 use Rattle.air_log.specs.FloodLaw.{CLOSING, first_flood, sending_at}
-use Rattle.air_log.specs.NodeEvents.{Event, Heard, Ended, after, after_all, own_end, own_ends}
+use Rattle.air_log.specs.NodeEvents.{Event, Ended, own_end, own_ends}
 use Rattle.lwb_base.proofs.Elements.{Distinct}
 use Rattle.lwb_flood.specs.declared.member.Act.{Act}
 use Rattle.lwb_flood.specs.declared.member.Act.TheVariants.{Listens, Waits, Sends, Off}

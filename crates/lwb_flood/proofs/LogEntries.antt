@@ -13,7 +13,7 @@ use Rattle.bus_terms.specs.FloodOfText.{ids}
 use Rattle.air_log.specs.declared.entry.Entry.{Entry}
 use Rattle.air_log.specs.declared.entry.Entry.TheVariants.{Sent, Heard as HeardOf, Tuned}
 use Rattle.radio_model.specs.declared.sending.Sending.{Sending}
-use Rattle.air_log.specs.Entries.{sendings_of, hearings_of, sending_in, node_of}
+use Rattle.air_log.specs.Entries.{sendings_of, hearings_of, sending_in}
 use Rattle.air_log.specs.NodeEvents.{Heard}
 use Rattle.air_log.specs.FloodLaw.{FloodLaw, first_flood}
 use Rattle.air_log.proofs.LoggedEntries.{sending_node}

@@ -1,6 +1,6 @@
 -- Acknowledgements as a list in the order of its codes, and one that is put in its place.
-use Rattle.std.proofs.Common.{◌≡◌, ◌∙◌, ◌+◌, ◌<◌, ◌≤◌, List, [], ◌∷◌, Bool, true, ◌==◌, nat_lt, if◌then◌else◌, length, refl, ap, arith}
-use Rattle.std.proofs.lemmas.Bool.{and_parts, cond_both, ltb-true}
+use Rattle.std.proofs.Common.{◌≡◌, ◌∙◌, ◌<◌, List, [], ◌∷◌, Bool, true, ◌==◌, nat_lt, if◌then◌else◌, length, refl, ap, arith}
+use Rattle.std.proofs.lemmas.Bool.{and_parts, ltb-true}
 use Rattle.stream_table.specs.CodeOrder.{Above, Ascends, placed, finds_room}
 use Rattle.stream_table.proofs.CodeOrder.{above_more, room_found}
 use Rattle.lwb_base.specs.Messages.{Ask, code_of}

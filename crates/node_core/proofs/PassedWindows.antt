@@ -1,6 +1,5 @@
 -- The closing of a window in which nothing was accepted.
 use Rattle.std.proofs.Common.{◌≡◌, ℕ, List, Option, Some, None, false, is_some, option_map, option_and_then, refl, ◌∙◌, ap}
-use Rattle.lwb_base.specs.Profile.{Numbers}
 use Rattle.glossy_relay.specs.Relaying.{accepted_of}
 use Rattle.bus_rules.specs.Cores.{Setup}
 use Rattle.bus_rules.specs.Tuning.{rank_of}

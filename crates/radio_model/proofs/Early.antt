@@ -1,6 +1,6 @@
 -- What comes early by its mark brings the packet of x out of time, and nothing else.
-use Rattle.std.proofs.Common.{◌≡◌, ℕ, ◌+◌, ◌-◌, ◌<◌, ◌≤◌, List, length, get_or, Bool, true, false, not, ◌&&◌, ◌||◌, ◌==◌}
-use Rattle.std.proofs.Common.{nat_lt, nat_le, Some, None, refl, sym, ◌∙◌, ap, arith, inl, inr, ◌⊎◌, Contains}
+use Rattle.std.proofs.Common.{◌≡◌, ℕ, ◌+◌, ◌-◌, ◌<◌, ◌≤◌, List, length, get_or, true, false, not, ◌&&◌, ◌||◌, ◌==◌}
+use Rattle.std.proofs.Common.{nat_lt, nat_le, Some, None, sym, ◌∙◌, ap, arith, inl, inr, ◌⊎◌, Contains}
 use Rattle.std.proofs.lemmas.Bool.{cases_lt, and_parts, and_from, or_cases, or_left, or_right, eqb-true, eq-eqb, ltb-true, leb-true, le-leb, both_ways}
 use Rattle.std.proofs.lemmas.Bool.{cond-true, false_from_ne_true, not-true}
 use Rattle.std.specs.List.{list_any}

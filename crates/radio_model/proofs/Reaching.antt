@@ -1,6 +1,6 @@
 -- What a mask of nodes tells of one of them.
-use Rattle.std.proofs.Common.{◌≡◌, ℕ, List, Bool, true, false}
-use Rattle.std.proofs.Common.{◌&&◌, ◌==◌, get_or, length, if◌then◌else◌, refl, ◌∙◌, ap}
+use Rattle.std.proofs.Common.{◌≡◌, ℕ, List, Bool}
+use Rattle.std.proofs.Common.{◌&&◌, ◌==◌, get_or, length, if◌then◌else◌, ◌∙◌, ap}
 use Rattle.std.proofs.lemmas.Bool.{lt-ltb}
 use Rattle.std.specs.Int.{bit_at}
 use Rattle.lwb_base.proofs.Truths.{of_bit}

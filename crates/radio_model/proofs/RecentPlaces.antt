@@ -1,7 +1,7 @@
 -- Whose sendings can matter, through the changes of a medium.
 use Rattle.std.proofs.Common.{◌≡◌, ◌≢◌, ℕ, ◌+◌, ◌<◌, ◌≤◌, inl, inr, List, length, set, get_or, true, false, ◌&&◌, nat_lt}
 use Rattle.std.proofs.Common.{nat_le, Option, Some, None, is_some, refl, sym, ◌∙◌, ap, subst, arith}
-use Rattle.std.proofs.lemmas.Bool.{cases_lt, cases_eq, le-leb, lt-ltb, le-ltb, or_left, cond-true, cond-false, cond_both}
+use Rattle.std.proofs.lemmas.Bool.{cases_lt, cases_eq, le-leb, lt-ltb, le-ltb, or_left, cond-true, cond-false}
 use Rattle.std.proofs.lemmas.List.{length-map, length-set, get_or-set_same, get_or-set_other}
 use Rattle.std.proofs.lemmas.List.Elements.{Contains-append_right, All-contains}
 use Rattle.std.proofs.lemmas.Nat.Bits.{bit_at-zero}
@@ -9,7 +9,7 @@ use Rattle.std.proofs.Math.Nat.{le-max_left, le-max_right}
 use Rattle.std.specs.Int.{bit_at}
 use Rattle.lwb_base.specs.Profile.{Numbers, airtime}
 use Rattle.radio_model.specs.Stations.{on_air, begins_on, node_of, started, first_sending, next_sending}
-use Rattle.radio_model.specs.Stations.{stations_from, retuned, tuned_in, tuned_out, is_tuned_to}
+use Rattle.radio_model.specs.Stations.{stations_from}
 use Rattle.radio_model.specs.Marks.{AreMarks, no_mark, next_mark, next_marks}
 use Rattle.radio_model.specs.Recent.{AreRecent, AreAmong, IsNext, no_recent}
 use Rattle.radio_model.specs.declared.mark.Mark.{Mark}

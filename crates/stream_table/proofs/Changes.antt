@@ -1,12 +1,12 @@
 -- The entries after one of them changed, or went, or came.
-use Rattle.std.proofs.Common.{◌≡◌, ◌≢◌, ℕ, ◌+◌, ◌<◌, ◌≤◌, List, [], ◌∷◌, Bool, true, false, nat_lt, not, cond, is_some, length, get_or}
-use Rattle.std.proofs.Common.{set, map, filter, filter_map, Option, Some, None, refl, sym, ◌∙◌, ap, subst, arith, eq-eqb}
-use Rattle.std.specs.List.{remove, cons_option}
+use Rattle.std.proofs.Common.{◌≡◌, ◌≢◌, ℕ, ◌+◌, ◌<◌, List, Bool, true, false, nat_lt, not, cond, is_some, get_or}
+use Rattle.std.proofs.Common.{set, map, filter_map, Option, Some, None, refl, sym, ◌∙◌, ap, subst, arith, eq-eqb}
+use Rattle.std.specs.List.{remove}
 use Rattle.std.specs.Option.{IfSome, option_map_or}
 use Rattle.std.proofs.lemmas.Bool.{ne_eqb, lt-ltb, le-ltb, ltb-true, ltb-false}
 use Rattle.std.proofs.lemmas.List.{length-map}
 use Rattle.std.proofs.lemmas.Option.{get_or_from_slice_get}
-use Rattle.lwb_base.proofs.Lists.{length_cond, length_filtered, length_option, length_sifted}
+use Rattle.lwb_base.proofs.Lists.{length_filtered, length_sifted}
 use Rattle.bus_rules.specs.Granting.{grant}
 use Rattle.bus_rules.specs.Tables.{Entry, code_in, has_code, AreEntries, entry_of, without, seen, missed}
 use Rattle.stream_table.specs.CodeOrder.{IsAt, IsGap}

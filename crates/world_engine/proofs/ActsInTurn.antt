@@ -1,19 +1,15 @@
 -- Steps at one device, one after another.
-use Rattle.std.proofs.Common.{◌≡◌, ℕ, List, [], ◌∷◌, ◌++◌, map, refl, sym, ◌∙◌, ap, subst, inl, inr}
-use Rattle.std.specs.Prelude.{Contains}
+use Rattle.std.proofs.Common.{◌≡◌, ℕ, List, [], ◌∷◌, ◌++◌, map, refl, sym, ◌∙◌, ap, subst, inl}
 use Rattle.std.proofs.lemmas.List.{append_assoc, append-nil}
 use Rattle.event_calendar.specs.Orders.{Due}
 use Rattle.bus_rules.specs.Cores.{Setup}
 use Rattle.bus_rules.specs.declared.delivery.DropLine.{DropLine}
 use Rattle.radio_model.specs.declared.sending.Sending.{Sending}
-use Rattle.radio_model.specs.Holding.{as_it_stands}
-use Rattle.radio_model.specs.Stations.{MediumState, IsTime}
-use Rattle.radio_model.proofs.Agreement.{agree_same, agree_on}
+use Rattle.radio_model.specs.Stations.{IsTime}
 use Rattle.air_log.specs.Devices.{Device}
-use Rattle.air_log.specs.Entries.{node_of}
 use Rattle.air_log.specs.DeviceStates.{DeviceState}
 use Rattle.world_engine.specs.Fields.{FieldState, Shows, setup_of, id_of, setups_of, ids_of}
-use Rattle.world_engine.specs.FieldSteps.{GoesOn, AreSame, Acts}
+use Rattle.world_engine.specs.FieldSteps.{Acts}
 use Rattle.world_engine.proofs.GoesOn.{goes_on_nothing, goes_on_then, same_then, id_in}
 
 -- devices of the same setups have the same ids

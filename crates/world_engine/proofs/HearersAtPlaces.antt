@@ -1,12 +1,12 @@
 -- The places of those who hear.
 use Rattle.std.proofs.Common.{◌≡◌, ℕ, zero, suc, ◌<◌, List, [], ◌∷◌, ◌++◌, map, take, length, get_or, Some, refl, sym, ◌∙◌, ap, subst, arith, Contains, inl}
 use Rattle.std.proofs.Common.{inr}
-use Rattle.std.specs.Prelude.{AllPairs, slice_get, ◌⊎◌}
+use Rattle.std.specs.Prelude.{AllPairs, slice_get}
 use Rattle.std.proofs.lemmas.Bool.{cases_eq, cases_lt}
 use Rattle.std.proofs.lemmas.List.{map-append, length-map, get_or-map, get_or-take, length-take-le}
 use Rattle.std.proofs.lemmas.List.Elements.{All-nil, All-push, All-contains}
 use Rattle.std.proofs.lemmas.Option.{slice_get_within, get_or_from_slice_get}
-use Rattle.lwb_base.proofs.Elements.{not_in_none, contains_head, contains_tail, contains_cases, map_contains, map_from}
+use Rattle.lwb_base.proofs.Elements.{map_contains, map_from}
 use Rattle.world_engine.specs.FieldHearings.{ArePlaces}
 
 abbrev pub id_at : List ℕ → ℕ → ℕ

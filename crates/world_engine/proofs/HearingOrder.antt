@@ -1,12 +1,11 @@
 -- The order of hearings, by the ends and the senders of what is heard, and the order of ids.
-use Rattle.std.proofs.Common.{◌≡◌, ℕ, ◌<◌, ◌⊎◌, inl, inr, List, [], ◌∷◌, ◌++◌, true, false, nat_lt, ◌==◌, slice_get, Some, arith, Contains, AllPairs, lt-ltb}
+use Rattle.std.proofs.Common.{◌≡◌, ℕ, ◌<◌, ◌⊎◌, inl, inr, List, true, false, nat_lt, ◌==◌, slice_get, Some, arith, AllPairs, lt-ltb}
 use Rattle.std.proofs.Common.{ltb-true, eqb-true, eq-eqb}
 use Rattle.std.proofs.lemmas.Bool.{cases_order, or_left, or_right, or_cases, and_parts, and_from, false_from_ne_true}
-use Rattle.std.proofs.lemmas.List.Elements.{Contains-append_cases}
 use Rattle.std.proofs.lemmas.Option.{slice_get_within, get_or_from_slice_get}
 use Rattle.radio_model.specs.declared.sending.Sending.{Sending}
 use Rattle.radio_model.specs.OnAir.{Hearing}
-use Rattle.lwb_base.proofs.Elements.{contains_head, contains_tail, pairs_cons, pairs_tail, pairs_head}
+use Rattle.lwb_base.proofs.Elements.{contains_head, contains_tail}
 use Rattle.air_log.specs.Lawful.{comes_before}
 
 -- by end, and then by sender

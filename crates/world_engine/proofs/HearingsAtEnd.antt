@@ -1,5 +1,5 @@
 -- At the end of a run its log follows the rule of hearing.
-use Rattle.std.proofs.Common.{◌≡◌, ◌≢◌, ℕ, ◌<◌, ◌↔◌, inl, inr, List, ◌==◌, reverse, Some, None, refl, sym, ◌∙◌, ap, subst, arith, Contains, AllPairs, eq-eqb}
+use Rattle.std.proofs.Common.{◌≡◌, ◌≢◌, ℕ, ◌<◌, ◌↔◌, inl, inr, List, ◌==◌, reverse, None, refl, sym, ◌∙◌, subst, arith, Contains, AllPairs, eq-eqb}
 use Rattle.std.proofs.Common.{eqb-true}
 use Rattle.std.proofs.lemmas.Option.{same_Some}
 use Rattle.radio_model.specs.declared.sending.Sending.{Sending}
@@ -12,8 +12,6 @@ use Rattle.radio_model.proofs.Settled.{settled}
 use Rattle.scenario_text.specs.ScenarioParts.{ScenarioParts}
 use Rattle.event_calendar.specs.Orders.{Due}
 use Rattle.bus_rules.specs.Cores.{Setup}
-use Rattle.air_log.specs.declared.entry.Entry.{Entry}
-use Rattle.air_log.specs.declared.entry.Entry.TheVariants.{Sent, Heard, Tuned}
 use Rattle.air_log.specs.Entries.{sendings_of, tunings_of, tuning_in, node_of}
 use Rattle.air_log.specs.Devices.{Device, silenced}
 use Rattle.air_log.specs.HearsAir.{HearsAir, scene_of}

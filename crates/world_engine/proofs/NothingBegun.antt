@@ -8,8 +8,7 @@ use Rattle.lwb_base.proofs.Lists.{set_elsewhere, map_stays}
 use Rattle.radio_model.specs.declared.sending.Sending.{Sending}
 use Rattle.radio_model.specs.Stations.{IsTime, station_of}
 use Rattle.radio_model.proofs.Agreement.{agree_same}
-use Rattle.event_calendar.specs.Orders.{Due, at, changed, due_at, with_tick, nothing_due}
-use Rattle.event_calendar.specs.declared.class.Class.{Class}
+use Rattle.event_calendar.specs.Orders.{Due, at, changed, nothing_due}
 use Rattle.event_calendar.specs.declared.class.Class.TheVariants.{SendingStart}
 use Rattle.bus_rules.specs.Cores.{Setup}
 use Rattle.air_log.specs.Devices.{Device, Ordered, Made, nothing_made}

@@ -1,7 +1,7 @@
 -- What an order does to a field: the device at the place obeys it, and nothing else happens.
 use Rattle.std.proofs.Common.{◌≡◌, ◌≢◌, ℕ, List, [], ◌++◌, set, length, Option, Some, None, IfSome, option_map, option_to_list, refl, sym, ◌∙◌, ap, subst}
 use Rattle.std.specs.List.{slice_get}
-use Rattle.std.proofs.lemmas.List.{append-nil, length-set}
+use Rattle.std.proofs.lemmas.List.{append-nil}
 use Rattle.std.proofs.lemmas.Option.{slice_get_within, get_or_from_slice_get}
 use Rattle.lwb_base.proofs.Lists.{set_elsewhere}
 use Rattle.event_calendar.specs.Orders.{Due, due_at, with_tick, changed}

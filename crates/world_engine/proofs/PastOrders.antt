@@ -2,7 +2,7 @@
 use Rattle.std.proofs.Common.{◌==◌, ◌≡◌, ◌≢◌, ℕ, ◌<◌, ◌≤◌, List, Option, Some, None, false, inl, inr, ◌⊎◌, refl, sym, ap, subst, ◌∙◌, arith}
 use Rattle.std.specs.Prelude.{Contains, slice_get}
 use Rattle.std.specs.Option.{option_map}
-use Rattle.std.proofs.lemmas.Bool.{cases_lt, cases_eq, cond_both, eqb-false, eq-eqb, true≢false}
+use Rattle.std.proofs.lemmas.Bool.{cases_lt, cases_eq, cond_both, eqb-false}
 use Rattle.lwb_base.proofs.Elements.{among_or_not}
 use Rattle.link_trace.specs.Passes.{Lines}
 use Rattle.scenario_text.specs.ScenarioParts.{ScenarioParts}
@@ -18,7 +18,7 @@ use Rattle.bus_rules.specs.Cores.{Setup}
 use Rattle.bus_rules.specs.declared.delivery.DropLine.{DropLine}
 use Rattle.air_log.specs.Devices.{Device, Listening, Ordered}
 use Rattle.air_log.specs.AlarmRuns.{IsAlarmRun}
-use Rattle.air_log.specs.Trails.{setup_of, run_end, alarmed, begun, begun_by, starts, is_due}
+use Rattle.air_log.specs.Trails.{setup_of, run_end, alarmed, begun, begun_by, starts}
 use Rattle.world_engine.specs.Fields.{FieldState, Shows, end_of}
 use Rattle.world_engine.specs.FieldSteps.{Acts, EndsSending, told_of_end, told_of_hearing}
 use Rattle.world_engine.specs.Frames.{order_key, IsPast}

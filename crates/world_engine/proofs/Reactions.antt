@@ -15,7 +15,7 @@ use Rattle.radio_model.specs.Stations.{IsTime}
 use Rattle.node_core.specs.Rows.{Stepped}
 use Rattle.node_core.specs.Rows.{orders_by}
 use Rattle.air_log.specs.Devices.{Device, Power, PowerOff, PowerOn, Made, obeyed, event}
-use Rattle.air_log.specs.DeviceStates.{DeviceState, whole, HappenedBy, row_at, row_of, after_row, made_by}
+use Rattle.air_log.specs.DeviceStates.{DeviceState, whole, row_at, row_of, after_row, made_by}
 use Rattle.air_log.specs.WindowLogs.{is_alarm}
 use Rattle.air_log.specs.WindowSums.{WindowSum, IsCounted, in_window, sent_with, noted}
 use Rattle.air_log.proofs.CountedEvents.{counted_then}

@@ -6,8 +6,7 @@ use Rattle.scenario_text.specs.declared.lines.NodeLine.{NodeLine}
 use Rattle.link_trace.specs.Sealed.{Traced}
 use Rattle.radio_model.specs.Stations.{nodes_of}
 use Rattle.event_calendar.specs.declared.class.Class.{Class}
-use Rattle.event_calendar.specs.declared.class.Class.TheVariants.{SendingEnd, Alarm, SendingStart}
-use Rattle.event_calendar.specs.Orders.{Due, at, tick_of, nothing_due}
+use Rattle.event_calendar.specs.Orders.{Due, at}
 use Rattle.bus_rules.specs.Cores.{Setup}
 use Rattle.air_log.specs.DeviceStates.{DeviceState}
 use Rattle.world_engine.specs.Fields.{FieldState, setup_of, id_of}

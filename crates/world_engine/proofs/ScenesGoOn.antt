@@ -14,9 +14,7 @@ use Rattle.lwb_base.proofs.Elements.{contains_head, contains_tail, map_contains,
 use Rattle.scenario_text.specs.ScenarioParts.{ScenarioParts}
 use Rattle.event_calendar.specs.Orders.{Due}
 use Rattle.bus_rules.specs.Cores.{Setup}
-use Rattle.air_log.specs.declared.entry.Entry.{Entry}
-use Rattle.air_log.specs.declared.entry.Entry.TheVariants.{Sent, Heard, Tuned}
-use Rattle.air_log.specs.Entries.{sending_in, sendings_of, node_of}
+use Rattle.air_log.specs.Entries.{sendings_of, node_of}
 use Rattle.air_log.specs.Devices.{Device}
 use Rattle.air_log.specs.DeviceStates.{DeviceState}
 use Rattle.world_engine.specs.Fields.{FieldState, Shows, setups_of, ids_of, setup_of as setup_in, id_of}

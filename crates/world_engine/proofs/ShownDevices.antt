@@ -1,12 +1,11 @@
 -- What is known of a device by its place in a field.
-use Rattle.std.proofs.Common.{◌≡◌, ℕ, ◌<◌, ◌≤◌, List, [], ◌∷◌, Some, None, Option, option_map, refl, sym, ◌∙◌, ap, arith}
+use Rattle.std.proofs.Common.{◌≡◌, ℕ, ◌<◌, ◌≤◌, List, Some, None, Option, option_map, refl, sym, ◌∙◌, ap, arith}
 use Rattle.std.specs.Prelude.{slice_get}
 use Rattle.std.specs.Option.{IfSome}
 use Rattle.std.proofs.lemmas.Option.{slice_get-map, get_or_from_slice_get, same_Some}
 use Rattle.event_calendar.specs.declared.class.Class.{Class}
 use Rattle.event_calendar.specs.declared.class.Class.TheVariants.{SendingEnd, Alarm, SendingStart}
 use Rattle.event_calendar.specs.Orders.{Due, Order, nothing_due, tick_of, rank, at, IsNext}
-use Rattle.radio_model.specs.OnAir.{Tuning}
 use Rattle.radio_model.specs.declared.sending.Sending.{Sending}
 use Rattle.scenario_text.specs.ScenarioParts.{ScenarioParts}
 use Rattle.scenario_text.specs.declared.lines.NodeLine.{NodeLine}
@@ -15,7 +14,7 @@ use Rattle.air_log.specs.declared.entry.TunedEntry.{TunedEntry}
 use Rattle.air_log.specs.Devices.{Device, Listening, Ordered}
 use Rattle.air_log.specs.Trails.{setup_of}
 use Rattle.air_log.specs.Ahead.{IsAhead}
-use Rattle.air_log.specs.DeviceStates.{DeviceState, EndedBefore}
+use Rattle.air_log.specs.DeviceStates.{DeviceState}
 use Rattle.air_log.proofs.ShownCourses.{ended_later}
 use Rattle.world_engine.specs.Fields.{FieldState, Shows, due_of, setup_of as setup_in}
 use Rattle.world_engine.specs.Running.{HasPlaces, setup_by}

@@ -1,9 +1,9 @@
 -- What a field shows at a place, where it has changed elsewhere.
-use Rattle.std.proofs.Common.{reverse, ◌≡◌, ◌≢◌, ℕ, zero, suc, List, [], ◌∷◌, map, set, get_or, length, Some, None, Option, filter, ◌==◌, refl, sym, ◌∙◌, ap}
-use Rattle.std.proofs.Common.{subst, Contains}
+use Rattle.std.proofs.Common.{reverse, ◌≡◌, ℕ, zero, suc, List, [], ◌∷◌, set, get_or, length, Some, None, Option, filter, ◌==◌, refl, sym, ◌∙◌, ap}
+use Rattle.std.proofs.Common.{subst}
 use Rattle.std.specs.Prelude.{All, slice_get}
 use Rattle.std.proofs.lemmas.List.Elements.{All-set, All-contains}
-use Rattle.std.proofs.lemmas.Option.{slice_get_within, get_or_from_slice_get, slice_get_read}
+use Rattle.std.proofs.lemmas.Option.{slice_get_within, slice_get_read}
 use Rattle.lwb_base.proofs.Lists.{map_stays}
 use Rattle.lwb_base.proofs.Elements.{contains_at}
 use Rattle.radio_model.specs.Stations.{MediumState, IsMedium, nodes_of, station_of}

@@ -14,7 +14,7 @@ use Rattle.bus_rules.specs.Cores.{Setup}
 use Rattle.air_log.specs.Devices.{Device, Listening}
 use Rattle.air_log.specs.Trails.{setup_of}
 use Rattle.air_log.specs.Lawful.{tuned_by, heard_by}
-use Rattle.air_log.specs.DeviceStates.{DeviceState, one_more, EndedBefore}
+use Rattle.air_log.specs.DeviceStates.{DeviceState, one_more}
 use Rattle.world_engine.specs.Fields.{FieldState, Shows, ids_of, setup_of as setup_in, id_of, end_of, due_of}
 use Rattle.world_engine.specs.Moments.{Moment}
 use Rattle.world_engine.specs.Running.{HasPlaces, IsOnTrail, setup_by}

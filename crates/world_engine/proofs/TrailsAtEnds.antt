@@ -12,7 +12,7 @@ use Rattle.air_log.specs.declared.entry.Entry.{Entry}
 use Rattle.air_log.specs.Devices.{Device}
 use Rattle.air_log.specs.Trails.{Reception, setup_of}
 use Rattle.air_log.specs.Lawful.{heard_by, sent_by}
-use Rattle.lwb_base.proofs.Elements.{not_in_none, contains_head, contains_tail, contains_cases, among_or_not}
+use Rattle.lwb_base.proofs.Elements.{among_or_not}
 use Rattle.world_engine.specs.Fields.{FieldState, Shows}
 use Rattle.world_engine.specs.FieldSteps.{EndsSending, Sends, told_of_end, told_of_hearing}
 use Rattle.world_engine.specs.Moments.{At, IsAt}

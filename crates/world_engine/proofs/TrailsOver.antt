@@ -1,5 +1,5 @@
 -- The end of a run: the log of the closed field has what the trails have.
-use Rattle.std.proofs.Common.{◌≡◌, ℕ, List, [], map, reverse, Bool, true, false, ◌==◌, if◌then◌else◌, Option, Some, None, inl, inr, refl, sym, ◌∙◌, ap, subst}
+use Rattle.std.proofs.Common.{◌≡◌, ℕ, List, [], map, reverse, Bool, true, false, ◌==◌, if◌then◌else◌, Some, inl, inr, refl, sym, ◌∙◌, ap, subst}
 use Rattle.std.specs.Prelude.{Contains, IsPermutation, slice_get}
 use Rattle.std.specs.List.{filter}
 use Rattle.std.proofs.lemmas.Simd.{map-map}
@@ -10,9 +10,7 @@ use Rattle.scenario_text.specs.declared.lines.NodeLine.{NodeLine}
 use Rattle.radio_model.specs.declared.sending.Sending.{Sending}
 use Rattle.radio_model.specs.OnAir.{Hearing, Tuning}
 use Rattle.event_calendar.specs.Orders.{Due}
-use Rattle.bus_rules.specs.Cores.{Setup}
 use Rattle.air_log.specs.declared.entry.Entry.{Entry}
-use Rattle.air_log.specs.declared.entry.Entry.TheVariants.{Sent, Heard, Tuned}
 use Rattle.air_log.specs.Entries.{sending_in, tuning_in, sendings_of, tunings_of, node_of}
 use Rattle.air_log.specs.Devices.{Device, silenced}
 use Rattle.air_log.specs.Trails.{Reception, setup_of, run_end, before_tick}
