@@ -1,7 +1,7 @@
 -- Trails are computed from one tick at which something is due to the next. The search for the first tick at which a clock
 -- reads a number cannot be computed, so a function that gives the same is put in its place.
 use Rattle.std.proofs.Common.{◌≡◌, ℕ, zero, suc, ◌+◌, ◌/◌, ◌<◌, ◌≤◌, IfSome, max, List, [], ◌∷◌, Bool, true, false, not, ◌==◌, ◌&&◌, ◌||◌, nat_lt, nat_le}
-use Rattle.std.proofs.Common.{if◌then◌else◌, fold, Option, Some, None, Contains, ◌⊎◌, inl, inr, refl, sym, ◌∙◌, ap, subst, arith, true≢false, ltb-true}
+use Rattle.std.proofs.Common.{if◌then◌else◌, fold, Option, Some, None, ◌⊎◌, inl, inr, refl, ◌∙◌, ap, subst, arith, ltb-true}
 use Rattle.std.proofs.lemmas.Bool.{and_parts, leb-true, eq-eqb}
 use Rattle.std.specs.List.{list_all}
 use Rattle.std.proofs.Math.Path.{fun_ext}
@@ -25,7 +25,8 @@ use Rattle.air_log.specs.Devices.{Device, Power, PowerOff, PowerOn, Ordered, at_
 use Rattle.air_log.specs.ScriptedDevices.{dropped, switched_off, with_new_core, put_or_dropped}
 use Rattle.air_log.specs.Trails.{Reception, setup_of, frame_start, lines_at, ending_at, is_due, alarms, begun, tick, before_tick}
 use Rattle.air_log.specs.Ahead.{NextDue}
-use Rattle.air_log.proofs.Elements.{contains_cases, not_in_none}
+use Rattle.lwb_base.proofs.Elements.{all_passes}
+use Rattle.lwb_base.proofs.Truths.{implied}
 use Rattle.air_log.proofs.NextDue.{until_next}
 
 -- D is in the place of the search
@@ -138,22 +139,12 @@ module _ (clock : ℕ → ℕ) where
   unfolding before_tick
   one_tick s v hs t d is = ap (tick s v clock hs t) is ∙ same_tick s v hs t d
 
-pub all_passes : {X : Type 0} (p : X → Bool) (xs : List X) → list_all p xs ≡ true → (x : X) → Contains xs x → p x ≡ true
-all_passes p [] all x there = absurd (not_in_none x there)
-all_passes p (y ∷ ys) all x there =
-    let both = and_parts _ _ all in
-    elim (contains_cases y ys x there) [ inl is ↦ ap p (sym is) ∙ both.0 | inr later ↦ all_passes p ys both.1 x later ]
-
 from_outside : (D clock : ℕ → ℕ) (a b t : ℕ) → outside D clock a b t ≡ true → (t < a) ⊎ (b ≤ t)
 from_outside D clock a b t is = by_test (nat_lt t a) refl is
   where
     by_test : (c : Bool) → nat_lt t a ≡ c → (c || nat_le b t) ≡ true → (t < a) ⊎ (b ≤ t)
     by_test true less is = inl (ltb-true t a less)
     by_test false less is = inr (leb-true b t is)
-
-from_line : (b c : Bool) → (not b || c) ≡ true → b ≡ true → c ≡ true
-from_line true c is here = is
-from_line false c is here = absurd (true≢false (sym here))
 
 from_test : (D clock : ℕ → ℕ) (s : ScenarioParts) (v : ℕ) (hs : List Reception) (a b : ℕ) (d : Device) → is_next D clock s v hs a b d ≡ true
     → (a ≤ b) × NextDue s v hs a b d
@@ -169,7 +160,7 @@ from_test D clock s v hs a b d is =
         hearings = λ h there. from_outside D clock a b h.end (all_passes _ hs hearings.1 h there);
         lines =
             λ l there node. from_outside D clock a b (frame_start s l.frame)
-            (from_line (l.node == v) _ (all_passes _ s.script lines.1 l there) (eq-eqb l.node v node));
+            (implied (l.node == v) _ (all_passes _ s.script lines.1 l there) (eq-eqb l.node v node));
       },
     )
   where

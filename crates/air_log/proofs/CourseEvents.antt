@@ -23,11 +23,11 @@ use Rattle.air_log.proofs.ShownCourses.{shows_as}
 abbrev pub reacted : DeviceState → Option Stepped → DeviceState
 reacted state r = record (after_row state r) { delivery = None }
 
-keeps_setup : (state : DeviceState) (r : Option Stepped) → (reacted state r).setup ≡ state.setup
+pub keeps_setup : (state : DeviceState) (r : Option Stepped) → (reacted state r).setup ≡ state.setup
 keeps_setup state None = refl
 keeps_setup state (Some r) = refl
 
-keeps_happened : (t : ℕ) (state : DeviceState) (r : Option Stepped) → HappenedBy t state → HappenedBy t (reacted state r)
+pub keeps_happened : (t : ℕ) (state : DeviceState) (r : Option Stepped) → HappenedBy t state → HappenedBy t (reacted state r)
 keeps_happened t state None h = record { closed = h.closed; listening = h.listening }
 keeps_happened t state (Some r) h = record { closed = h.closed; listening = h.listening }
 

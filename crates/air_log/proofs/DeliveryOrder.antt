@@ -1,10 +1,11 @@
 -- Deliveries by frame, rank, slot and node.
-use Rattle.std.proofs.Common.{◌≡◌, ℕ, ◌<◌, Bool, true, false, not, ◌&&◌, inl, inr, Ordering, Less, Equal, refl, sym, ◌∙◌, ap, arith, true≢false}
-use Rattle.std.specs.Cmp.{IsTotalOrder, IsStrictWeakOrder, nat_cmp_is, nat_cmp_total, on_total, then_total}
+use Rattle.std.proofs.Common.{◌≡◌, ℕ, ◌<◌, Bool, true, Ordering, Equal, sym, ◌∙◌, ap, true≢false}
+use Rattle.std.specs.Cmp.{IsStrictWeakOrder}
 use Rattle.std.specs.List.Sorted.{ties}
 use Rattle.std.specs.Ordering.{nat_cmp, ordering_then, is_lt}
-use Rattle.std.proofs.lemmas.Bool.{cases_lt}
 use Rattle.std.proofs.lemmas.List.Sorted.{ranks_by}
+use Rattle.lwb_base.proofs.Orders.{compares_less, by_four_total, compares_equal, one_number}
+use Rattle.lwb_base.proofs.Truths.{both_not}
 use Rattle.bus_rules.specs.declared.delivery.Delivery.{Delivery}
 use Rattle.air_log.specs.Deliveries.{comes_before}
 
@@ -12,49 +13,36 @@ use Rattle.air_log.specs.Deliveries.{comes_before}
 abbrev pub place_of : Delivery → ℕ × ℕ × ℕ × ℕ
 place_of d = (d.frame, d.rank, d.slot, d.node)
 
-abbrev by_place : ℕ × ℕ × ℕ × ℕ → ℕ × ℕ × ℕ × ℕ → Ordering
-by_place a b = ordering_then (ordering_then (ordering_then (nat_cmp a.0 b.0) (nat_cmp a.1 b.1)) (nat_cmp a.2 b.2)) (nat_cmp a.3 b.3)
-
-is_total : IsTotalOrder by_place
-is_total = then_total (then_total (then_total (on_total (λ (t : ℕ × ℕ × ℕ × ℕ). t.0) nat_cmp_total) (on_total (λ (t : ℕ × ℕ × ℕ × ℕ). t.1) nat_cmp_total))
-    (on_total (λ (t : ℕ × ℕ × ℕ × ℕ). t.2) nat_cmp_total)) (on_total (λ (t : ℕ × ℕ × ℕ × ℕ). t.3) nat_cmp_total)
-
 pub is_order : IsStrictWeakOrder comes_before
-is_order = ranks_by is_total place_of
+is_order = ranks_by by_four_total place_of
 
 abbrev pub Before : Delivery → Delivery → Type 0
 Before a b = comes_before a b ≡ true
-
-less_is : (x y : ℕ) → x < y → nat_cmp x y ≡ Less
-less_is x y less = sym (nat_cmp_is x y Less less)
-
-same_is : (x y : ℕ) → x ≡ y → nat_cmp x y ≡ Equal
-same_is x y same = sym (nat_cmp_is x y Equal same)
 
 module _ (a b : Delivery) where
   abbrev then_so : Ordering → Ordering → Ordering → Ordering → Bool
   then_so c d e g = is_lt (ordering_then (ordering_then (ordering_then c d) e) g)
 
   pub by_frame : a.frame < b.frame → Before a b
-  by_frame less = ap (λ (c : Ordering). then_so c (nat_cmp a.rank b.rank) (nat_cmp a.slot b.slot) (nat_cmp a.node b.node)) (less_is a.frame b.frame less)
+  by_frame less = ap (λ (c : Ordering). then_so c (nat_cmp a.rank b.rank) (nat_cmp a.slot b.slot) (nat_cmp a.node b.node)) (compares_less a.frame b.frame less)
 
   pub by_rank : a.frame ≡ b.frame → a.rank < b.rank → Before a b
   by_rank frame less =
-      ap (λ (c : Ordering). then_so c (nat_cmp a.rank b.rank) (nat_cmp a.slot b.slot) (nat_cmp a.node b.node)) (same_is a.frame b.frame frame)
-      ∙ ap (λ (c : Ordering). then_so Equal c (nat_cmp a.slot b.slot) (nat_cmp a.node b.node)) (less_is a.rank b.rank less)
+      ap (λ (c : Ordering). then_so c (nat_cmp a.rank b.rank) (nat_cmp a.slot b.slot) (nat_cmp a.node b.node)) (compares_equal a.frame b.frame frame)
+      ∙ ap (λ (c : Ordering). then_so Equal c (nat_cmp a.slot b.slot) (nat_cmp a.node b.node)) (compares_less a.rank b.rank less)
 
   pub by_slot : a.frame ≡ b.frame → a.rank ≡ b.rank → a.slot < b.slot → Before a b
   by_slot frame rank less =
-      ap (λ (c : Ordering). then_so c (nat_cmp a.rank b.rank) (nat_cmp a.slot b.slot) (nat_cmp a.node b.node)) (same_is a.frame b.frame frame)
-      ∙ ap (λ (c : Ordering). then_so Equal c (nat_cmp a.slot b.slot) (nat_cmp a.node b.node)) (same_is a.rank b.rank rank)
-      ∙ ap (λ (c : Ordering). then_so Equal Equal c (nat_cmp a.node b.node)) (less_is a.slot b.slot less)
+      ap (λ (c : Ordering). then_so c (nat_cmp a.rank b.rank) (nat_cmp a.slot b.slot) (nat_cmp a.node b.node)) (compares_equal a.frame b.frame frame)
+      ∙ ap (λ (c : Ordering). then_so Equal c (nat_cmp a.slot b.slot) (nat_cmp a.node b.node)) (compares_equal a.rank b.rank rank)
+      ∙ ap (λ (c : Ordering). then_so Equal Equal c (nat_cmp a.node b.node)) (compares_less a.slot b.slot less)
 
   pub by_node : a.frame ≡ b.frame → a.rank ≡ b.rank → a.slot ≡ b.slot → a.node < b.node → Before a b
   by_node frame rank slot less =
-      ap (λ (c : Ordering). then_so c (nat_cmp a.rank b.rank) (nat_cmp a.slot b.slot) (nat_cmp a.node b.node)) (same_is a.frame b.frame frame)
-      ∙ ap (λ (c : Ordering). then_so Equal c (nat_cmp a.slot b.slot) (nat_cmp a.node b.node)) (same_is a.rank b.rank rank)
-      ∙ ap (λ (c : Ordering). then_so Equal Equal c (nat_cmp a.node b.node)) (same_is a.slot b.slot slot)
-      ∙ ap (λ (c : Ordering). then_so Equal Equal Equal c) (less_is a.node b.node less)
+      ap (λ (c : Ordering). then_so c (nat_cmp a.rank b.rank) (nat_cmp a.slot b.slot) (nat_cmp a.node b.node)) (compares_equal a.frame b.frame frame)
+      ∙ ap (λ (c : Ordering). then_so Equal c (nat_cmp a.slot b.slot) (nat_cmp a.node b.node)) (compares_equal a.rank b.rank rank)
+      ∙ ap (λ (c : Ordering). then_so Equal Equal c (nat_cmp a.node b.node)) (compares_equal a.slot b.slot slot)
+      ∙ ap (λ (c : Ordering). then_so Equal Equal Equal c) (compares_less a.node b.node less)
 
 -- of one frame, rank, slot and node
 pub record SamePlace (a b : Delivery) : Type 0 where
@@ -63,22 +51,9 @@ pub record SamePlace (a b : Delivery) : Type 0 where
   pub slot : a.slot ≡ b.slot
   pub node : a.node ≡ b.node
 
-pub neither : (a b : Bool) → (not a && not b) ≡ true → (a ≡ false) × (b ≡ false)
-neither true b is = absurd (true≢false (sym is))
-neither false true is = absurd (true≢false (sym is))
-neither false false is = (refl, refl)
-
--- two numbers, neither below the other
-one_number : (x y : ℕ) → (x < y → ⊥) → (y < x → ⊥) → x ≡ y
-one_number x y up down =
-    elim (cases_lt x y) [
-      | inl less ↦ absurd (up less)
-      | inr more ↦ elim (cases_lt y x) [ inl less ↦ absurd (down less) | inr other ↦ omega (arith, more, other) ]
-    ]
-
 pub tied_place : (a b : Delivery) → ties comes_before a b ≡ true → SamePlace a b
 tied_place a b tied =
-    let so = neither (comes_before a b) (comes_before b a) tied in
+    let so = both_not (comes_before a b) (comes_before b a) tied in
     let up : Before a b → ⊥ = λ is. true≢false (sym is ∙ so.0) in
     let down : Before b a → ⊥ = λ is. true≢false (sym is ∙ so.1) in
     let frame = one_number a.frame b.frame (λ less. up (by_frame a b less)) (λ less. down (by_frame b a less)) in

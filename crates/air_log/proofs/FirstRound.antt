@@ -43,7 +43,7 @@ other_goes : goes_through (λ x. x) (λ t. t) first_round 2 heard_by_other 15360
 unfolding least digits number schedule_of asks_in schedule_heard host_plan plan_round turns
 other_goes = refl
 
-abbrev by_ticks : ℕ → List Reception → List ℕ → Device
+abbrev pub by_ticks : ℕ → List Reception → List ℕ → Device
 by_ticks v hs ticks = silenced v 1536000000 (after_ticks (λ x. x) (λ t. t) first_round v hs ticks at_rest)
 
 host_worked : IsWorked first_round (by_ticks 1 heard_by_host host_ticks) sent_by_host tuned_by_host 2494336 (Host 0 9)
@@ -54,7 +54,7 @@ other_worked : IsWorked first_round (by_ticks 2 heard_by_other other_ticks) sent
 unfolding least digits number schedule_of asks_in schedule_heard host_plan plan_round turns
 other_worked = record { sendings = refl; tunings = refl; charge = refl; last = refl }
 
-of_trail : (v : ℕ) (hs : List Reception) (ticks : List ℕ) → goes_through (λ x. x) (λ t. t) first_round v hs 1536000000 0 ticks at_rest ≡ true
+pub of_trail : (v : ℕ) (hs : List Reception) (ticks : List ℕ) → goes_through (λ x. x) (λ t. t) first_round v hs 1536000000 0 ticks at_rest ≡ true
     → trail first_round v (true_time v) hs ≡ by_ticks v hs ticks
 of_trail v hs ticks goes = ap (silenced v 1536000000) (computed (λ t. t) (λ x. x) true_due first_round v hs 1536000000 ticks goes)
 

@@ -12,8 +12,7 @@ use Rattle.air_log.specs.HearsAir.{scene_of}
 use Rattle.air_log.specs.Trails.{run_end}
 use Rattle.air_log.specs.Lawful.{FollowsHearing}
 use Rattle.air_log.specs.FirstRound.{first_round, first_round_log, sent_in_round, heard_in_round, tuned_by_host, tuned_by_other}
-use Rattle.air_log.proofs.Elements.{not_in_none, contains_cases, contains_head, contains_tail}
-use Rattle.air_log.proofs.ComputedTrails.{all_passes}
+use Rattle.lwb_base.proofs.Elements.{not_in_none, contains_cases, contains_head, contains_tail, all_passes}
 
 abbrev pub tuned_in_round : List Tuning
 tuned_in_round = tuned_by_host ++ tuned_by_other

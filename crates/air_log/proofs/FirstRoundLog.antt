@@ -1,23 +1,23 @@
 -- The log of the worked first round is lawful.
-use Rattle.std.proofs.Common.{◌≡◌, ◌≢◌, ℕ, List, [], Bool, true, false, ◌==◌, ◌||◌, IsPermutation, refl, sym, ◌∙◌, subst, inl, inr, eqb-true}
+use Rattle.std.proofs.Common.{◌≡◌, ◌≢◌, ℕ, [], Bool, true, false, ◌==◌, ◌||◌, IsPermutation, refl, sym, ◌∙◌, subst, inl, inr, eqb-true}
 use Rattle.std.proofs.lemmas.Bool.{cases_eq, ne_eqb}
-use Rattle.std.proofs.lemmas.List.Sorted.{IsPermutation-refl}
+use Rattle.lwb_base.proofs.Orders.{same_list}
+use Rattle.lwb_base.proofs.Elements.{all_passes}
 use Rattle.radio_model.specs.declared.sending.Sending.{Sending}
 use Rattle.radio_model.specs.OnAir.{Tuning}
 use Rattle.scenario_text.specs.FloodParts.{knows}
 use Rattle.air_log.specs.Lawful.{Lawful, trail_sent, trail_tuned, sent_by, tuned_by}
 use Rattle.air_log.specs.TwoNodeLog.{true_time}
 use Rattle.air_log.specs.FirstRound.{first_round, first_round_log, sent_in_round, tuned_by_host, tuned_by_other, sent_by_host, sent_by_other}
-use Rattle.air_log.proofs.ComputedTrails.{all_passes}
 use Rattle.air_log.proofs.NextDue.{none_passes}
 use Rattle.air_log.proofs.FirstRound.{host_trail, other_trail}
 use Rattle.air_log.proofs.FirstRoundHearings.{tuned_in_round, follows_hearing}
 
 -- the trails
-abbrev of_either : ℕ → Bool
+abbrev pub of_either : ℕ → Bool
 of_either v = (v == 1) || (v == 2)
 
-from_either : (u v : ℕ) → of_either u ≡ true → v ≢ 1 → v ≢ 2 → u ≡ v → ⊥
+pub from_either : (u v : ℕ) → of_either u ≡ true → v ≢ 1 → v ≢ 2 → u ≡ v → ⊥
 from_either u v is one two same = by_test (u == 1) refl is
   where
     by_test : (b : Bool) → (u == 1) ≡ b → (b || (u == 2)) ≡ true → ⊥
@@ -48,9 +48,6 @@ SentAs v = IsPermutation (trail_sent first_round true_time first_round_log v) (s
 
 abbrev TunedAs : ℕ → Type 0
 TunedAs v = IsPermutation (trail_tuned first_round true_time first_round_log v) (tuned_by first_round_log v)
-
-same_list : {X : Type 0} (xs ys zs : List X) → xs ≡ zs → ys ≡ zs → IsPermutation xs ys
-same_list xs ys zs a b = rw (a, b) (IsPermutation-refl zs)
 
 sent_of : (v : ℕ) → SentAs v
 sent_of v =

@@ -22,7 +22,7 @@ use Rattle.air_log.specs.Courses.{CourseState, Shows, IsShownEnding, IsCut, Asce
 use Rattle.air_log.specs.Courses.{least_due, before_alarms_in, after_lines}
 use Rattle.air_log.proofs.AlarmLoop.{early_in_run}
 use Rattle.air_log.proofs.AlarmRuns.{alarms_are_run}
-use Rattle.air_log.proofs.Elements.{map_from}
+use Rattle.lwb_base.proofs.Elements.{map_from}
 use Rattle.air_log.proofs.NextDue.{is_ahead, none_passes, until_next}
 use Rattle.air_log.proofs.ShownCourses.{shows_as, shows_later}
 use Rattle.air_log.proofs.ListCuts.{cut_later}

@@ -13,6 +13,8 @@ use Rattle.scenario_text.specs.ScenarioFacts.{IsSoundScenario, turned, turned_by
 use Rattle.scenario_text.specs.declared.script.Act.{Act}
 use Rattle.scenario_text.specs.declared.script.Act.TheVariants.{On, Off, Declare, Leave, Put}
 use Rattle.scenario_text.specs.declared.script.ScriptLine.{ScriptLine}
+use Rattle.scenario_text.proofs.BootsTold.{turned_over, Boots}
+use Rattle.scenario_text.proofs.BootsCounted.{never_less}
 use Rattle.bus_rules.specs.States.{refuses, queues}
 use Rattle.bus_rules.specs.Cores.{Setup}
 use Rattle.node_core.specs.Nodes.{Node, rebooted}
@@ -43,7 +45,7 @@ orders_power : (clock : ℕ → ℕ) (v t : ℕ) (p : Power) (os : List Order) (
 orders_power clock v t p [] d is = is
 orders_power clock v t p (o ∷ os) d is = orders_power clock v t p os (obeyed clock v t d o) (order_power clock v t p d o is)
 
-boot_after : (n : Node) (r : Option Stepped) → KeepsBoot n r → (node_after n r).core.boot ≡ n.core.boot
+pub boot_after : (n : Node) (r : Option Stepped) → KeepsBoot n r → (node_after n r).core.boot ≡ n.core.boot
 boot_after n None kept = refl
 boot_after n (Some r) kept = kept
 
@@ -98,35 +100,6 @@ module _ (clock : ℕ → ℕ) (s : Setup) (t : ℕ) where
   pub begun_power : (d : Device) → seen_power (begun s t d).power ≡ seen_power d.power
   begun_power d = ap seen_power (by_start d d.ordered)
 
--- one line more
-pub turned_more : (v : ℕ) (b : Bool × ℕ) (ls : List ScriptLine) (l : ScriptLine)
-    → turned v b (ls ++ l ∷ []) ≡ (if l.node == v then turned_by l.act (turned v b ls) else turned v b ls)
-turned_more v b [] l = refl
-turned_more v b (x ∷ ls) l = turned_more v (if x.node == v then turned_by x.act b else b) ls l
-
--- boots do not become fewer
-abbrev Boots : Type 0
-Boots = Bool × ℕ
-
-boots_by : (a : Act) (b : Boots) → b.1 ≤ (turned_by a b).1
-boots_by On (true, k) = omega arith
-boots_by On (false, k) = omega arith
-boots_by Off b = omega arith
-boots_by (Declare i interval) b = omega arith
-boots_by (Leave i) b = omega arith
-boots_by (Put i payload) b = omega arith
-
-pub boots_up : (v : ℕ) (b : Boots) (ls : List ScriptLine) → b.1 ≤ (turned v b ls).1
-boots_up v b [] = omega arith
-boots_up v b (l ∷ ls) =
-    let c : Boots = if l.node == v then turned_by l.act b else b in
-    let step : b.1 ≤ c.1 = cond_both (l.node == v) (turned_by l.act b) b (λ (x : Boots). b.1 ≤ x.1) (λ mine. boots_by l.act b) (λ other. omega arith) in
-    omega (arith, step, boots_up v c ls)
-
-pub turned_over : (v : ℕ) (b : Boots) (xs ys : List ScriptLine) → turned v b (xs ++ ys) ≡ turned v (turned v b xs) ys
-turned_over v b [] ys = refl
-turned_over v b (x ∷ xs) ys = turned_over v (if x.node == v then turned_by x.act b else b) xs ys
-
 pub few_before : (s : ScenarioParts) (sound : IsSoundScenario s) (told rest : List ScriptLine) (l : ScriptLine) → s.script ≡ told ++ l ∷ rest → l.act ≡ On
     → (boots : ℕ) → (false, boots) ≡ turned l.node (false, 0) told → boots < 200
 few_before s sound told rest l is on boots before =
@@ -140,4 +113,4 @@ few_before s sound told rest l is on boots before =
     ∙ ap (λ (b : Boots). turned v b rest) (ap (λ (own : Bool). if own then turned_by l.act (false, boots) else (false, boots)) (eq-eqb v v refl)
     ∙ ap (λ (a : Act). turned_by a (false, boots)) on) in
     let few : (turned v now rest).1 ≤ 200 = subst (λ (b : Boots). b.1 ≤ 200) next (sound.few_boots v) in
-    omega (arith, few, boots_up v now rest)
+    omega (arith, few, never_less v now rest)

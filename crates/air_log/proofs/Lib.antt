@@ -24,17 +24,20 @@ pub mod ComputedTrails
 pub mod FirstRound
 pub mod CountedEvents
 pub mod ChargedWindows
+pub mod EventKinds
+pub mod EventPower
+pub mod ShownCourses
+pub mod CourseSteps
+pub mod CourseEvents
+pub mod FramesOfCourses
+pub mod FirstRoundLog
 -- for this crate alone
 pub mod SmallCores
 mod DeviceEvents
 mod AlarmsOfCourses
 mod CountedWindows
-mod CourseEvents
-mod CourseSteps
 mod FewWindows
 mod FirstRoundHearings
-mod FirstRoundLog
-mod FramesOfCourses
 mod HearingsInAir
 mod HearingsOfCourses
 mod LeastDue
@@ -43,7 +46,6 @@ mod ListCuts
 mod LogTextExamples
 mod ObeyedCourses
 mod OpenedByAlarm
-mod ShownCourses
 mod TimelyOrders
 mod TrailsOfCourses
 mod TwoNodeLog

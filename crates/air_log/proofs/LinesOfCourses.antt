@@ -1,39 +1,30 @@
 -- The script lines of a frame, told to a course one after another.
-use Rattle.std.proofs.Common.{◌≡◌, ℕ, suc, ◌+◌, ◌*◌, ◌≤◌, List, [], ◌∷◌, ◌++◌, take, drop, filter, fold, Bool, true, false, ◌&&◌, ◌==◌, if◌then◌else◌}
-use Rattle.std.proofs.Common.{Some, refl, sym, ◌∙◌, ap, subst, arith, inl, inr, mul-le-mul_right, eq-eqb, eqb-true, take-append-drop}
+use Rattle.std.proofs.Common.{◌≡◌, ℕ, suc, ◌+◌, ◌≤◌, List, [], ◌∷◌, ◌++◌, take, drop, filter, fold, Bool, true, false, ◌&&◌, ◌==◌, if◌then◌else◌}
+use Rattle.std.proofs.Common.{Some, refl, sym, ◌∙◌, ap, subst, arith, eq-eqb, eqb-true, take-append-drop}
 use Rattle.std.specs.Prelude.{slice_get}
-use Rattle.std.proofs.lemmas.Bool.{cases_order, and_parts}
+use Rattle.std.proofs.lemmas.Bool.{and_parts}
 use Rattle.std.proofs.lemmas.Option.{slice_get_within, get_or_from_slice_get}
 use Rattle.std.proofs.lemmas.List.{drop_more}
 use Rattle.std.proofs.lemmas.List.Sums.{fold-append}
+use Rattle.lwb_base.proofs.Orders.{same_factor}
 use Rattle.bus_rules.specs.Cores.{Setup}
 use Rattle.scenario_text.specs.ScenarioParts.{ScenarioParts}
 use Rattle.scenario_text.specs.ScenarioFacts.{IsSoundScenario, IsScriptLine, IsAct, turned, turned_by}
 use Rattle.scenario_text.specs.declared.script.Act.TheVariants.{On}
 use Rattle.scenario_text.specs.declared.script.ScriptLine.{ScriptLine}
+use Rattle.scenario_text.proofs.BootsTold.{turned_more, Boots}
 use Rattle.air_log.specs.Devices.{Device, Power, PowerOff, PowerOn, seen_power}
 use Rattle.air_log.specs.ScriptedDevices.{after_line}
 use Rattle.air_log.specs.Trails.{frame_start, lines_at}
 use Rattle.air_log.specs.DeviceStates.{CanBoot}
 use Rattle.air_log.specs.Courses.{CourseState, Shows, IsShown, Goes, IsCut, frame_of}
 use Rattle.air_log.proofs.AlarmRows.{roomy}
-use Rattle.air_log.proofs.KeptPower.{line_power, turned_more, few_before}
+use Rattle.air_log.proofs.KeptPower.{line_power, few_before}
 use Rattle.air_log.proofs.ShownCourses.{shows_as}
 use Rattle.air_log.proofs.ListCuts.{IsGone, gone_first, gone_more, one_more, none_yet, none_left, filter_more}
 
--- a tick at which a frame starts is that of one frame
-pub same_frame : (a b F : ℕ) → 1 ≤ F → a * F ≡ b * F → a ≡ b
-same_frame a b F some same = elim (cases_order a b) [
-  | inl is ↦ is
-  | inr (inl less) ↦ (let more : suc a * F ≤ b * F = mul-le-mul_right F less in absurd (omega (arith, more, same, some)))
-  | inr (inr less) ↦ (let more : suc b * F ≤ a * F = mul-le-mul_right F less in absurd (omega (arith, more, same, some)))
-]
-
 abbrev pub own_line : (ℕ → ℕ) → ℕ → ScriptLine → Setup → Device → Device
 own_line clock t l q d = if l.node == q.id then after_line clock q t d l else d
-
-abbrev Boots : Type 0
-Boots = Bool × ℕ
 
 -- the power that is shown
 power_shown : (q : Setup) (t : ℕ) (c : CourseState) (d : Device) → Shows q t c d → c.device.power ≡ d.power
@@ -61,7 +52,7 @@ module _ (clock : ℕ → ℕ) (s : ScenarioParts) (sound : IsSoundScenario s) (
   some_frame = let room = roomy s.profile sound.profile in omega (arith, room.long)
 
   keyed : (v : ℕ) (l : ScriptLine) → is_own v l ≡ true → frame_of l ≡ f
-  keyed v l is = same_frame l.frame f s.profile.frame some_frame (eqb-true (frame_start s l.frame) (frame_start s f) (and_parts _ _ is).1)
+  keyed v l is = same_factor l.frame f s.profile.frame some_frame (eqb-true (frame_start s l.frame) (frame_start s f) (and_parts _ _ is).1)
 
   pub none_told : (k : ℕ) (c : CourseState) → IsCut frame_of s.script k f → seen_power c.device.power ≡ turned c.device.setup.id (false, 0) (take k s.script)
       → IsShown (frame_start s f) c → Told k c c

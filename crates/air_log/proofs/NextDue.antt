@@ -16,7 +16,7 @@ use Rattle.air_log.specs.Devices.{Device, Listening, Ordered, event, obeyed, sil
 use Rattle.air_log.specs.Trails.{Reception, setup_of, run_end, frame_start, scripted, heard, ended_by, ended, is_due, alarmed, begun_by, starts, before_tick}
 use Rattle.air_log.specs.QuietTicks.{IsQuiet, ends_at, starts_at}
 use Rattle.air_log.specs.Ahead.{IsAhead, NextDue}
-use Rattle.air_log.proofs.Elements.{contains_head, contains_tail}
+use Rattle.lwb_base.proofs.Elements.{contains_head, contains_tail}
 use Rattle.air_log.proofs.QuietTicks.{quiet_ticks}
 use Rattle.air_log.proofs.KeptByEvents.{IsKept, in_hearings, in_end, in_event, in_alarms}
 use Rattle.air_log.proofs.AlarmLoop.{no_alarm_left}

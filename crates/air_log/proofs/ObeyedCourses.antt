@@ -10,7 +10,7 @@ use Rattle.air_log.specs.Devices.{obeyed}
 use Rattle.air_log.specs.DeviceStates.{IsTimely}
 use Rattle.air_log.specs.Courses.{CourseState, Goes}
 use Rattle.air_log.proofs.ShownCourses.{goes_as, goes_then}
-use Rattle.air_log.proofs.Elements.{first_of, none_in}
+use Rattle.lwb_base.proofs.Elements.{first_of, none_in}
 
 -- of these orders a front has been obeyed, and the rest is left
 pub record AreObeyed (clock : ℕ → ℕ) (t : ℕ) (all rest : List Order) (old new : CourseState) : Type 0 where

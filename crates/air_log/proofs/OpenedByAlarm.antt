@@ -13,15 +13,16 @@ use Rattle.bus_rules.specs.Slots.{Message, ScheduleOf, DataOf, RequestOf}
 use Rattle.bus_rules.specs.Tuning.{rank_of}
 use Rattle.lwb_member.specs.Said.{message_of}
 use Rattle.node_core.specs.Nodes.{Node}
-use Rattle.node_core.specs.Rows.{Stepped, row, joins, scanner_hears, sends, at_alarm, at_heard, at_sent, boots}
+use Rattle.node_core.specs.Rows.{row, joins, scanner_hears, sends, at_alarm, at_heard, at_sent, boots}
 use Rattle.node_core.specs.Rows.{node_after, orders_by}
 use Rattle.node_core.specs.Windows.{Window}
 use Rattle.node_core.specs.declared.stage.Stage.{Stage}
 use Rattle.node_core.specs.declared.stage.Stage.TheVariants.{Idle, Scanning, AwaitFrame, AwaitSlot, InWindow}
-use Rattle.node_core.proofs.KeptBoots.{KeepsBoot, boot_kept}
+use Rattle.node_core.proofs.KeptBoots.{boot_kept}
 use Rattle.air_log.specs.Devices.{Device, Power, PowerOff, PowerOn, obeyed, moved, stepped, silenced, tunes, listens_to}
 use Rattle.air_log.specs.WindowLogs.{WindowLog, is_alarm, gone_on, closed_log, window_of, windows_after, windows_by}
 use Rattle.air_log.proofs.AlarmRows.{InRange}
+use Rattle.air_log.proofs.KeptPower.{boot_after}
 
 -- how many of these opened by their alarm
 abbrev pub by_alarm : List WindowLog → ℕ
@@ -92,10 +93,6 @@ orders_have clock v t p ws (o ∷ os) d has = orders_have clock v t p ws os (obe
 
 few_if : (p : Power) (ws : List WindowLog) (d : Device) → Has p ws d → FewBy p (by_alarm ws) → Few d
 few_if p ws d has few = rw (has.0, has.1) few
-
-boot_after : (n : Node) (r : Option Stepped) → KeepsBoot n r → (node_after n r).core.boot ≡ n.core.boot
-boot_after n None kept = refl
-boot_after n (Some r) kept = kept
 
 module _ (s : Setup) (L : ℕ → ℕ) (t : ℕ) where
   -- a row that opens no more windows than it goes on

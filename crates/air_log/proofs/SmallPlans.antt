@@ -1,7 +1,6 @@
 -- Plans have few slots and the codes of a table ascend, whatever a node hears.
-use Rattle.std.proofs.Common.{◌≡◌, ℕ, ◌+◌, ◌≤◌, List, [], ◌∷◌, Bool, true, false, ◌==◌, nat_lt, nat_le, cond, if◌then◌else◌, length, length-append}
+use Rattle.std.proofs.Common.{◌≡◌, ℕ, ◌+◌, ◌≤◌, List, [], ◌∷◌, Bool, true, false, ◌==◌, nat_le, cond, if◌then◌else◌, length, length-append}
 use Rattle.std.proofs.Common.{fold, sum_by, option_map, replicate, Option, Some, None, refl, sym, ◌∙◌, ap, subst, arith, eqb-true}
-use Rattle.std.specs.Option.{IfSome}
 use Rattle.std.proofs.lemmas.Bool.{cond_both, and_parts, leb-true}
 use Rattle.std.proofs.lemmas.List.{length-replicate, length-take}
 use Rattle.std.proofs.lemmas.List.Sums.{sum_by-cons}
@@ -12,14 +11,15 @@ use Rattle.lwb_packets.specs.Requests.{is_request}
 use Rattle.schedule_codec.specs.Spelling.{spells, slot_fits}
 use Rattle.schedule_codec.specs.Reading.{said, schedule_of}
 use Rattle.bus_rules.specs.Plans.{last_slot}
-use Rattle.bus_rules.specs.Tables.{interval_of, Entry, Table, Above, Ascends, after_request, is_full, without, with_entry, new_entry, seen, missed, has_code}
+use Rattle.bus_rules.specs.Tables.{interval_of, Entry, Table, Above, Ascends, after_request, is_full, without, with_entry, new_entry, seen, missed}
 use Rattle.bus_rules.specs.Granting.{last_code, share_in, owners_by, grant, granted_by, grants_for, plan_round, owed_to, given, gap_of, in_turn, turns, Grants}
 use Rattle.bus_rules.specs.HostPlans.{Answered, Served, answer, answered, serve, served, put_if, host_plan}
 use Rattle.bus_rules.specs.Streams.{Streams, due_of, with_agreed}
 use Rattle.bus_rules.specs.Slots.{owner_heard, ScheduleOf, DataOf, RequestOf}
 use Rattle.lwb_packets.specs.Ranges.{between}
 use Rattle.glossy_relay.specs.Relaying.{slot_of}
-use Rattle.stream_table.proofs.Order.{Keeps, Sifts, ascends_map, ascends_filter_map, ascends_filter, ascends_with}
+use Rattle.stream_table.proofs.Order.{ascends_map, ascends_filter_map, ascends_filter, ascends_with}
+use Rattle.stream_table.proofs.Changes.{seen_keeps, missed_sifts, grant_keeps}
 use Rattle.lwb_member.specs.Said.{data_in, request_in, message_of}
 
 -- a code that stands in one entry at most
@@ -65,9 +65,6 @@ owned : (share : Entry → ℕ) (es : List Entry) → length (owners_by share es
 owned share [] = refl
 owned share (e ∷ es) =
     omega (arith, length-append (replicate (share e) e.code) (owners_by share es), length-replicate (share e) e.code, sum_by-cons share e es, owned share es)
-
-grant_keeps : (share : Entry → ℕ) → Keeps (grant share)
-grant_keeps share = record { code = λ e. refl }
 
 -- what a host grants
 abbrev AreFew : List ℕ → Table → Type 0
@@ -125,18 +122,6 @@ host_plan_few p node boot rank frame kept t s up =
           (after_answers frame kept (record { table = t; acks = [] }) up)),
       refl,
     )
-
--- the owner of a data slot is heard, or not
-seen_keeps : (c : ℕ) → Keeps (seen c)
-seen_keeps c = record { code = λ e. refl }
-
-missed_sifts : (c : ℕ) → Sifts (missed c)
-missed_sifts c = record {
-  code = λ e. cond_both (has_code c e) _ (Some e) (λ (o : Option Entry). IfSome o (λ x. x.code ≡ e.code))
-      (λ is. cond_both (nat_lt (e.unheard + 1) 16) (Some (record e { unheard = e.unheard + 1 })) None (λ (o : Option Entry). IfSome o (λ x. x.code ≡ e.code))
-      (λ less. refl) (λ goes. tt))
-      (λ is. refl);
-}
 
 pub owner_keeps : (owner : ℕ) (heard : Bool) (t : Table) → Ascends t.entries → Ascends (owner_heard heard owner t).entries
 owner_keeps owner true t up = ascends_map (seen owner) t.entries (seen_keeps owner) up

@@ -10,6 +10,7 @@ use lib.ListN.{get_or}
 use Rattle.std.proofs.lemmas.Bool.{true≢false}
 use Rattle.std.proofs.lemmas.List.Elements.{recursion_from_All}
 use Rattle.std.proofs.lemmas.List.Sorted.{sorted_far}
+use Rattle.lwb_base.proofs.Truths.{both_not}
 use Rattle.air_log.specs.LogText.{placed, in_order}
 
 pub flat_map-map : {X Y Z : Type 0} (g : X → Y) (f : Y → List Z) (xs : List X) → flat_map (λ x. f (g x)) xs ≡ flat_map f (map g xs)
@@ -60,11 +61,6 @@ module _ {X : Type 0} where
   same_rest : (b : Bool) (x : X) (xs ys : List X) → cond b (x ∷ xs) xs ≡ cond b (x ∷ ys) ys → xs ≡ ys
   same_rest true x xs ys is = ap rest_of is
   same_rest false x xs ys is = is
-
-both_not : (a b : Bool) → (not a && not b) ≡ true → (a ≡ false) × (b ≡ false)
-both_not true b is = absurd (true≢false (sym is))
-both_not false true is = absurd (true≢false (sym is))
-both_not false false is = (refl, refl)
 
 not_both : (a b : Bool) → a ≡ false → b ≡ false → (not a && not b) ≡ true
 not_both true b p q = absurd (true≢false p)

@@ -1,17 +1,18 @@
 -- Lists in one strict order are one where they have the same elements, and numbers that differ do so in any order.
-use Rattle.std.proofs.Common.{◌≡◌, ◌≢◌, ℕ, inl, inr, List, [], ◌∷◌, Bool, true, false, ◌==◌, Contains, AllPairs, get_or, refl, sym, ap, ◌∙◌, subst}
+use Rattle.std.proofs.Common.{◌≡◌, ◌≢◌, ℕ, inl, inr, List, [], ◌∷◌, Bool, ◌==◌, Contains, AllPairs, get_or, refl, sym, ap, ◌∙◌, subst}
 use Rattle.std.specs.Prelude.{IsPermutation}
-use Rattle.std.proofs.lemmas.Bool.{eq-eqb, eqb-true, eqb-false, ne_eqb}
+use Rattle.std.proofs.lemmas.Bool.{eqb-false, ne_eqb}
 use Rattle.std.proofs.lemmas.Map.Keys.{IsDistinct-IsPermutation, IsDistinct-from_apart, apart_from_distinct}
-use Rattle.radio_model.proofs.Members.{not_in_none, in_head, in_tail, in_either, pairs_tail, pairs_head}
+use Rattle.lwb_base.proofs.Elements.{not_in_none, contains_head, contains_tail, contains_cases, pairs_tail, pairs_head}
+use Rattle.lwb_base.proofs.Orders.{equal_turned}
 
 -- two lists in one strict order with the same elements
 module _ {X : Type 0} (R : X → X → Type 0) (one_way : (x y : X) → R x y → R y x → ⊥) where
   pub same_order : (xs ys : List X) → AllPairs R xs → AllPairs R ys → ((z : X) → Contains xs z → Contains ys z)
       → ((z : X) → Contains ys z → Contains xs z) → xs ≡ ys
   same_order [] [] up down to from = refl
-  same_order [] (y ∷ ys) up down to from = absurd (not_in_none y (from y (in_head ys y)))
-  same_order (x ∷ xs) [] up down to from = absurd (not_in_none x (to x (in_head xs x)))
+  same_order [] (y ∷ ys) up down to from = absurd (not_in_none y (from y (contains_head y ys)))
+  same_order (x ∷ xs) [] up down to from = absurd (not_in_none x (to x (contains_head x xs)))
   same_order (x ∷ xs) (y ∷ ys) up down to from =
       ap (λ (z : X). z ∷ xs) first
       ∙ ap (λ (l : List X). y ∷ l) (same_order xs ys (pairs_tail R x xs up) (pairs_tail R y ys down) to_rest from_rest)
@@ -24,9 +25,9 @@ module _ {X : Type 0} (R : X → X → Type 0) (one_way : (x y : X) → R x y �
 
       first : x ≡ y
       first =
-          elim (in_either ys y x (to x (in_head xs x))) [
+          elim (contains_cases y ys x (to x (contains_head x xs))) [
             | inl is ↦ sym is
-            | inr late ↦ elim (in_either xs x y (from y (in_head ys y))) [
+            | inr late ↦ elim (contains_cases x xs y (from y (contains_head y ys))) [
               | inl is ↦ is
               | inr later ↦ absurd (one_way y x (after_y x late) (after_x y later))
             ]
@@ -34,26 +35,19 @@ module _ {X : Type 0} (R : X → X → Type 0) (one_way : (x y : X) → R x y �
 
       to_rest : (z : X) → Contains xs z → Contains ys z
       to_rest z there =
-          elim (in_either ys y z (to z (in_tail xs x z there))) [
+          elim (contains_cases y ys z (to z (contains_tail x xs z there))) [
             | inl is ↦ (let so : R z z = subst (λ (w : X). R w z) (first ∙ is) (after_x z there) in absurd (one_way z z so so))
             | inr later ↦ later
           ]
 
       from_rest : (z : X) → Contains ys z → Contains xs z
       from_rest z there =
-          elim (in_either xs x z (from z (in_tail ys y z there))) [
+          elim (contains_cases x xs z (from z (contains_tail y ys z there))) [
             | inl is ↦ (let so : R z z = subst (λ (w : X). R w z) (sym first ∙ is) (after_y z there) in absurd (one_way z z so so))
             | inr later ↦ later
           ]
 
 -- elements with a number each, of which no two have the same one, in another order
-turned : (a b : ℕ) → (a == b) ≡ (b == a)
-turned a b = by_test (a == b) refl
-  where
-    by_test : (c : Bool) → (a == b) ≡ c → (a == b) ≡ (b == a)
-    by_test true is = is ∙ sym (eq-eqb b a (sym (eqb-true a b is)))
-    by_test false is = is ∙ sym (ne_eqb b a (λ same. eqb-false a b is (sym same)))
-
 module _ {X : Type 0} (key : X → ℕ) where
   abbrev together : X → X → Bool
   together x y = key x == key y
@@ -64,5 +58,5 @@ module _ {X : Type 0} (key : X → ℕ) where
   pub in_other_order : (xs ys : List X) → IsPermutation xs ys → AllPairs Apart xs → AllPairs Apart ys
   in_other_order xs ys moved all i j d less within =
       let before = IsDistinct-from_apart together xs (λ i j d less within. ne_eqb (key (get_or xs i d)) (key (get_or xs j d)) (all i j d less within)) in
-      let after = IsDistinct-IsPermutation together (λ x y. turned (key x) (key y)) xs ys moved before in
+      let after = IsDistinct-IsPermutation together (λ x y. equal_turned (key x) (key y)) xs ys moved before in
       eqb-false (key (get_or ys i d)) (key (get_or ys j d)) (apart_from_distinct together ys i j d after less within)

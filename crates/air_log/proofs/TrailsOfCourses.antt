@@ -12,6 +12,8 @@ use Rattle.bus_rules.specs.declared.delivery.Delivery.{Delivery}
 use Rattle.radio_model.specs.OnAir.{Sending, Tuning}
 use Rattle.scenario_text.specs.ScenarioParts.{ScenarioParts}
 use Rattle.scenario_text.specs.ScenarioFacts.{IsSoundScenario, turned}
+use Rattle.scenario_text.proofs.BootsTold.{turned_over}
+use Rattle.scenario_text.proofs.BootsCounted.{never_less}
 use Rattle.air_log.specs.declared.entry.HeardEntry.{HeardEntry}
 use Rattle.air_log.specs.Charges.{windows_charge, scanned_frames, scans_with}
 use Rattle.air_log.specs.Devices.{Device, seen_power, silenced}
@@ -19,7 +21,6 @@ use Rattle.air_log.specs.ScriptedDevices.{after_line}
 use Rattle.air_log.specs.Trails.{Reception, setup_of, run_end, frame_start, lines_at, at_frame, before_tick, trail, tune_of, tune_at}
 use Rattle.air_log.specs.TrailsTold.{TrailTold, trail_told}
 use Rattle.air_log.specs.Courses.{CourseState, Shows, Tells, Goes, IsCut, frame_of, end_of, reception_in}
-use Rattle.air_log.proofs.KeptPower.{boots_up, turned_over}
 use Rattle.air_log.proofs.ChargedWindows.{charge_is}
 use Rattle.air_log.proofs.ListCuts.{first_cut}
 
@@ -100,7 +101,7 @@ module _ (clock : ℕ → ℕ) (s : ScenarioParts) (v : ℕ) (hs : List HeardEnt
   few_boots told =
       let over = turned_over v (false, 0) (take told s.script) (drop told s.script) in
       let whole = ap (turned v (false, 0)) (take-append-drop told s.script) in
-      let up = boots_up v (turned v (false, 0) (take told s.script)) (drop told s.script) in
+      let up = never_less v (turned v (false, 0) (take told s.script)) (drop told s.script) in
       let all = ap (λ (b : Bool × ℕ). b.1) (sym over ∙ whole) in
       omega (arith, up, all, sound.few_boots v)
 

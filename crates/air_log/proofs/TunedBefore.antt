@@ -8,7 +8,7 @@ use Rattle.lwb_base.specs.declared.order.Order.{Order}
 use Rattle.lwb_base.specs.declared.order.Order.TheVariants.{Listen, Off, SendAt, Alarm}
 use Rattle.radio_model.specs.declared.sending.Sending.{Sending}
 use Rattle.radio_model.specs.OnAir.{Tuning}
-use Rattle.radio_model.proofs.Members.{not_in_none, in_head, in_tail, in_either}
+use Rattle.lwb_base.proofs.Elements.{not_in_none, contains_head, contains_tail, contains_cases}
 use Rattle.scenario_text.specs.ScenarioParts.{ScenarioParts}
 use Rattle.scenario_text.specs.declared.script.Act.{Act}
 use Rattle.scenario_text.specs.declared.script.Act.TheVariants.{On, Off as OffOf, Declare, Leave, Put}
@@ -66,7 +66,7 @@ module _ (v t : ℕ) (es : List Tuning) where
       let e : Tuning = record { rank = l.rank; node = v; start = l.since; end = t } in
       record {
         by = record {
-          ended = λ d there. elim (in_either es e d there) [
+          ended = λ d there. elim (contains_cases e es d there) [
             | inl is ↦ subst (λ (d : Tuning). (d.start ≤ d.end) × (d.end ≤ t)) is (omega (arith, early), omega arith)
             | inr later ↦ by.ended d later
           ];
@@ -74,15 +74,15 @@ module _ (v t : ℕ) (es : List Tuning) where
         };
         same = λ r k before. (
           λ is. elim is [
-            | inl d ↦ elim (in_either es e d.0 d.1) [
+            | inl d ↦ elim (contains_cases e es d.0 d.1) [
               | inl at ↦ inr (ap (λ (d : Tuning). d.rank) at ∙ d.2.rank, (let since = d.2.since in omega (arith, since, ap (λ (d : Tuning). d.start) at)))
               | inr later ↦ inl (d.0, later, d.2)
             ]
             | inr none ↦ absurd none
           ],
           λ is. elim is [
-            | inl d ↦ inl (d.0, in_tail es e d.0 d.1, d.2)
-            | inr goes ↦ inl (e, in_head es e, record { rank = goes.0; since = goes.1; until = before })
+            | inl d ↦ inl (d.0, contains_tail e es d.0 d.1, d.2)
+            | inr goes ↦ inl (e, contains_head e es, record { rank = goes.0; since = goes.1; until = before })
           ],
         );
       }
@@ -117,14 +117,17 @@ module _ (t rank : ℕ) where
   joined : (e : Tuning) (es : List Tuning) → AllBy t (e ∷ es) None → e.rank ≡ rank → e.end ≡ t
       → Stays t (e ∷ es) None es (Some (record { rank = rank; since = e.start }))
   joined e es by of at = record {
-    by = record { ended = λ d there. by.ended d (in_tail es e d there); since = (let all = by.ended e (in_head es e) in omega (arith, all.0, all.1)) };
+    by = record {
+      ended = λ d there. by.ended d (contains_tail e es d there);
+      since = (let all = by.ended e (contains_head e es) in omega (arith, all.0, all.1));
+    };
     same = λ r k before. (
       λ is. elim is [
-        | inl d ↦ inl (d.0, in_tail es e d.0 d.1, d.2)
-        | inr goes ↦ inl (e, in_head es e, record { rank = of ∙ goes.0; since = goes.1; until = omega (arith, at, before) })
+        | inl d ↦ inl (d.0, contains_tail e es d.0 d.1, d.2)
+        | inr goes ↦ inl (e, contains_head e es, record { rank = of ∙ goes.0; since = goes.1; until = omega (arith, at, before) })
       ],
       λ is. elim is [
-        | inl d ↦ elim (in_either es e d.0 d.1) [
+        | inl d ↦ elim (contains_cases e es d.0 d.1) [
           | inl here ↦
               inr (sym of ∙ ap (λ (d : Tuning). d.rank) here ∙ d.2.rank, (let since = d.2.since in omega (arith, since, ap (λ (d : Tuning). d.start) here)))
           | inr later ↦ inl (d.0, later, d.2)

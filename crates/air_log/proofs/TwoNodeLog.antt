@@ -7,10 +7,12 @@ use Rattle.std.proofs.lemmas.Bool.{or_cases, and_parts, eqb-true, false≢true, 
 use Rattle.std.proofs.lemmas.List.Elements.{All-nil, All-cons}
 use Rattle.std.proofs.lemmas.List.Kept.{AllPairs-cons}
 use Rattle.lwb_base.specs.Profile.{one}
-use Rattle.tick_clock.specs.Clocks.{IsClock, due}
+use Rattle.tick_clock.specs.Clocks.{due}
 use Rattle.tick_clock.proofs.DueTicks.{due_at_most, due_is}
+use Rattle.tick_clock.proofs.Readings.{true_clock}
 use Rattle.glossy_relay.specs.Relaying.{counter_of, reply_to}
 use Rattle.glossy_relay.specs.declared.flood.Reply.TheVariants.{Relay}
+use Rattle.glossy_relay.proofs.CountedPackets.{relay_same}
 use Rattle.scenario_text.specs.FloodParts.{knows}
 use Rattle.air_log.specs.declared.entry.Entry.{Entry}
 use Rattle.air_log.specs.declared.entry.Entry.TheVariants.{Sent, Heard as HeardOf, Tuned}
@@ -22,21 +24,12 @@ use Rattle.air_log.specs.HearsAir.{scene_of}
 use Rattle.air_log.specs.NodeEvents.{Event, Heard, Ended, sending_of, InOrder, after, Occasion}
 use Rattle.air_log.specs.FloodLaw.{FloodLaw, AreEventsOf, IsRelay, Lasts, START, first_packet, first_flood, tuning_by, sending_at}
 use Rattle.air_log.specs.TwoNodeLog.{two_nodes, true_time, packet_with, two_node_log}
-use Rattle.air_log.proofs.Elements.{not_in_none, contains_head, contains_tail, contains_cases, one_of, one_of_two}
-
-true_clock : IsClock (λ t. t)
-true_clock = record { begins = omega arith; fast = λ t d within. omega arith; slow = λ t d within. omega arith }
+use Rattle.air_log.proofs.EventKinds.{ended_not_heard, heard_not_ended}
+use Rattle.lwb_base.proofs.Elements.{contains_head, contains_tail, one_of, one_of_two, all_passes}
 
 -- such a clock comes to a reading at that tick
 due_then : (x : ℕ) → x ≤ 2 ^ 47 → due (λ t. t) x ≡ x
 due_then x small = omega (arith, due_at_most (λ t. t) x x (omega arith), (due_is (λ t. t) x true_clock small).0)
-
--- what a test says of all elements
-all_pass : {X : Type 0} (p : X → Bool) (xs : List X) → list_all p xs ≡ true → (x : X) → Contains xs x → p x ≡ true
-all_pass p [] all x there = absurd (not_in_none x there)
-all_pass p (y ∷ ys) all x there =
-    let both = and_parts (p y) _ all in
-    elim (contains_cases y ys x there) [ inl is ↦ ap p (sym is) ∙ both.0 | inr later ↦ all_pass p ys both.1 x later ]
 
 -- a number for the kind and node of an entry: no two of the log have the same
 number_of : Entry → ℕ
@@ -108,12 +101,6 @@ first_tuning = tuning_by 1 1 (events 1)
 
 abbrev second_tuning : Tuning
 second_tuning = tuning_by 1 2 (events 2)
-
-ended_not_heard : (x y : Sending) → Ended x ≡ Heard y → ⊥
-ended_not_heard x y is = cc
-
-heard_not_ended : (x y : Sending) → Heard x ≡ Ended y → ⊥
-heard_not_ended x y is = cc
 
 -- the events of each node
 events_one : AreEventsOf two_node_log 1 (events 1)
@@ -212,9 +199,6 @@ hears_only v x here h =
     v here h
 
 -- who relays
-relay_same : (p q : List ℕ) → Relay p ≡ Relay q → p ≡ q
-relay_same p q is = cc
-
 abbrev Relays : ℕ → Sending → Type 0
 Relays v x = IsRelay two_nodes (true_time v) (events v) x
 
@@ -259,7 +243,7 @@ two_nodes_keep_the_law = record {
   once = differ_in_pairs two_node_log entries_differ;
   events = events;
   happened = at_nodes (λ v. AreEventsOf two_node_log v (events v)) events_one events_two;
-  known = all_pass (λ e. knows two_nodes.nodes (node_of e)) two_node_log refl;
+  known = all_passes (λ e. knows two_nodes.nodes (node_of e)) two_node_log refl;
   tuned = λ t. (
     λ there. elim (one_of_two first_tuning second_tuning t there) [
       | inl is ↦ subst (λ (t : Tuning). (knows two_nodes.nodes t.node ≡ true) × (t ≡ tuning_by 1 t.node (events t.node))) is (refl, refl)

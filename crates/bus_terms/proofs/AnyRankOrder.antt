@@ -7,18 +7,19 @@ use Rattle.std.proofs.lemmas.List.Sorted.{list_any-IsPermutation}
 use Rattle.std.proofs.lemmas.Map.Keys.{IsDistinct-IsPermutation, IsDistinct-head, IsDistinct-tail}
 use Rattle.scenario_text.specs.ScenarioFacts.{IsSoundScenario}
 use Rattle.scenario_text.specs.ScenarioParts.{ScenarioParts}
+use Rattle.scenario_text.specs.FloodDrafts.{Climbs}
 use Rattle.bus_rules.specs.States.{State}
 use Rattle.bus_terms.specs.Bus.{ranks_of, state_at}
 use Rattle.bus_terms.specs.Flooding.{has}
 use Rattle.bus_terms.specs.RankOrders.{rounds_in_turn}
 use Rattle.bus_terms.specs.Rounds.{rank_in, round, round_deliveries, rounds}
 use Rattle.bus_terms.proofs.KeptRanks.{elsewhere, hosted, round_rank}
-use Rattle.bus_terms.proofs.ListsInTurn.{InTurn, range_in_turn}
+use Rattle.bus_terms.proofs.ListsInTurn.{range_in_turn}
 use Rattle.bus_terms.proofs.OtherRanks.{round_elsewhere}
 use Rattle.bus_terms.proofs.SameRounds.{IsAlike, same_deliveries, same_round}
 
 -- numbers that rise differ, and each below the end is there
-rising_differ : (xs : List ℕ) → InTurn (λ j k. j < k) xs → IsDistinct eqb xs
+rising_differ : (xs : List ℕ) → Climbs (λ j k. j < k) xs → IsDistinct eqb xs
 unfolding IsDistinct
 rising_differ [] rise = tt
 rising_differ (x ∷ xs) rise = (apart xs rise.0, rising_differ xs rise.1)

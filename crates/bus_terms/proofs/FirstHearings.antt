@@ -2,9 +2,10 @@
 use Rattle.std.proofs.Common.{◌≡◌, ℕ, zero, suc, ◌↔◌, Bool, false, ◌+◌, ◌<◌, true, not, ◌&&◌, ◌||◌, if◌then◌else◌, inl}
 use Rattle.std.proofs.Common.{inr, Option, Some, None, refl, sym, ◌∙◌, ap, subst, arith, nat_lt, ◌==◌}
 use Rattle.std.proofs.lemmas.Bool.{cases_lt, and_parts, eqb-true, ltb-true}
+use Rattle.lwb_base.proofs.Options.{not_both}
 use Rattle.bus_terms.specs.Flooding.{Setting, moment, has, candidates, named, pick, agrees, may_hear}
 use Rattle.bus_terms.specs.Flooding.{takes, hears, first_heard, Hears, Accepts, accepted, STEPS}
-use Rattle.bus_terms.proofs.Options.{inspect, only_from, from_filter, heard_parts, sends_parts, not_both, named_parts}
+use Rattle.bus_terms.proofs.Options.{inspect, only_from, from_filter, heard_parts, sends_parts, named_parts}
 
 -- what is kept by step n is the first hearing
 pub record FirstHearing (s : Setting) (n v : ℕ) (h : ℕ × ℕ) : Type 0 where

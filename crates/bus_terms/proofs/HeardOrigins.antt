@@ -1,8 +1,9 @@
 -- What is sent and heard in a flood by steps is an initiator's.
 use Rattle.std.proofs.Common.{◌≡◌, ℕ, zero, suc, ◌+◌, true, nat_lt, inl, inr, Some, subst}
+use Rattle.std.proofs.lemmas.Option.{same_Some}
 use Rattle.bus_terms.specs.Flooding.{Setting, Moment, moment, has, offer, candidates, named, pick, may_hear, takes, hears, STEPS}
 use Rattle.bus_terms.proofs.FirstHearings.{first_hearing}
-use Rattle.bus_terms.proofs.Options.{only_from, from_filter, heard_parts, sends_parts, named_parts, some_injective}
+use Rattle.bus_terms.proofs.Options.{only_from, from_filter, heard_parts, sends_parts, named_parts}
 
 module _ (s : Setting) where
   -- of what is heard where all that is sent is an initiator's
@@ -17,7 +18,7 @@ module _ (s : Setting) where
   unfolding moment
   sent_origin zero u o is =
       let begun = sends_parts (has s.initiators u) (Some u) o is in
-      subst (λ (w : ℕ). has s.initiators w ≡ true) (some_injective u o begun.1) begun.0
+      subst (λ (w : ℕ). has s.initiators w ≡ true) (same_Some u o begun.1) begun.0
   sent_origin (suc k) u o is =
       heard_of k (moment s k) (sent_origin k) u o (sends_parts (nat_lt (k + 1) STEPS) (hears s (moment s k) k u) o is).1
 

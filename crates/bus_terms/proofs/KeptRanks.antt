@@ -17,11 +17,12 @@ use Rattle.bus_rules.specs.declared.tune.Tune.TheVariants.{Scan, Hold, Host}
 use Rattle.bus_rules.specs.Cores.{Core, Setup, as_host, begins_host, frame_ended, is_fresh, is_member, opening_accepted, closing_accepted, schedule_accepted}
 use Rattle.bus_rules.specs.HostPlans.{host_plan}
 use Rattle.bus_rules.specs.Plans.{last_slot, opening}
-use Rattle.bus_rules.specs.Slots.{Message, ScheduleOf, DataOf, RequestOf, opened, closed, slot_heard, hosts_now, host_closes, silent, is_own, data_of}
+use Rattle.bus_rules.specs.Slots.{Message, ScheduleOf, DataOf, RequestOf, opened, closed, hosts_now, host_closes, silent, is_own, data_of}
 use Rattle.bus_rules.specs.Slots.{part_of, request_of}
 use Rattle.bus_rules.specs.States.{State, StateOff, StateOn, at_core, refuses, queues}
 use Rattle.bus_rules.specs.Streams.{Waiting, first_waiting, requested}
 use Rattle.bus_rules.specs.Tuning.{rank_of, is_rank, next_tune}
+use Rattle.bus_rules.proofs.Ranks.{same_schedule, heard_rank}
 use Rattle.bus_terms.specs.Bus.{before_frame, state_at}
 use Rattle.bus_terms.specs.Flooding.{accepted}
 use Rattle.bus_terms.specs.Rounds.{accepted_at, after_round, after_slot, before_slot, closed_by, left_by, opened_at, rank_in, round, round_plan, rounds}
@@ -34,9 +35,6 @@ abbrev IsOfRank : ℕ → Message → Type 0
 IsOfRank rank (ScheduleOf x) = ((x.gap == 0) ≡ true) ⊎ (x.plan.rank ≡ rank)
 IsOfRank rank (DataOf d) = Unit {0}
 IsOfRank rank (RequestOf a) = Unit {0}
-
-said_same : (x y : Schedule) → Some (ScheduleOf x) ≡ Some (ScheduleOf y) → x ≡ y
-said_same x y is = cc
 
 -- a window opens and closes
 opened_rank : (q : Setup) (f : ℕ) (part : Part) (c : Core) → rank_of (opened q f part c).core.tune ≡ rank_of c.tune
@@ -56,7 +54,7 @@ said_rank q f part c (RequestOf a) said = tt
 said_rank q f Opening c (ScheduleOf x) said = by_test (hosts_now f c) said
   where
     by_test : (b : Bool) → (if b then Some (ScheduleOf (opening c.plan)) else None) ≡ Some (ScheduleOf x) → IsOfRank (rank_of c.tune) (ScheduleOf x)
-    by_test true is = inl (ap (λ (y : Schedule). y.gap == 0) (sym (said_same (opening c.plan) x is)))
+    by_test true is = inl (ap (λ (y : Schedule). y.gap == 0) (sym (same_schedule (opening c.plan) x is)))
     by_test false is = absurd (cc)
 said_rank q f (DataSlot owner) c (ScheduleOf x) said = absurd (by_owner (node_of owner == q.id) (first_waiting c.streams (stream_of owner)) said)
   where
@@ -75,14 +73,8 @@ said_rank q f Closing c (ScheduleOf x) said = by_test (hosts_now f c) said
     by_test : (b : Bool) → (if b then host_closes q f c else silent c).message ≡ Some (ScheduleOf x) → IsOfRank (rank_of c.tune) (ScheduleOf x)
     by_test true is =
         let h = host_plan q.profile q.id c.boot (rank_of c.tune) f c.kept c.table c.streams in
-        inr (ap (λ (y : Schedule). y.plan.rank) (sym (said_same (record { plan = h.plan; gap = h.gap }) x is)))
+        inr (ap (λ (y : Schedule). y.plan.rank) (sym (same_schedule (record { plan = h.plan; gap = h.gap }) x is)))
     by_test false is = absurd (cc)
-
-heard_rank : (f : ℕ) (part : Part) (b : Bool) (c : Core) → rank_of (slot_heard f part b c).tune ≡ rank_of c.tune
-heard_rank f Opening b c = refl
-heard_rank f (DataSlot owner) b c = refl
-heard_rank f (Contention i) b c = refl
-heard_rank f Closing b c = refl
 
 taken_rank : (node rank f : ℕ) (x : Schedule) (c : Core) → rank_of c.tune ≡ rank → IsOfRank rank (ScheduleOf x)
     → rank_of (schedule_accepted node f x c).tune ≡ rank

@@ -13,9 +13,9 @@ pub mod KeptRanks
 pub mod NumbersKept
 pub mod ListsInTurn
 pub mod OrderedDeliveries
+pub mod WorkedBuses
 -- for this crate alone
 mod WorkedFloods
-mod WorkedBuses
 mod SameRounds
 mod AnyRankOrder
 pub mod NumberedStreams

@@ -3,39 +3,29 @@ use Rattle.std.proofs.Common.{◌≡◌, ℕ, zero, suc, ◌+◌, ◌<◌, List,
 use Rattle.std.specs.List.{AllByRecursion, cons_option, range_with_len}
 use Rattle.std.proofs.lemmas.List.Kept.{AllPairs-cons}
 use Rattle.std.proofs.lemmas.List.Elements.{All-from_recursion, recursion_from_All}
+use Rattle.lwb_base.proofs.Lists.{each_more, each_append}
+use Rattle.scenario_text.specs.FloodDrafts.{Climbs}
 
-abbrev pub InTurn : {X : Type 0} → (X → X → Type 0) → List X → Type 0
-InTurn R [] = Unit {0}
-InTurn R (x ∷ xs) = AllByRecursion (R x) xs × InTurn R xs
-
-pub in_turn_pairs : {X : Type 0} (R : X → X → Type 0) (xs : List X) → InTurn R xs → AllPairs R xs
+pub in_turn_pairs : {X : Type 0} (R : X → X → Type 0) (xs : List X) → Climbs R xs → AllPairs R xs
 in_turn_pairs R [] is i j d before within = absurd (omega arith)
 in_turn_pairs R (x ∷ xs) is i j d before within =
     AllPairs-cons R x xs (All-from_recursion (R x) xs is.0) (in_turn_pairs R xs is.1) i j d before within
 
-pub pairs_in_turn : {X : Type 0} (R : X → X → Type 0) (xs : List X) → AllPairs R xs → InTurn R xs
+pub pairs_in_turn : {X : Type 0} (R : X → X → Type 0) (xs : List X) → AllPairs R xs → Climbs R xs
 pairs_in_turn R [] pairs = tt
 pairs_in_turn R (x ∷ xs) pairs = (
   recursion_from_All (R x) xs (λ j d within. pairs 0 (suc j) d (omega arith) (omega arith)),
   pairs_in_turn R xs (λ i j d before within. pairs (suc i) (suc j) d (omega arith) (omega arith)),
 )
 
-pub each_more : {X : Type 0} (P Q : X → Type 0) → ((x : X) → P x → Q x) → (xs : List X) → AllByRecursion P xs → AllByRecursion Q xs
-each_more P Q gives [] is = tt
-each_more P Q gives (x ∷ xs) is = (gives x is.0, each_more P Q gives xs is.1)
-
-pub each_append : {X : Type 0} (P : X → Type 0) (xs ys : List X) → AllByRecursion P xs → AllByRecursion P ys → AllByRecursion P (xs ++ ys)
-each_append P [] ys first second = second
-each_append P (x ∷ xs) ys first second = (first.0, each_append P xs ys first.1 second)
-
-pub turn_append : {X : Type 0} (R : X → X → Type 0) (xs ys : List X) → InTurn R xs → InTurn R ys → AllByRecursion (λ x. AllByRecursion (R x) ys) xs
-    → InTurn R (xs ++ ys)
+pub turn_append : {X : Type 0} (R : X → X → Type 0) (xs ys : List X) → Climbs R xs → Climbs R ys → AllByRecursion (λ x. AllByRecursion (R x) ys) xs
+    → Climbs R (xs ++ ys)
 turn_append R [] ys first second across = second
 turn_append R (x ∷ xs) ys first second across = (each_append (R x) xs ys first.0 across.0, turn_append R xs ys first.1 second across.1)
 
 -- pieces one after another
 module _ {X Y : Type 0} (S : X → X → Type 0) (R : Y → Y → Type 0) (T : X → Y → Type 0) (g : X → List Y)
-    (each : (x : X) → AllByRecursion (T x) (g x)) (within : (x : X) → InTurn R (g x))
+    (each : (x : X) → AllByRecursion (T x) (g x)) (within : (x : X) → Climbs R (g x))
     (across : (x y : X) → S x y → (a b : Y) → T x a → T y b → R a b) where
   piece_before : (x : X) (a : Y) → T x a → (ys : List X) → AllByRecursion (S x) ys → AllByRecursion (R a) (flat_map g ys)
   piece_before x a at [] before = tt
@@ -43,7 +33,7 @@ module _ {X Y : Type 0} (S : X → X → Type 0) (R : Y → Y → Type 0) (T : X
       each_append (R a) (g y) (flat_map g ys) (each_more (T y) (R a) (λ b there. across x y before.0 a b at there) (g y) (each y))
       (piece_before x a at ys before.1)
 
-  pub pieces_in_turn : (xs : List X) → InTurn S xs → InTurn R (flat_map g xs)
+  pub pieces_in_turn : (xs : List X) → Climbs S xs → Climbs R (flat_map g xs)
   pieces_in_turn [] is = tt
   pieces_in_turn (x ∷ xs) is =
       turn_append R (g x) (flat_map g xs) (within x) (pieces_in_turn xs is.1)
@@ -65,11 +55,11 @@ module _ {X Y : Type 0} (S : X → X → Type 0) (R : Y → Y → Type 0) (h : X
       by_given None is rest = rest
       by_given (Some b) is rest = (across x y before.0 a b at is, rest)
 
-  pub given_in_turn : (xs : List X) → InTurn S xs → InTurn R (filter_map h xs)
+  pub given_in_turn : (xs : List X) → Climbs S xs → Climbs R (filter_map h xs)
   given_in_turn [] is = tt
   given_in_turn (x ∷ xs) is = by_given (h x) refl (given_in_turn xs is.1)
     where
-      by_given : (o : Option Y) → h x ≡ o → InTurn R (filter_map h xs) → InTurn R (cons_option o (filter_map h xs))
+      by_given : (o : Option Y) → h x ≡ o → Climbs R (filter_map h xs) → Climbs R (cons_option o (filter_map h xs))
       by_given None at rest = rest
       by_given (Some a) at rest = (given_before x a at xs is.0, rest)
 
@@ -87,6 +77,6 @@ range_from : (low a n : ℕ) → low < a → AllByRecursion (λ x. low < x) (ran
 range_from low a zero below = tt
 range_from low a (suc n) below = (below, range_from low (a + 1) n (omega arith))
 
-pub range_in_turn : (a n : ℕ) → InTurn (λ x y. x < y) (range_with_len a n)
+pub range_in_turn : (a n : ℕ) → Climbs (λ x y. x < y) (range_with_len a n)
 range_in_turn a zero = tt
 range_in_turn a (suc n) = (range_from a (a + 1) n (omega arith), range_in_turn (a + 1) n)

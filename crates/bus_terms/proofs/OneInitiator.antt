@@ -1,10 +1,11 @@
 -- A flood with one initiator: each origin is that one, and who hears is reached by a path.
 use Rattle.std.proofs.Common.{◌≡◌, ℕ, zero, suc, ◌+◌, ◌<◌, List, [], ◌∷◌, Bool, true, false, not, ◌&&◌, ◌||◌, if◌then◌else◌, inl, inr, ⊎_elim}
-use Rattle.std.proofs.Common.{eq-eqb, Option, Some, None, is_some, is_none, refl, sym, ◌∙◌, ap, subst, filter_map, ◌==◌, nat_lt}
-use Rattle.std.proofs.lemmas.Bool.{cases_eq, or_right, or_left, or_from, not_from_false, ne_eqb, cond_both}
-use Rattle.std.proofs.lemmas.Bool.{or_cases, eqb-true, and_parts, and_from, false≢true, ltb-true, lt-ltb}
+use Rattle.std.proofs.Common.{eq-eqb, Option, Some, None, is_some, refl, sym, ◌∙◌, ap, subst, filter_map, ◌==◌, nat_lt}
+use Rattle.std.proofs.lemmas.Bool.{cases_eq, or_right, or_left, or_from, not_from_false, ne_eqb, cond_both, or_cases, eqb-true, and_parts, and_from}
+use Rattle.std.proofs.lemmas.Bool.{false≢true, ltb-true, lt-ltb}
 use Rattle.std.specs.List.{list_any, list_all, cons_option}
 use Rattle.std.specs.Option.{option_and_then}
+use Rattle.lwb_base.proofs.Options.{none_is}
 use Rattle.bus_terms.specs.Flooding.{Setting, Moment, STEPS, has, only_one, named, pick, agrees, may_hear, hears, first_heard, moment, Hears}
 
 -- whether some node sends to v
@@ -129,10 +130,6 @@ any_of p (x ∷ us) u here is =
     (λ there. or_right _ _ (any_of p us u there is))
     (or_cases _ _ here)
 
-none_of : (o : Option ℕ) → is_none o ≡ true → o ≡ None
-none_of None is = refl
-none_of (Some x) is = absurd (false≢true is)
-
 some_of_one : (start : ℕ) (o : Option ℕ) → IsOrigin start o → is_some o ≡ true → o ≡ Some start
 some_of_one start None one is = absurd (false≢true is)
 some_of_one start (Some x) one is = ap (λ (y : ℕ). Some y) one
@@ -161,7 +158,7 @@ module _ (s : Setting) (start : ℕ) (alone : s.initiators ≡ start ∷ []) whe
       let free = and_parts _ _ may.0 in
       let u = witness _ s.everyone both.1 in
       let sends = and_parts _ _ u.2 in
-      (u.0, some_of_one start (m.sends u.0) (one.sends u.0) sends.1, sends.0, none_of _ free.1, ltb-true _ _ may.1, free.0)
+      (u.0, some_of_one start (m.sends u.0) (one.sends u.0) sends.1, sends.0, none_is _ free.1, ltb-true _ _ may.1, free.0)
 
   pub sender : (k v : ℕ) → (moment s k).sends v ≡ Some start → Reached s start k v
   unfolding moment

@@ -1,18 +1,21 @@
 -- Options and lists of origins: the only one of several, and what a filter gives.
 use Rattle.std.proofs.Common.{◌≡◌, ℕ, List, [], ◌∷◌, Bool, true, false, if◌then◌else◌, inl, inr, eq-eqb}
-use Rattle.std.proofs.Common.{Option, Some, None, is_none, refl, sym, ◌∙◌, ap, filter_map, ◌==◌}
+use Rattle.std.proofs.Common.{Option, Some, None, refl, sym, ◌∙◌, ap, filter_map, ◌==◌}
 use Rattle.std.specs.Prelude.{◌⊎◌}
 use Rattle.std.specs.List.{list_all, cons_option}
 use Rattle.std.specs.Option.{option_and_then}
 use Rattle.std.proofs.lemmas.Bool.{cases_Bool, or_right, or_left, or_cases, eqb-true, and_parts, and_from, false≢true, cond-true, cond-false}
+use Rattle.std.proofs.lemmas.Option.{same_Some}
 use Rattle.bus_terms.specs.Flooding.{has, only_one}
+pub use Rattle.std.proofs.lemmas.Option.{same_Some as some_injective}
+pub use Rattle.lwb_base.proofs.Options.{not_both}
 
 pub inspect : {X : Type 0} (o : Option X) → (o ≡ None) ⊎ ((x : X) × (o ≡ Some x))
 inspect None = inl refl
 inspect (Some x) = inr (x, refl)
 
 -- the only one, or the other
-all_are : (o : ℕ) (os : List ℕ) → list_all (λ x. x == o) os ≡ true → (p : ℕ) → has os p ≡ true → p ≡ o
+pub all_are : (o : ℕ) (os : List ℕ) → list_all (λ x. x == o) os ≡ true → (p : ℕ) → has os p ≡ true → p ≡ o
 all_are o [] all p there = absurd (false≢true there)
 all_are o (x ∷ os) all p there =
     let both = and_parts (x == o) _ all in
@@ -37,9 +40,6 @@ only_when (x ∷ os) other o there (inr is) =
       | inr differ ↦ cond-false (list_all (λ y. y == x) os) (Some x) other differ ∙ is
     ]
 
-pub some_injective : (x y : ℕ) → Some x ≡ Some y → x ≡ y
-some_injective x y is = cc
-
 pub only_from : (cs : List ℕ) (other : Option ℕ) (o : ℕ) → only_one cs other ≡ Some o
     → ((has cs o ≡ true) × ((p : ℕ) → has cs p ≡ true → p ≡ o)) ⊎ (other ≡ Some o)
 only_from [] other o is = absurd (none_some o is)
@@ -49,7 +49,7 @@ only_from [] other o is = absurd (none_some o is)
 only_from (x ∷ os) other o is =
     elim (cases_Bool (list_all (λ y. y == x) os)) [
       | inl same ↦
-          (let at : x ≡ o = some_injective x o (sym (cond-true (list_all (λ y. y == x) os) (Some x) other same) ∙ is) in
+          (let at : x ≡ o = same_Some x o (sym (cond-true (list_all (λ y. y == x) os) (Some x) other same) ∙ is) in
           inl (
             or_left (x == o) _ (eq-eqb x o at),
             λ p there. elim (or_cases (x == p) _ there) [ inl here ↦ sym (eqb-true x p here) ∙ at | inr later ↦ all_are x os same p later ∙ at ],
@@ -100,13 +100,6 @@ heard_parts true c (Some p) o is = by_cases (c p) refl is
 pub sends_parts : (early : Bool) (got : Option ℕ) (o : ℕ) → (if early then got else None) ≡ Some o → (early ≡ true) × (got ≡ Some o)
 sends_parts false got o is = absurd (cc)
 sends_parts true got o is = (refl, is)
-
-pub none_is : (o : Option ℕ) → is_none o ≡ true → o ≡ None
-none_is None is = refl
-none_is (Some x) is = absurd (false≢true is)
-
-pub not_both : (o : Option ℕ) (x : ℕ) → o ≡ None → o ≡ Some x → ⊥
-not_both o x none some = cc
 
 pub named_parts : (g : ℕ → Option ℕ) (c : Option ℕ) (o : ℕ) → option_and_then g c ≡ Some o → (u : ℕ) × (c ≡ Some u) × (g u ≡ Some o)
 named_parts g None o is = absurd (cc)

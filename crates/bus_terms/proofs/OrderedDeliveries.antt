@@ -6,8 +6,10 @@ use Rattle.std.specs.Option.{option_map_or}
 use Rattle.std.specs.Prelude.{◌⊎◌, ◌-◌, flat_map}
 use Rattle.std.proofs.lemmas.Bool.{eqb-true, false≢true, cases_Bool, cases_lt, leb-true}
 use Rattle.lwb_base.specs.Messages.{Plan}
+use Rattle.lwb_base.proofs.Lists.{each_more}
 use Rattle.scenario_text.specs.ScenarioParts.{ScenarioParts}
 use Rattle.scenario_text.specs.ScenarioFacts.{IsSoundScenario}
+use Rattle.scenario_text.specs.FloodDrafts.{Climbs}
 use Rattle.bus_rules.specs.declared.delivery.Delivery.{Delivery}
 use Rattle.bus_rules.specs.declared.part.Part.{Part}
 use Rattle.bus_rules.specs.declared.part.Part.TheVariants.{Opening, Data as DataSlot, Contention, Closing}
@@ -22,7 +24,7 @@ use Rattle.bus_terms.specs.ScriptedStates.{scripted}
 use Rattle.bus_terms.specs.Rounds.{Slot, slot_of, said_in, accepted_at, closed_by, before_slot, after_round, round, rounds}
 use Rattle.bus_terms.specs.Rounds.{rank_in, round_plan, slots_of, delivered_at, slot_deliveries, round_deliveries}
 use Rattle.bus_terms.specs.Bus.{before_frame, state_at, frames_of, ranks_of, bus_deliveries, InOrder, Ordered}
-use Rattle.bus_terms.proofs.ListsInTurn.{InTurn, in_turn_pairs, pairs_in_turn, each_more, pieces_in_turn}
+use Rattle.bus_terms.proofs.ListsInTurn.{in_turn_pairs, pairs_in_turn, pieces_in_turn}
 use Rattle.bus_terms.proofs.ListsInTurn.{each_of_pieces, given_in_turn, each_given, range_in_turn}
 use Rattle.bus_terms.proofs.NumbersKept.{IsPast, IsWell, Keeps, keeps_same, keeps_both, script_keeps, ended_keeps}
 use Rattle.bus_terms.proofs.NumbersSaid.{Says, says, slots_keep, number_from, above_then}
@@ -235,7 +237,7 @@ later_frame s f g less a b first second =
 
 -- the lists, from the inside out
 module _ (s : ScenarioParts) (sound : IsSoundScenario s) where
-  in_slot : (rank f : ℕ) (p : Plan) (j : ℕ) → InTurn InOrder (slot_deliveries s rank f p (state_at s f) j)
+  in_slot : (rank f : ℕ) (p : Plan) (j : ℕ) → Climbs InOrder (slot_deliveries s rank f p (state_at s f) j)
   in_slot rank f p j =
       given_in_turn (λ u v. u < v) InOrder (delivered_at s rank f p (state_at s f) j) other_node (ids s.nodes)
       (pairs_in_turn (λ u v. u < v) (ids s.nodes) (ids_rise s.nodes sound.ascending))
@@ -251,10 +253,10 @@ module _ (s : ScenarioParts) (sound : IsSoundScenario s) where
   each_in_slot rank f p j =
       each_given (IsSaidIn s rank f p j) (delivered_at s rank f p (state_at s f) j) (λ v a is. (delivered_from s rank f p j v a is).1) (ids s.nodes)
 
-  in_round : (rank f : ℕ) → InTurn InOrder (round_deliveries s rank f (state_at s f))
+  in_round : (rank f : ℕ) → Climbs InOrder (round_deliveries s rank f (state_at s f))
   in_round rank f = by_plan (round_plan s rank f (state_at s f))
     where
-      by_plan : (p : Option Plan) → InTurn InOrder (option_map_or (λ p. flat_map (slot_deliveries s rank f p (state_at s f)) (slots_of p)) p [])
+      by_plan : (p : Option Plan) → Climbs InOrder (option_map_or (λ p. flat_map (slot_deliveries s rank f p (state_at s f)) (slots_of p)) p [])
       by_plan None = tt
       by_plan (Some p) =
           pieces_in_turn (λ j k. j < k) InOrder (IsSaidIn s rank f p) (slot_deliveries s rank f p (state_at s f)) (each_in_slot rank f p) (in_slot rank f p)
@@ -271,7 +273,7 @@ module _ (s : ScenarioParts) (sound : IsSoundScenario s) where
           (λ j. each_more (IsSaidIn s rank f p j) (IsFrom s rank f) (λ a said. record { plan = p; planned = is; slot = j; said = said }) _
           (each_in_slot rank f p j)) (slots_of p)
 
-  in_frame : (f : ℕ) → InTurn InOrder (flat_map (λ rank. round_deliveries s rank f (state_at s f)) (ranks_of s))
+  in_frame : (f : ℕ) → Climbs InOrder (flat_map (λ rank. round_deliveries s rank f (state_at s f)) (ranks_of s))
   in_frame f =
       pieces_in_turn (λ r q. r < q) InOrder (λ rank a. IsFrom s rank f a) (λ rank. round_deliveries s rank f (state_at s f))
       (λ rank. each_in_round rank f) (λ rank. in_round rank f)

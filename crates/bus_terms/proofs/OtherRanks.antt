@@ -11,6 +11,7 @@ use Rattle.bus_rules.specs.Cores.{is_fresh}
 use Rattle.bus_rules.specs.Plans.{last_slot}
 use Rattle.bus_rules.specs.Slots.{Message, Opened, part_of, is_schedule_part}
 use Rattle.bus_rules.specs.States.{State, StateOff, StateOn}
+use Rattle.bus_rules.proofs.Ranks.{not_scanner}
 use Rattle.bus_terms.specs.FloodOfText.{ids}
 use Rattle.bus_terms.specs.Flooding.{has}
 use Rattle.bus_terms.specs.Rounds.{Slot, opened_at, takes_part, said_in, slot_of, accepted_at, closed_at, closed_by, left_by, after_round, after_slot}
@@ -23,11 +24,6 @@ pub not_member : (rank f : ℕ) (t : Tune) (fresh : Bool) → (rank_of t == rank
 not_member rank f (Scan r w) fresh other = rw other refl
 not_member rank f (Hold r d) fresh other = rw other refl
 not_member rank f (Host r d) fresh other = rw other refl
-
-not_scanner : (rank : ℕ) (t : Tune) → (rank_of t == rank) ≡ false → scans rank t ≡ false
-not_scanner rank (Scan r w) other = other
-not_scanner rank (Hold r d) other = refl
-not_scanner rank (Host r d) other = refl
 
 -- of another rank, or off
 abbrev pub IsElsewhere : ℕ → State → Type 0

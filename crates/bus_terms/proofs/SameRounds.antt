@@ -4,36 +4,25 @@ use Rattle.std.proofs.Common.{◌++◌, find, filter_map, flat_map, option_map, 
 use Rattle.std.specs.Prelude.{◌⊎◌}
 use Rattle.std.specs.List.{cons_option}
 use Rattle.std.specs.Option.{option_map_or, option_or}
-use Rattle.std.proofs.lemmas.Bool.{cases_Bool, false≢true, and_parts}
+use Rattle.std.proofs.lemmas.Bool.{cases_Bool, false≢true}
 use Rattle.std.proofs.lemmas.List.Elements.{filter_agree}
 use Rattle.lwb_base.specs.Messages.{Plan}
 use Rattle.link_trace.specs.Passes.{passes, captured}
 use Rattle.scenario_text.specs.ScenarioParts.{ScenarioParts}
 use Rattle.bus_rules.specs.declared.delivery.Delivery.{Delivery}
 use Rattle.bus_rules.specs.declared.part.Part.{Part}
-use Rattle.bus_rules.specs.declared.tune.Tune.{Tune}
-use Rattle.bus_rules.specs.declared.tune.Tune.TheVariants.{Scan, Hold, Host}
 use Rattle.bus_rules.specs.Cores.{Core}
 use Rattle.bus_rules.specs.Plans.{last_slot}
 use Rattle.bus_rules.specs.Slots.{Closed, Message, Opened, delivery_of, part_of}
 use Rattle.bus_rules.specs.States.{State, StateOff, StateOn}
 use Rattle.bus_rules.specs.Tuning.{rank_of, hosts_in, holds_in}
+use Rattle.bus_rules.proofs.Ranks.{hosts_rank, holds_rank}
 use Rattle.bus_terms.specs.FloodOfText.{ids}
 use Rattle.bus_terms.specs.Flooding.{Setting, accepted}
 use Rattle.bus_terms.specs.Rounds.{Slot, accepted_at, after_round, after_slot, before_slot, closed_at, closed_by, delivered_at, first_node, left_by, opened_at}
 use Rattle.bus_terms.specs.Rounds.{plan_in, round, round_deliveries, round_plan, said_in, slot_deliveries, slot_of, slots_of, takes_part}
 use Rattle.bus_terms.specs.ScriptedStates.{is_on}
 use Rattle.bus_terms.proofs.OtherRanks.{IsElsewhere, closes_nothing, no_part, no_window, slot_elsewhere}
-
-hosts_of : (rank f : ℕ) (t : Tune) → hosts_in rank f t ≡ true → (rank_of t == rank) ≡ true
-hosts_of rank f (Host r due) is = (and_parts (r == rank) (due == f) is).0
-hosts_of rank f (Hold r due) is = absurd (false≢true is)
-hosts_of rank f (Scan r w) is = absurd (false≢true is)
-
-holds_of : (rank f : ℕ) (t : Tune) → holds_in rank f t ≡ true → (rank_of t == rank) ≡ true
-holds_of rank f (Hold r due) is = (and_parts (r == rank) (due == f) is).0
-holds_of rank f (Host r due) is = absurd (false≢true is)
-holds_of rank f (Scan r w) is = absurd (false≢true is)
 
 found_passes : (p : ℕ → Bool) (xs : List ℕ) (x : ℕ) → find p xs ≡ Some x → p x ≡ true
 found_passes p [] x is = absurd (cc)
@@ -173,15 +162,15 @@ module _ (s : ScenarioParts) (rank f : ℕ) where
     same_plan : round_plan s rank f a ≡ round_plan s rank f b
     same_plan =
         ap (λ (o : Option ℕ). option_and_then (λ v. plan_in (a v)) (option_or o (first_node s (is_on holding) a)))
-        (same_first hosting (λ c is. hosts_of rank f c.tune is))
+        (same_first hosting (λ c is. hosts_rank rank f c.tune is))
         ∙ ap (λ (o : Option ℕ). option_and_then (λ v. plan_in (a v)) (option_or (first_node s (is_on hosting) b) o))
-        (same_first holding (λ c is. holds_of rank f c.tune is))
+        (same_first holding (λ c is. holds_rank rank f c.tune is))
         ∙ by_leader (first_node s (is_on hosting) b) (first_node s (is_on holding) b) refl refl
       where
         by_leader : (h o : Option ℕ) → first_node s (is_on hosting) b ≡ h → first_node s (is_on holding) b ≡ o
             → option_and_then (λ v. plan_in (a v)) (option_or h o) ≡ option_and_then (λ v. plan_in (b v)) (option_or h o)
-        by_leader (Some v) o first second = ap plan_in (same_found hosting (λ c is. hosts_of rank f c.tune is) v first)
-        by_leader None (Some v) first second = ap plan_in (same_found holding (λ c is. holds_of rank f c.tune is) v second)
+        by_leader (Some v) o first second = ap plan_in (same_found hosting (λ c is. hosts_rank rank f c.tune is) v first)
+        by_leader None (Some v) first second = ap plan_in (same_found holding (λ c is. holds_rank rank f c.tune is) v second)
         by_leader None None first second = refl
 
     pub same_round : (v : ℕ) → a v ≡ b v → round s rank f a v ≡ round s rank f b v

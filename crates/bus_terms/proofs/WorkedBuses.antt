@@ -18,13 +18,13 @@ use Rattle.lwb_base.specs.Messages.{least}
 use Rattle.bus_terms.specs.Rounds.{before_slot}
 use Rattle.bus_terms.specs.Bus.{before_frame, bus_deliveries, bus_drops, bus_cost, Cost}
 
-abbrev node : ℕ → NodeLine
+abbrev pub node : ℕ → NodeLine
 node v = record { node = v; offset = 0 }
 
-abbrev link : ℕ → ℕ → LinkLine
+abbrev pub link : ℕ → ℕ → LinkLine
 link u v = record { from = u; to = v }
 
-abbrev at : ℕ → ℕ → Act → ScriptLine
+abbrev pub at : ℕ → ℕ → Act → ScriptLine
 at f v a = record { frame = f; node = v; act = a }
 
 abbrev delivery : ℕ → ℕ → ℕ → ℕ → ℕ → ℕ → ℕ → ℕ → ℕ → Delivery

@@ -41,7 +41,3 @@ count_same P p q each [] all = refl
 count_same P p q each (x ∷ xs) all =
     let here : one (p x) ≡ one (q x) = ap one (each x all.0) in
     omega (arith, count_cons p x xs, count_cons q x xs, here, count_same P p q each xs all.1)
-
-pub all_map : {X : Type 0} (P Q : X → Type 0) → ((x : X) → P x → Q x) → (xs : List X) → AllByRecursion P xs → AllByRecursion Q xs
-all_map P Q each [] all = tt
-all_map P Q each (x ∷ xs) all = (each x all.0, all_map P Q each xs all.1)

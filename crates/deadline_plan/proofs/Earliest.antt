@@ -5,15 +5,16 @@ use Rattle.std.proofs.lemmas.Bool.{cond_both, cases_lt, leb-true, leb-false, le-
 use Rattle.std.proofs.lemmas.Bool.Decides.{nat_tests}
 use Rattle.std.proofs.lemmas.List.Concat.{flat_map-cons}
 use Rattle.std.proofs.lemmas.List.Elements.{recursion_from_All, All-from_recursion}
-use Rattle.std.proofs.lemmas.List.Sorted.{IsPermutation-refl, IsPermutation-cons, IsPermutation-trans}
-use Rattle.std.proofs.lemmas.List.Sorted.{IsPermutation-middle, IsPermutation-append_right, IsPermutation-sym, All-permutation}
+use Rattle.std.proofs.lemmas.List.Sorted.{IsPermutation-refl, IsPermutation-cons, IsPermutation-trans, IsPermutation-middle, IsPermutation-append_right}
+use Rattle.std.proofs.lemmas.List.Sorted.{IsPermutation-sym, All-permutation}
 use Rattle.std.specs.List.{AllByRecursion, flat_map}
 use Rattle.std.specs.List.Sorted.{IsPermutation}
+use Rattle.lwb_base.proofs.Lists.{each_more}
 use Rattle.deadline_plan.specs.declared.job.Job.{Job}
 use Rattle.deadline_plan.specs.Jobs.{load, NothingOver}
 use Rattle.deadline_plan.specs.Sorting.{sorted, IsOrdered}
 use Rattle.deadline_plan.specs.Grants.{comes_by, granted, left, grants_from, grants, AreKept}
-use Rattle.deadline_plan.proofs.Counts.{one, count_cons, count_none, count_same, all_map}
+use Rattle.deadline_plan.proofs.Counts.{one, count_cons, count_none, count_same}
 use Rattle.deadline_plan.proofs.InOrder.{count_moved, sorted_moves, ordered_sorted}
 use Rattle.deadline_plan.proofs.JobOrder.{job_order, ends_rise}
 
@@ -107,7 +108,7 @@ served (suc slots) frame until (j ∷ js) rise =
     (λ l. (count_by p l + suc slots ≤ count_by p (j ∷ js)) ⊎ (count_by p l ≤ count_by q (j ∷ js)))
     (λ is. elim (cases_lt until j.end) [
       | inl past ↦
-          (let none : count_by p js ≡ 0 = count_none p js (all_map (λ (k : Job). j.end ≤ k.end) (λ (k : Job). p k ≡ false) (λ k after. lt-leb k.end until
+          (let none : count_by p js ≡ 0 = count_none p js (each_more (λ (k : Job). j.end ≤ k.end) (λ (k : Job). p k ≡ false) (λ k after. lt-leb k.end until
           (omega arith)) js rise.0) in
           inr (omega (arith, none, left_fewer p slots frame js)))
       | inr within ↦
@@ -144,7 +145,7 @@ waits_on slots frame frames js is = record {
       elim (served slots frame (frame + 1 + d) js is.rise)
       [ inl few ↦ omega (arith, few, before, is.due (suc d)) | inr rest ↦ omega (arith, rest, is.room (frame + 1) d) ];
   room = λ from d. omega (arith, left_fewer (falls from (from + d)) slots frame js, is.room from d);
-  ends = all_map (λ (j : Job). j.end ≤ frame + suc frames) (λ (j : Job). j.end ≤ frame + 1 + frames) (λ j by. omega arith) (left slots frame js) (all_left
+  ends = each_more (λ (j : Job). j.end ≤ frame + suc frames) (λ (j : Job). j.end ≤ frame + 1 + frames) (λ j by. omega arith) (left slots frame js) (all_left
       (λ j. j.end ≤ frame + suc frames) slots frame js is.ends);
 }
 
@@ -171,16 +172,16 @@ each_in_time : (slots frame frames : ℕ) (js : List Job) → Waits slots frame 
 unfolding grants_from
 each_in_time slots frame zero js is i = tt
 each_in_time slots frame (suc frames) js is zero =
-    all_map (λ (j : Job). (j.release ≤ frame) × (frame + 0 < j.end)) (InTime (frame + 0)) (λ j at. (omega (arith, at.0), at.1)) (granted slots frame js)
+    each_more (λ (j : Job). (j.release ≤ frame) × (frame + 0 < j.end)) (InTime (frame + 0)) (λ j at. (omega (arith, at.0), at.1)) (granted slots frame js)
     (all_granted (λ j. frame + 0 < j.end) slots frame js (none_late (frame + 0) js (omega (arith, is.due 0))))
 each_in_time slots frame (suc frames) js is (suc i) =
-    all_map (InTime (frame + 1 + i)) (InTime (frame + suc i)) (λ j at. (omega (arith, at.0), omega (arith, at.1))) (get_or (grants_from slots
+    each_more (InTime (frame + 1 + i)) (InTime (frame + suc i)) (λ j at. (omega (arith, at.0), omega (arith, at.1))) (get_or (grants_from slots
     (frame + 1) frames (left slots frame js)) i [])
     (each_in_time slots (frame + 1) frames (left slots frame js) (waits_on slots frame frames js is) i)
 
 rise_of : (js : List Job) → IsOrdered comes_by js → EndsRise js
 rise_of [] is = tt
-rise_of (j ∷ js) is = (all_map (λ k. comes_by j k ≡ true) (λ k. j.end ≤ k.end) (λ k after. ends_rise j k after) js is.0, rise_of js is.1)
+rise_of (j ∷ js) is = (each_more (λ k. comes_by j k ≡ true) (λ k. j.end ≤ k.end) (λ k after. ends_rise j k after) js is.0, rise_of js is.1)
 
 from_none : (r e u : ℕ) → nat_le e u ≡ (nat_le 0 r && nat_le e u)
 from_none r e u = grind (arith, nat_tests)
@@ -201,7 +202,7 @@ module _ (slots frames : ℕ) (js : List Job) (sound : All (λ j. (j.release < j
 
   room_from : (from d : ℕ) → load queue from (from + d) ≤ slots * d
   room_from from zero =
-      let none = count_none (falls from (from + 0)) queue (all_map (λ (j : Job). (j.release < j.end) × (j.end ≤ frames)) (λ j. falls from
+      let none = count_none (falls from (from + 0)) queue (each_more (λ (j : Job). (j.release < j.end) × (j.end ≤ frames)) (λ j. falls from
       (from + 0) j ≡ false) (λ j is. nothing_between from j.release j.end is.0) queue their_ends) in
       omega (arith, none)
   room_from from (suc d) =
@@ -218,13 +219,13 @@ module _ (slots frames : ℕ) (js : List Job) (sound : All (λ j. (j.release < j
         (0 + d)) queue their_ends in
         omega (arith, same, room_from 0 d);
     room = room_from;
-    ends = all_map (λ (j : Job). (j.release < j.end) × (j.end ≤ frames)) (λ j. j.end ≤ 0 + frames) (λ j is. omega (arith, is.1)) queue their_ends;
+    ends = each_more (λ (j : Job). (j.release < j.end) × (j.end ≤ frames)) (λ j. j.end ≤ 0 + frames) (λ j is. omega (arith, is.1)) queue their_ends;
   }
 
   pub are_kept : AreKept js (grants slots frames js)
   are_kept = record {
     once = IsPermutation-trans js queue (flat_map (λ (g : List Job). g) (grants slots frames js)) moved (all_granted_once slots 0 frames queue at_first);
     in_time = λ frame. All-from_recursion (InTime frame) (get_or (grants slots frames js) frame [])
-        (all_map (InTime (0 + frame)) (InTime frame) (λ j at. (omega (arith, at.0), omega (arith, at.1))) (get_or (grants slots frames js) frame [])
+        (each_more (InTime (0 + frame)) (InTime frame) (λ j at. (omega (arith, at.0), omega (arith, at.1))) (get_or (grants slots frames js) frame [])
         (each_in_time slots 0 frames queue at_first frame));
   }

@@ -2,13 +2,14 @@
 use Rattle.std.proofs.Common.{◌≡◌, ℕ, ◌+◌, List, [], ◌∷◌, Bool, true, false, not, count_by, refl, sym, ◌∙◌}
 use Rattle.std.proofs.Common.{ap, subst, arith, inl, inr, suc, ◌<◌, length, get_or, Ordering}
 use Rattle.std.proofs.lemmas.Bool.{cond_both, cases_Bool}
-use Rattle.std.proofs.lemmas.List.Sorted.{IsPermutation-refl, IsPermutation-cons, IsPermutation-trans}
-use Rattle.std.proofs.lemmas.List.Sorted.{IsPermutation-append_comm, IsPermutation-append_left, sum_by-IsPermutation}
+use Rattle.std.proofs.lemmas.List.Sorted.{IsPermutation-refl, IsPermutation-cons, IsPermutation-trans, IsPermutation-append_comm, IsPermutation-append_left}
+use Rattle.std.proofs.lemmas.List.Sorted.{sum_by-IsPermutation}
 use Rattle.std.specs.List.{AllByRecursion}
 use Rattle.std.specs.List.Sorted.{IsPermutation, IsSorted}
 use Rattle.std.specs.Ordering.{is_lt}
+use Rattle.lwb_base.proofs.Lists.{each_more}
 use Rattle.deadline_plan.specs.Sorting.{sorted, insert_by, IsOrdered}
-use Rattle.deadline_plan.proofs.Counts.{one, count_cons, count_none, all_map}
+use Rattle.deadline_plan.proofs.Counts.{one, count_cons, count_none}
 
 -- an order in which two that come by each other are one
 pub record IsOrder {X : Type 0} (by : X → X → Bool) : Type 0 where
@@ -52,7 +53,7 @@ module _ {X : Type 0} (by : X → X → Bool) (order : IsOrder by) where
   ordered_insert x [] is = (tt, tt)
   ordered_insert x (y ∷ ys) is =
       cond_both (by x y) (x ∷ y ∷ ys) (y ∷ insert_by by x ys) (λ l. IsOrdered by l)
-      (λ first. ((first, all_map (λ z. by y z ≡ true) (λ z. by x z ≡ true) (λ z later. order.further x y z first later) ys is.0), is))
+      (λ first. ((first, each_more (λ z. by y z ≡ true) (λ z. by x z ≡ true) (λ z later. order.further x y z first later) ys is.0), is))
       (λ not. (all_insert (λ z. by y z ≡ true) x ys (order.total x y not) is.0, ordered_insert x ys is.1))
 
   pub ordered_sorted : (xs : List X) → IsOrdered by (sorted by xs)
@@ -69,7 +70,7 @@ module _ {X : Type 0} (by : X → X → Bool) (order : IsOrder by) where
             (let p : X → Bool = λ z. not (by y z) in
             let here : one (p x) ≡ 1 = ap (λ (b : Bool). one (not b)) not_first in
             let there : one (p y) ≡ 0 = ap (λ (b : Bool). one (not b)) (reflexive y) in
-            let none : count_by p ys ≡ 0 = count_none p ys (all_map (λ z. by y z ≡ true) (λ z. p z ≡ false) (λ z later. ap not later) ys is.0) in
+            let none : count_by p ys ≡ 0 = count_none p ys (each_more (λ z. by y z ≡ true) (λ z. p z ≡ false) (λ z later. ap not later) ys is.0) in
             absurd (omega (arith, same p, count_cons p x xs, count_cons p y ys, here, there, none)))
       ]
 
@@ -97,7 +98,7 @@ module _ {X : Type 0} (by : X → X → Bool) (order : IsOrder by) where
   ordered_from (x ∷ y ∷ ys) each =
       let rest = ordered_from (y ∷ ys) (λ k d below. each (suc k) d (omega arith)) in
       let first : by x y ≡ true = each 0 x (omega arith) in
-      ((first, all_map (λ z. by y z ≡ true) (λ z. by x z ≡ true) (λ z later. order.further x y z first later) ys rest.0), rest)
+      ((first, each_more (λ z. by y z ≡ true) (λ z. by x z ≡ true) (λ z later. order.further x y z first later) ys rest.0), rest)
 
   -- what a sort leaves
   pub ordered_by_sort : (R : X → X → Ordering) → ((x y : X) → is_lt (R y x) ≡ false → by x y ≡ true) → (xs : List X) → IsSorted R xs → IsOrdered by xs

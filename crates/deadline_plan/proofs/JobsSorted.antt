@@ -2,6 +2,7 @@
 use Rattle.std.proofs.Common.{◌≡◌, ℕ, ◌<◌, true, false, nat_lt, ◌==◌, Ordering, sym, ◌∙◌, ap, arith, inl, inr}
 use Rattle.std.proofs.lemmas.Bool.{cases_lt, cond-true, cond-false, lt-ltb, le-ltb, eq-eqb, false≢true}
 use Rattle.std.specs.Ordering.{nat_cmp, is_lt, ordering_then}
+use Rattle.lwb_base.proofs.Orders.{is_less}
 use Rattle.deadline_plan.specs.declared.job.Job.{Job}
 use Rattle.deadline_plan.specs.Grants.{comes_by}
 use Rattle.deadline_plan.proofs.JobOrder.{comes}
@@ -11,9 +12,6 @@ less x y before o = ap (λ (t : Ordering). is_lt (ordering_then t o)) (cond-true
 
 equal : (x y : ℕ) → x ≡ y → (o : Ordering) → ordering_then (nat_cmp x y) o ≡ o
 equal x y same o = ap (λ (t : Ordering). ordering_then t o) (cond-false (nat_lt x y) _ _ (le-ltb x y (omega arith)) ∙ cond-true (x == y) _ _ (eq-eqb x y same))
-
-less_last : (x y : ℕ) → x < y → is_lt (nat_cmp x y) ≡ true
-less_last x y before = ap is_lt (cond-true (nat_lt x y) _ _ (lt-ltb x y before))
 
 abbrev pub compared : Job → Job → Ordering
 compared x y = ordering_then (nat_cmp x.end y.end) (ordering_then (nat_cmp x.owner y.owner) (nat_cmp x.release y.release))
@@ -36,7 +34,7 @@ agrees x y not =
           let first = equal y.end x.end (sym e) (ordering_then (nat_cmp y.owner x.owner) (nat_cmp y.release x.release)) in
           let second = equal y.owner x.owner (sym o) (nat_cmp y.release x.release) in
           elim (cases_lt y.release x.release) [
-            | inl before ↦ absurd (false≢true (sym not ∙ ap is_lt (first ∙ second) ∙ less_last y.release x.release before))
+            | inl before ↦ absurd (false≢true (sym not ∙ ap is_lt (first ∙ second) ∙ is_less y.release x.release before))
             | inr at ↦ at
           ];
     })

@@ -1,10 +1,11 @@
 -- Owners in ascending order, one after another.
 use Rattle.std.proofs.Common.{◌≡◌, ℕ, zero, suc, ◌-◌, ◌<◌, ◌≤◌, List, [], ◌∷◌, true, false, nat_le, nat_lt}
 use Rattle.std.proofs.Common.{length, take, get_or, refl, sym, ◌∙◌, ap, arith, inl, inr}
-use Rattle.std.proofs.lemmas.Bool.{cases_lt, leb-true, leb-false, le-leb, lt-ltb, and_from, cond-true, false≢true}
+use Rattle.std.proofs.lemmas.Bool.{cases_lt, leb-true, leb-false, le-leb, lt-ltb, and_from, false≢true}
 use Rattle.std.proofs.lemmas.List.{length-take}
 use Rattle.std.specs.List.{slice_get}
 use Rattle.std.specs.Ordering.{nat_cmp, is_lt}
+use Rattle.lwb_base.proofs.Orders.{is_less}
 use Rattle.schedule_codec.specs.OwnerLists.{takes_owner, may_follow}
 use Rattle.deadline_plan.specs.Sorting.{IsOrdered}
 use Rattle.deadline_plan.proofs.InOrder.{IsOrder}
@@ -16,11 +17,8 @@ number_order = record {
   same = λ x y first second. (let a = leb-true x y first in let b = leb-true y x second in omega arith);
 }
 
-pub less_is : (x y : ℕ) → x < y → is_lt (nat_cmp x y) ≡ true
-less_is x y before = ap is_lt (cond-true (nat_lt x y) _ _ (lt-ltb x y before))
-
 pub numbers_agree : (x y : ℕ) → is_lt (nat_cmp y x) ≡ false → nat_le x y ≡ true
-numbers_agree x y not = elim (cases_lt y x) [ inl before ↦ absurd (false≢true (sym not ∙ less_is y x before)) | inr at ↦ le-leb x y at ]
+numbers_agree x y not = elim (cases_lt y x) [ inl before ↦ absurd (false≢true (sym not ∙ is_less y x before)) | inr at ↦ le-leb x y at ]
 
 follows : (xs : List ℕ) (i c d : ℕ) → IsOrdered nat_le xs → i < length xs → c ≡ get_or xs i d
     → may_follow (slice_get (take i xs) (length (take i xs) - 1)) c ≡ true

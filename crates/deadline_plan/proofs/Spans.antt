@@ -5,11 +5,12 @@ use Rattle.std.proofs.Math.Nat.{mul-le-mul_left}
 use Rattle.std.proofs.lemmas.Bool.{cases_lt}
 use Rattle.std.proofs.lemmas.Bool.Decides.{nat_tests}
 use Rattle.std.specs.List.{AllByRecursion}
+use Rattle.lwb_base.proofs.Lists.{each_more}
 use Rattle.deadline_plan.specs.declared.job.Job.{Job}
 use Rattle.deadline_plan.specs.declared.load.Overload.{Overload}
 use Rattle.deadline_plan.specs.Jobs.{load, NothingOver, IsFirstOver}
 use Rattle.deadline_plan.specs.Load.{span, IsLatestOver}
-use Rattle.deadline_plan.proofs.Counts.{one, count_none, count_split, count_same, all_map}
+use Rattle.deadline_plan.proofs.Counts.{one, count_none, count_split, count_same}
 use Rattle.deadline_plan.proofs.StreamJobs.{InFrames}
 
 -- the jobs that are released then and end by that frame
@@ -37,7 +38,7 @@ module _ (frames : ℕ) (js : List Job) (sound : AllByRecursion (InFrames frames
   -- none ends by the frame in which it is released
   pub no_load : (from until : ℕ) → until ≤ from → load js from until ≡ 0
   no_load from until past =
-      count_none (λ j. nat_le from j.release && nat_le j.end until) js (all_map (InFrames frames) (λ j.
+      count_none (λ j. nat_le from j.release && nat_le j.end until) js (each_more (InFrames frames) (λ j.
       (nat_le from j.release && nat_le j.end until) ≡ false) (λ j is. empty from until j.release j.end past is.0) js sound)
     where
       empty : (a u r e : ℕ) → u ≤ a → r < e → (nat_le a r && nat_le e u) ≡ false
@@ -57,7 +58,7 @@ module _ (frames : ℕ) (js : List Job) (sound : AllByRecursion (InFrames frames
 
   pub none_at_first : (a : ℕ) → released_at js a 0 ≡ 0
   none_at_first a =
-      count_none (λ j. (j.release == a) && nat_le j.end 0) js (all_map (InFrames frames) (λ j. ((j.release == a) && nat_le j.end 0) ≡ false)
+      count_none (λ j. (j.release == a) && nat_le j.end 0) js (each_more (InFrames frames) (λ j. ((j.release == a) && nat_le j.end 0) ≡ false)
       (λ j is. empty a j.release j.end is.0) js sound)
     where
       empty : (a r e : ℕ) → r < e → ((r == a) && nat_le e 0) ≡ false

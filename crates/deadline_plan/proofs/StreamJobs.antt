@@ -1,13 +1,14 @@
 -- The jobs of streams: which there are, and how many.
 use Rattle.std.proofs.Common.{◌≡◌, ℕ, zero, suc, ◌+◌, ◌-◌, ◌*◌, ◌/◌, ◌%◌, ◌<◌, ◌≤◌, List, [], ◌∷◌, ◌++◌, Bool, true, false, ◌&&◌, ◌==◌}
 use Rattle.std.proofs.Common.{nat_le, cond, count_by, filter, map, length, refl, sym, ◌∙◌, ap, subst, arith, inl, inr, All}
-use Rattle.std.proofs.Math.Nat.{mul-le-mul_right, mul-le-mul_left}
-use Rattle.std.proofs.lemmas.Bool.{cond_both, cases_Bool, cases_order, and_parts, and_from, leb-true}
-use Rattle.std.proofs.lemmas.Bool.{le-leb, eqb-true, eq-eqb, ne_eqb, false_from_ne_true, false≢true}
+use Rattle.std.proofs.Math.Nat.{mul-le-mul_left}
+use Rattle.std.proofs.lemmas.Bool.{cond_both, cases_Bool, cases_order, and_parts, and_from, leb-true, le-leb, eqb-true, eq-eqb, ne_eqb, false_from_ne_true}
+use Rattle.std.proofs.lemmas.Bool.{false≢true}
 use Rattle.std.proofs.lemmas.List.Concat.{flat_map-cons}
 use Rattle.std.proofs.lemmas.List.Elements.{All-from_recursion}
 use Rattle.std.proofs.lemmas.Nat.{mod-mul-add}
 use Rattle.std.specs.List.{AllByRecursion, range_with_len}
+use Rattle.lwb_base.proofs.Orders.{same_factor}
 use Rattle.deadline_plan.specs.declared.job.Job.{Job}
 use Rattle.deadline_plan.specs.declared.stream.DeadlineStream.{DeadlineStream}
 use Rattle.deadline_plan.specs.Jobs.{IsStream, job, jobs_of, jobs}
@@ -48,17 +49,6 @@ count_once k i (suc n) low high =
         | inl before ↦ (let here : one (i == k) ≡ 0 = ap one (ne_eqb i k (λ is. omega arith))
             in omega (arith, more, here, count_once k (i + 1) n (omega arith) (omega arith)))
         | inr past ↦ absurd (omega arith)
-      ]
-    ]
-
--- two numbers with one product
-same_number : (m k p : ℕ) → 1 ≤ p → m * p ≡ k * p → m ≡ k
-same_number m k p some is =
-    elim (cases_order m k) [
-      | inl same ↦ same
-      | inr other ↦ elim other [
-        | inl below ↦ (let step = mul-le-mul_right p below in absurd (omega (arith, step, is)))
-        | inr above ↦ (let step = mul-le-mul_right p above in absurd (omega (arith, step, is)))
       ]
     ]
 
@@ -104,7 +94,7 @@ module _ (s : DeadlineStream) (is_stream : IsStream s) (frames a b : ℕ) (withi
       let few : k < 0 + frames = omega (arith, below, release, end, within, deadline) in
       count_same (λ (m : ℕ). Unit {0}) test (λ m. m == k)
       (λ m u. elim (cases_Bool (test m)) [
-        | inl is_job ↦ (let t = tested m is_job in is_job ∙ sym (eq-eqb m k (same_number m k s.period period (omega (arith, t.0, release)))))
+        | inl is_job ↦ (let t = tested m is_job in is_job ∙ sym (eq-eqb m k (same_factor m k s.period period (omega (arith, t.0, release)))))
         | inr no_job ↦ no_job ∙ sym (ne_eqb m k (λ same. false≢true (sym no_job ∙ tests m (ap (λ (x : ℕ). s.start + x * s.period) same ∙ release) end)))
       ])
       (range_with_len 0 frames) (all_of (λ m. Unit {0}) (λ m. tt) (range_with_len 0 frames))

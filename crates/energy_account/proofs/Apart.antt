@@ -5,7 +5,7 @@ use Rattle.std.proofs.lemmas.List.Elements.{All-head, All-tail, All-push}
 use Rattle.std.proofs.lemmas.List.Sums.{sum_by-cons}
 use Rattle.std.specs.Prelude.{slice_index_or}
 use Rattle.energy_account.specs.Apart.{AreApart}
-use Rattle.air_log.proofs.Elements.{reversed}
+use Rattle.lwb_base.proofs.Elements.{reversed}
 
 pub all_reverse : {X : Type 0} (P : X → Type 0) (xs : List X) → All P xs → All P (reverse xs)
 all_reverse P [] all = all

@@ -22,7 +22,7 @@ use Rattle.air_log.specs.Entries.{sending_in, tuning_in, sendings_of, tunings_of
 use Rattle.air_log.specs.Lawful.{Lawful, heard_by, sent_by, tuned_by, trail_in, trail_sent, trail_tuned}
 use Rattle.air_log.specs.Trails.{run_end}
 use Rattle.air_log.proofs.AlarmLoop.{early_in_run}
-use Rattle.air_log.proofs.Elements.{filter_from, contains_head, contains_tail, contains_cases}
+use Rattle.lwb_base.proofs.Elements.{filter_from, contains_head, contains_tail, contains_cases}
 use Rattle.air_log.proofs.TrailTunings.{each_tuned}
 use Rattle.energy_account.specs.Apart.{AreApart}
 use Rattle.energy_account.specs.Energies.{sending_time, tuning_time}

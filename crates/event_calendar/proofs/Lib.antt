@@ -1,4 +1,6 @@
-pub mod FirstOfQueues
+-- kept for the crates above
 pub mod OneOrder
-pub mod OrdersThatWait
 pub mod QueuesOfMaps
+-- for this crate alone
+pub mod FirstOfQueues
+pub mod OrdersThatWait

@@ -7,6 +7,7 @@ use Rattle.std.proofs.lemmas.Bool.{cases_eq}
 use Rattle.std.proofs.lemmas.List.Folds.{sum_by-replicate}
 use Rattle.std.proofs.lemmas.List.Sums.{sum_by-set, count_by-le-length}
 use Rattle.std.proofs.lemmas.List.Sorted.{Contains-permutation, length_permutation, IsPermutation-sym}
+use Rattle.lwb_base.proofs.Options.{not_both}
 use Rattle.event_calendar.specs.declared.class.Class.{Class}
 use Rattle.event_calendar.specs.declared.entry.Entry.{Entry}
 use Rattle.event_calendar.specs.declared.queues.Queues.{Queues}
@@ -52,9 +53,6 @@ has_room class map place q within is i =
     let more : count class (changed map place class (Some 0)) + 0 ≡ count class map + 1 = count_here class map place None (Some 0) within is in
     omega (arith, more, count_by-le-length (is_due class) (changed map place class (Some 0)), size_stays map place class (Some 0), i.count, i.room)
 
-none_or_some : (o : Option ℕ) (tick : ℕ) → o ≡ None → o ≡ Some tick → ⊥
-none_or_some o tick none some = absurd (cc)
-
 some_same : (o : Option ℕ) (s t : ℕ) → o ≡ Some s → o ≡ Some t → s ≡ t
 some_same o s t first second = cc
 
@@ -91,7 +89,7 @@ queue_added class map e q after within none i a = record {
     stands x (inl same) = subst (λ (y : Entry). later y.place ≡ Some y.tick) same now
     stands x (inr c) =
         let was = i.stands x c in
-        let apart : x.place ≢ e.place = λ same. none_or_some (at map x.place class) x.tick (ap (λ (p : ℕ). at map p class) same ∙ none) was in
+        let apart : x.place ≢ e.place = λ same. not_both (at map x.place class) x.tick (ap (λ (p : ℕ). at map p class) same ∙ none) was in
         elsewhere map e.place x.place class class (Some e.tick) (inl apart) ∙ was
 
     waits : (x : Entry) → later x.place ≡ Some x.tick → Contains (e ∷ q.entries) x
@@ -135,7 +133,7 @@ queue_removed class map e q after within some i r = record {
 
     waits : (x : Entry) → later x.place ≡ Some x.tick → Contains after.entries x
     waits x is =
-        let apart : x.place ≢ e.place = λ same. none_or_some (later x.place) x.tick (ap later same ∙ now) is in
+        let apart : x.place ≢ e.place = λ same. not_both (later x.place) x.tick (ap later same ∙ now) is in
         let was : at map x.place class ≡ Some x.tick = sym (elsewhere map e.place x.place class class None (inl apart)) ∙ is in
         elim (one_or_other e x after.entries (Contains-permutation q.entries (e ∷ after.entries) x r.entries (i.waits x was))) [
           | inl same ↦ absurd (apart (sym (ap (λ (y : Entry). y.place) same)))
@@ -177,7 +175,7 @@ pub queues_at_first : (places : ℕ) (q : Queues) → IsEmpty places q → HasQu
 queues_at_first places q empty = λ class. record {
   order = subst IsInOrder (sym (empty.entries class)) (λ i j d less below. absurd (omega arith));
   stands = λ e c. absurd (omega (arith, c.1, ap length (empty.entries class)));
-  waits = λ e is. absurd (none_or_some (at (replicate places nothing_due) e.place class) e.tick (nothing_at_first places e.place class) is);
+  waits = λ e is. absurd (not_both (at (replicate places nothing_due) e.place class) e.tick (nothing_at_first places e.place class) is);
   count = ap length (empty.entries class) ∙ sym (nothing_counted class places);
   room = omega (arith, length-replicate {A = Due} places nothing_due, empty.room class);
 }

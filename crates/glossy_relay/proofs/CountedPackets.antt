@@ -1,7 +1,7 @@
 -- Packets with another counter.
 use Rattle.std.proofs.Common.{◌≡◌, ℕ, ◌+◌, ◌<◌, ◌≤◌, List, Option, Some, None, is_some, Bool, true, false, if◌then◌else◌, nat_lt, refl, subst, arith, length}
 use Rattle.std.specs.Prelude.{slice_index, slice_set}
-use Rattle.std.proofs.lemmas.Bool.{and_parts, eqb-true, leb-true, ltb-true, false≢true}
+use Rattle.std.proofs.lemmas.Bool.{cond_both, and_parts, eqb-true, leb-true, ltb-true, false≢true}
 use Rattle.std.proofs.lemmas.List.{get_or-set_same, get_or-set_other, set-set, set-get_or}
 use Rattle.glossy_relay.specs.FloodState.{FloodState}
 use Rattle.lwb_packets.specs.Body.{body}
@@ -13,7 +13,7 @@ use Rattle.schedule_codec.proofs.Readings.{spelled_by}
 use Rattle.schedule_codec.proofs.Heads.{heads_of}
 use Rattle.lwb_packets.specs.declared.kind.Kind.{Kind}
 use Rattle.lwb_packets.specs.declared.kind.Kind.TheVariants.{Schedule, Payload, Request}
-use Rattle.glossy_relay.specs.Relaying.{is_spelling, fits, reply_to, counter_of}
+use Rattle.glossy_relay.specs.Relaying.{is_spelling, fits, reply_to, counter_of, after_heard, first_of}
 use Rattle.glossy_relay.specs.declared.flood.Reply.TheVariants.{Relay, Keep, Ignore}
 
 pub counter_set : (p : List ℕ) (k : ℕ) → 2 < length p → slice_index (slice_set p 2 k) 2 ≡ k
@@ -72,3 +72,11 @@ pub fitting_long : (s : FloodState) (p : List ℕ) → fits s p ≡ true → 2 <
 fitting_long s p is =
     let a = and_parts _ _ is in let b = and_parts _ _ a.0 in let c = and_parts _ _ b.0 in
     long_spelling s.kind p c.1
+
+pub relay_same : (p q : List ℕ) → Relay p ≡ Relay q → p ≡ q
+relay_same p q is = cc
+
+-- who initiates a flood is not changed by what it hears
+pub begun_here : (f : FloodState) (q : List ℕ) → (after_heard f q).initiated ≡ f.initiated
+begun_here f q = cond_both (fits f q) (record f { waiting = nat_lt (counter_of q) 11; first = first_of f.first q }) f
+    (λ (g : FloodState). g.initiated ≡ f.initiated) (λ is. refl) (λ is. refl)

@@ -1,11 +1,12 @@
 -- From the list of what is owed to the table's own rule.
-use Rattle.std.proofs.Common.{◌≡◌, ℕ, zero, suc, ◌+◌, ◌-◌, ◌*◌, ◌^◌, ◌<◌, ◌≤◌, List, [], ◌∷◌, ◌++◌, Bool, true, false, nat_lt, nat_le, cond}
+use Rattle.std.proofs.Common.{◌≡◌, ℕ, zero, suc, ◌+◌, ◌-◌, ◌*◌, ◌^◌, ◌<◌, ◌≤◌, List, [], ◌∷◌, ◌++◌, Bool, nat_lt, nat_le}
 use Rattle.std.proofs.Common.{is_some, get_or, take, map, filter, replicate, Option, Some, ⊎_elim, refl, sym, ◌∙◌, ap, subst, arith}
 use Rattle.std.specs.List.{sum_by, All, slice_get}
 use Rattle.std.specs.Option.{IfSome}
 use Rattle.std.proofs.Math.Nat.{mul-le-mul, div-le_self}
 use Rattle.std.proofs.lemmas.Bool.{ltb-true}
 use Rattle.lwb_base.specs.Profile.{Numbers, IsProfile}
+use Rattle.lwb_base.proofs.Lists.{filter_map_of}
 use Rattle.std.proofs.lemmas.List.{get_or-map, length-map, map-append}
 use Rattle.std.proofs.lemmas.List.Elements.{All-nil, All-append, All-replicate, All-head, All-tail, All-map, All-filter, All-take, filter_passes}
 use Rattle.std.proofs.lemmas.List.Sums.{sum_by-cons}
@@ -15,15 +16,6 @@ use Rattle.bus_rules.specs.Granting.{owed_to, in_turn, turn, turns, given, owner
 use Rattle.stream_table.proofs.Order.{entry_at}
 use Rattle.host_scheduler.specs.declared.debts.Debt.{Debt}
 use Rattle.host_scheduler.specs.Debts.{debt_of, debts_of, code_of, owed_in, codes_owed, all_owed, in_line, beyond, owed_beyond, turns_of, IsCode, IsGrantable}
-
-filter-map : {X Y : Type 0} (g : X → Y) (p : Y → Bool) (xs : List X) → filter p (map g xs) ≡ map g (filter (λ x. p (g x)) xs)
-filter-map g p [] = refl
-filter-map g p (x ∷ xs) = by_test (p (g x)) (filter-map g p xs)
-  where
-    by_test : (b : Bool) → filter p (map g xs) ≡ map g (filter (λ y. p (g y)) xs) → cond b (g x ∷ filter p (map g xs)) (filter p (map g xs))
-        ≡ map g (cond b (x ∷ filter (λ y. p (g y)) xs) (filter (λ y. p (g y)) xs))
-    by_test true rest = ap (λ (l : List _). g x ∷ l) rest
-    by_test false rest = rest
 
 codes_of_debts : (owes : Entry → ℕ) (es : List Entry) → map code_of (debts_of owes es) ≡ map code_in es
 codes_of_debts owes [] = refl
@@ -41,12 +33,12 @@ line_of : (owes : Entry → ℕ) (place : ℕ) (es : List Entry) → in_line pla
 line_of owes place es =
     let first : Debt → Bool = λ d. nat_le place d.code in
     let second : Debt → Bool = λ d. nat_lt d.code place in
-    ap (λ (l : List Debt). l ++ filter second (debts_of owes es)) (filter-map (debt_of owes) first es)
-    ∙ ap (λ (l : List Debt). debts_of owes (filter (λ e. nat_le place e.code) es) ++ l) (filter-map (debt_of owes) second es)
+    ap (λ (l : List Debt). l ++ filter second (debts_of owes es)) (filter_map_of (debt_of owes) first es)
+    ∙ ap (λ (l : List Debt). debts_of owes (filter (λ e. nat_le place e.code) es) ++ l) (filter_map_of (debt_of owes) second es)
     ∙ sym (map-append (debt_of owes) (filter (λ e. nat_le place e.code) es) (filter (λ e. nat_lt e.code place) es))
 
 turn_of : (owes : Entry → ℕ) (line : List Entry) (k : ℕ) → map code_of (beyond k (debts_of owes line)) ≡ turn owes line k
-turn_of owes line k = ap (map code_of) (filter-map (debt_of owes) (owed_beyond k) line) ∙ codes_of_debts owes (filter (λ e. nat_lt k (owes e)) line)
+turn_of owes line k = ap (map code_of) (filter_map_of (debt_of owes) (owed_beyond k) line) ∙ codes_of_debts owes (filter (λ e. nat_lt k (owes e)) line)
 
 turns_are : (owes : Entry → ℕ) (line : List Entry) (k : ℕ) → turns_of (debts_of owes line) k ≡ turns owes line k
 unfolding turns_of turns

@@ -10,13 +10,14 @@ use Rattle.std.proofs.lemmas.List.{take-append-drop, length-take, length-take-le
 use Rattle.std.proofs.lemmas.List.Elements.{filter-append, filter_more}
 use Rattle.std.proofs.lemmas.List.Sums.{sum_by-cons, sum_by_more, sum_by-take-le}
 use Rattle.std.proofs.lemmas.Option.{slice_get-map, slice_get_within, get_or_from_slice_get}
+use Rattle.lwb_base.proofs.Lists.{length_filtered}
 use Rattle.bus_rules.specs.Tables.{Entry, Table, Ascends, entry_of, code_in}
 use Rattle.bus_rules.specs.Granting.{owed_to}
 use Rattle.stream_table.specs.Entries.{owed_by}
 use Rattle.stream_table.proofs.Order.{entry_at}
 use Rattle.host_scheduler.specs.declared.debts.Debt.{Debt}
 use Rattle.host_scheduler.specs.Debts.{debt_of, debts_of, code_of, owed_in, codes_owed, all_owed, in_line, late, early, owed_beyond, beyond, turns_of}
-use Rattle.host_scheduler.proofs.Sifted.{filter_filter, filter_stronger, both_fit, length_filter, take_joined}
+use Rattle.host_scheduler.proofs.Sifted.{filter_filter, filter_stronger, both_fit, take_joined}
 
 -- the owner at a place of the table, with what is owed to it
 pub debt_more : (seconds frame : ℕ) (t : Table) (i owner : ℕ) (ds : List Debt) → Ascends t.entries
@@ -113,7 +114,7 @@ length_line place k ds =
     let second : Debt → Bool = λ d. nat_lt d.code place in
     omega (
       arith,
-      length_filter (owed_beyond k) (in_line place ds),
+      length_filtered (owed_beyond k) (in_line place ds),
       length-append (filter first ds) (filter second ds),
       both_fit first second ds (places_apart place),
     )
@@ -156,7 +157,7 @@ pub late_room : (place : ℕ) (ds : List Debt) (i : ℕ) (line : List Debt) → 
     → line ≡ [] ++ filter (late place) (take i ds) → length line < 32
 late_room place ds i line within few is =
     let cut : length (take i ds) ≡ i = length-take-le i ds (omega arith) in
-    omega (arith, ap length is, length_filter (late place) (take i ds))
+    omega (arith, ap length is, length_filtered (late place) (take i ds))
 
 length_front : (p : Debt → Bool) (k : ℕ) (ds : List Debt) → length (filter p (take k ds)) ≤ length (filter p ds)
 length_front p k ds =

@@ -11,6 +11,7 @@ use Rattle.std.proofs.lemmas.List.Sorted.{sum_by-IsPermutation}
 use Rattle.std.proofs.lemmas.Option.{slice_get-get_or}
 use Rattle.bus_rules.specs.Tables.{Entry, Above, Ascends, entry_of}
 use Rattle.bus_rules.specs.Granting.{count_of, grant, share_in, owners_by}
+use Rattle.bus_rules.proofs.Grants.{count_replicate}
 use Rattle.stream_table.proofs.Order.{entry_at, none_above, apart_from}
 
 abbrev one : ℕ → ℕ → ℕ
@@ -26,10 +27,6 @@ count_other : (c x : ℕ) (xs : List ℕ) → x ≢ c → count_of c (x ∷ xs) 
 count_other c x xs apart =
     let f : Bool → ℕ = λ b. cond b 1 0 + count_of c xs in
     count-cons c x xs ∙ ap f (ne_eqb x c apart) ∙ omega arith
-
-count_replicate : (c n : ℕ) → count_of c (replicate n c) ≡ n
-count_replicate c zero = refl
-count_replicate c (suc n) = omega (arith, count_here c c (replicate n c) refl, count_replicate c n)
 
 count_replicate_other : (c x n : ℕ) → x ≢ c → count_of c (replicate n x) ≡ 0
 count_replicate_other c x zero apart = refl

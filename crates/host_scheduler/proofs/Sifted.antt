@@ -41,14 +41,6 @@ pub both_fit : {X : Type 0} (p q : X → Bool) (xs : List X) → ((x : X) → (p
 both_fit p q [] apart = omega arith
 both_fit p q (x ∷ xs) apart = omega (arith, one_more (p x) (q x) x (filter p xs) (filter q xs) (length xs) (apart x) (both_fit p q xs apart))
 
-no_more : {X : Type 0} (b : Bool) (x : X) (xs : List X) (n : ℕ) → length xs ≤ n → length (cond b (x ∷ xs) xs) ≤ n + 1
-no_more true x xs n few = omega arith
-no_more false x xs n few = omega arith
-
-pub length_filter : {X : Type 0} (p : X → Bool) (xs : List X) → length (filter p xs) ≤ length xs
-length_filter p [] = omega arith
-length_filter p (x ∷ xs) = omega (arith, no_more (p x) x (filter p xs) (length xs) (length_filter p xs))
-
 -- a loop's step: what passes is pushed
 pub sifted : {X : Type 0} (p : X → Bool) (xs : List X) (i : ℕ) (x : X) (old new before : List X) (b : Bool) → i < length xs
     → x ≡ get_or xs i x → b ≡ p x → old ≡ before ++ filter p (take i xs)

@@ -1,8 +1,8 @@
 -- Two lists in which a number ascends are one if they have the same elements.
 use Rattle.std.proofs.Common.{◌≡◌, ℕ, ◌<◌, List, [], ◌∷◌, inl, inr, Contains, refl, sym, ◌∙◌, ap, arith}
 use Rattle.std.specs.List.{AllByRecursion}
-use Rattle.air_log.proofs.Elements.{contains_cases, contains_head, contains_tail, not_in_none}
-use Rattle.bus_terms.proofs.ListsInTurn.{InTurn}
+use Rattle.lwb_base.proofs.Elements.{contains_cases, contains_head, contains_tail, not_in_none}
+use Rattle.scenario_text.specs.FloodDrafts.{Climbs}
 
 module _ {X : Type 0} (key : X → ℕ) where
   abbrev pub Below : X → X → Type 0
@@ -16,7 +16,7 @@ module _ {X : Type 0} (key : X → ℕ) where
         | inr later ↦ each_later x xs all.1 y later
       ]
 
-  module _ (x y : X) (xs ys : List X) (up : InTurn Below (x ∷ xs)) (rise : InTurn Below (y ∷ ys))
+  module _ (x y : X) (xs ys : List X) (up : Climbs Below (x ∷ xs)) (rise : Climbs Below (y ∷ ys))
       (there : (z : X) → Contains (x ∷ xs) z → Contains (y ∷ ys) z) (here : (z : X) → Contains (y ∷ ys) z → Contains (x ∷ xs) z) where
     same_first : x ≡ y
     same_first =
@@ -51,7 +51,7 @@ module _ {X : Type 0} (key : X → ℕ) where
               absurd (omega (arith, above, is)))
         ]
 
-  pub same_ascending : (xs ys : List X) → InTurn Below xs → InTurn Below ys
+  pub same_ascending : (xs ys : List X) → Climbs Below xs → Climbs Below ys
       → ((z : X) → Contains xs z → Contains ys z) → ((z : X) → Contains ys z → Contains xs z) → xs ≡ ys
   same_ascending [] [] up rise there here = refl
   same_ascending [] (y ∷ ys) up rise there here = absurd (not_in_none y (here y (contains_head y ys)))

@@ -9,7 +9,7 @@ use Rattle.bus_rules.specs.Slots.{Data, delivery_of}
 use Rattle.scenario_text.specs.ScenarioParts.{ScenarioParts}
 use Rattle.scenario_text.specs.FloodParts.{knows}
 use Rattle.scenario_text.specs.declared.lines.NodeLine.{NodeLine}
-use Rattle.radio_model.proofs.Members.{any_of, from_filter, from_flat, from_map, in_filter, in_flat, not_in_none}
+use Rattle.lwb_base.proofs.Elements.{any_of, filter_from, from_flat, map_from, in_filter, in_flat, not_in_none}
 use Rattle.bus_terms.specs.Bus.{bus_deliveries, frames_of, ranks_of, state_at}
 use Rattle.bus_terms.specs.FloodOfText.{ids}
 use Rattle.bus_terms.specs.Rounds.{delivered_at, round_deliveries, round_plan, slot_deliveries, slots_of}
@@ -53,9 +53,9 @@ module _ (s : ScenarioParts) where
   from_plan f rank in_run hosted a None is within = absurd (not_in_none a within)
   from_plan f rank in_run hosted a (Some p) is within =
       let slot = from_flat (slot_deliveries s rank f p (state_at s f)) (slots_of p) a within in
-      let node = from_filter (delivered_at s rank f p (state_at s f) slot.0) (ids s.nodes) a slot.2 in
+      let node = filter_from (delivered_at s rank f p (state_at s f) slot.0) (ids s.nodes) a slot.2 in
       let below = (from_range 0 (last_slot p + 1) slot.0 slot.1).1 in
-      let line = from_map (λ (m : NodeLine). m.node) s.nodes node.0 node.1 in
+      let line = map_from (λ (m : NodeLine). m.node) s.nodes node.0 node.1 in
       record {
         frame = f;
         rank = rank;

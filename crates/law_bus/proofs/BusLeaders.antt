@@ -1,12 +1,11 @@
 -- Who leads a round of the bus, and by which plan it goes.
-use Rattle.std.proofs.Common.{◌≡◌, ℕ, List, [], ◌∷◌, Bool, true, ◌==◌, ◌||◌, inl, inr, Option, Some, None, find, option_and_then, refl, sym, ◌∙◌, ap, subst}
+use Rattle.std.proofs.Common.{◌≡◌, ℕ, List, [], ◌∷◌, Bool, true, ◌==◌, inl, inr, Option, Some, None, find, option_and_then, refl, sym, ◌∙◌, ap, subst}
 use Rattle.std.proofs.Common.{eq-eqb, true≢false}
 use Rattle.std.specs.Option.{option_or}
 use Rattle.std.proofs.lemmas.Bool.{cases_Bool, cond-true, cond-false, or_cases, or_left, or_right, eqb-true, false≢true}
 use Rattle.lwb_base.specs.Messages.{Plan}
 use Rattle.scenario_text.specs.ScenarioParts.{ScenarioParts}
 use Rattle.scenario_text.specs.FloodParts.{knows}
-use Rattle.scenario_text.specs.declared.lines.NodeLine.{NodeLine}
 use Rattle.bus_rules.specs.Tuning.{hosts_in, holds_in}
 use Rattle.bus_rules.specs.Cores.{Core}
 use Rattle.bus_rules.specs.States.{State, StateOff, StateOn}
@@ -15,11 +14,7 @@ use Rattle.bus_terms.specs.Flooding.{has}
 use Rattle.bus_terms.specs.ScriptedStates.{is_on}
 use Rattle.bus_terms.specs.Rounds.{plan_in, first_node, round_plan}
 use Rattle.law_bus.proofs.MembersByTune.{leads_by}
-
--- ids of nodes are those that the scenario knows
-pub known_id : (ns : List NodeLine) (v : ℕ) → has (ids ns) v ≡ knows ns v
-known_id [] v = refl
-known_id (n ∷ ns) v = ap (λ (b : Bool). (n.node == v) || b) (known_id ns v)
+use Rattle.lwb_flood.proofs.LogEntries.{ids_known}
 
 -- the first that passes
 module _ (test : ℕ → Bool) where
@@ -102,7 +97,7 @@ module _ (s : ScenarioParts) (rank f : ℕ) (states : ℕ → State) where
       → (x : State) → states u ≡ x → is_on test x ≡ true → plan_in x ≡ Some p → IsLeader p
   led_by test leads u p there (StateOff boots) at passes is = absurd (false≢true passes)
   led_by test leads u p there (StateOn c) at passes is =
-      record { node = u; known = sym (known_id s.nodes u) ∙ there; core = c; on = at; leads = leads c passes; plan = same_plan c.plan p is }
+      record { node = u; known = sym (ids_known s.nodes u) ∙ there; core = c; on = at; leads = leads c passes; plan = same_plan c.plan p is }
 
   led : (test : Core → Bool) → ((c : Core) → test c ≡ true → leads_by rank f c.tune ≡ true) → (u : ℕ) (p : Plan)
       → first_node s (is_on test) states ≡ Some u → plan_in (states u) ≡ Some p → IsLeader p
@@ -142,7 +137,7 @@ module _ (s : ScenarioParts) (rank f : ℕ) (states : ℕ → State) where
   pub has_round : (v : ℕ) (c : Core) → knows s.nodes v ≡ true → states v ≡ StateOn c → leads_by rank f c.tune ≡ true
       → (p : Plan) × (round_plan s rank f states ≡ Some p)
   has_round v c known on leads =
-      let there : has all v ≡ true = known_id s.nodes v ∙ known in
+      let there : has all v ≡ true = ids_known s.nodes v ∙ known in
       elim (or_cases (hosts_in rank f c.tune) _ leads) [
         | inl hosts ↦
             (let one = found (λ (u : ℕ). hosting (states u)) all v there (passes_on (λ c. hosts_in rank f c.tune) v c on hosts) in

@@ -8,10 +8,12 @@ use Rattle.std.proofs.lemmas.Bool.{cases_Bool}
 use Rattle.bus_rules.specs.declared.delivery.Delivery.{Delivery}
 use Rattle.air_log.specs.Deliveries.{comes_before}
 use Rattle.air_log.specs.LogText.{in_order}
-use Rattle.air_log.proofs.DeliveryOrder.{Before, SamePlace, is_order, neither, tied_place}
-use Rattle.air_log.proofs.Elements.{not_in_none, contains_cases, contains_head, in_filtered, filtered}
+use Rattle.air_log.proofs.DeliveryOrder.{Before, SamePlace, is_order, tied_place}
+use Rattle.lwb_base.proofs.Elements.{not_in_none, contains_cases, contains_head, in_filtered, filtered}
+use Rattle.lwb_base.proofs.Truths.{both_not}
 use Rattle.air_log.proofs.StableSorts.{sorted_by_insertion}
-use Rattle.bus_terms.proofs.ListsInTurn.{InTurn, in_turn_pairs}
+use Rattle.bus_terms.proofs.ListsInTurn.{in_turn_pairs}
+use Rattle.scenario_text.specs.FloodDrafts.{Climbs}
 
 abbrev pub Apart : Delivery → Delivery → Type 0
 Apart a b = ties comes_before a b ≡ false
@@ -28,8 +30,8 @@ tied_so z x y first apart false is = refl
 tied_so z x y first apart true is =
     let one = tied_place z x first in
     let two = tied_place z y is in
-    let so = neither (comes_before z x) (comes_before x z) first in
-    let then_ = neither (comes_before z y) (comes_before y z) is in
+    let so = both_not (comes_before z x) (comes_before x z) first in
+    let then_ = both_not (comes_before z y) (comes_before y z) is in
     let up : comes_before x y ≡ false = is_order.chain x z y so.1 then_.0 in
     let down : comes_before y x ≡ false = is_order.chain y z x then_.1 so.0 in
     absurd (true≢false (ap (λ (c : Bool). not c && not false) (sym up) ∙ ap (λ (c : Bool). not (comes_before x y) && not c) (sym down) ∙ apart))
@@ -46,7 +48,7 @@ all_so z x tied (y ∷ xs) all = (tied_so z x y tied all.0 (ties comes_before z 
 abbrev OneOrNone : List Delivery → Type 0
 OneOrNone xs = (xs ≡ []) ⊎ ((a : Delivery) × (xs ≡ a ∷ []))
 
-one_tied : (z : Delivery) (xs : List Delivery) → InTurn Apart xs → OneOrNone (filter (ties comes_before z) xs)
+one_tied : (z : Delivery) (xs : List Delivery) → Climbs Apart xs → OneOrNone (filter (ties comes_before z) xs)
 one_tied z [] turn = inl refl
 one_tied z (x ∷ xs) turn =
     elim (cases_Bool (ties comes_before z x)) [
@@ -63,13 +65,13 @@ only_one : (a b : Delivery) → Contains (b ∷ []) a → a ≡ b
 only_one a b there = elim (contains_cases b [] a there) [ inl same ↦ sym same | inr none ↦ absurd (not_in_none a none) ]
 
 -- a list in turn is what another with the same elements is in order
-module _ (xs ys : List Delivery) (apart : InTurn Apart xs) (turn : InTurn Before ys)
+module _ (xs ys : List Delivery) (apart : Climbs Apart xs) (turn : Climbs Before ys)
     (there : (d : Delivery) → Contains xs d → Contains ys d) (here : (d : Delivery) → Contains ys d → Contains xs d) where
   each_apart : (zs : List Delivery) (x : Delivery) → AllByRecursion (Before x) zs → AllByRecursion (Apart x) zs
   each_apart [] x all = tt
   each_apart (z ∷ zs) x all = (before_apart x z all.0, each_apart zs x all.1)
 
-  turn_apart : (zs : List Delivery) → InTurn Before zs → InTurn Apart zs
+  turn_apart : (zs : List Delivery) → Climbs Before zs → Climbs Apart zs
   turn_apart [] all = tt
   turn_apart (z ∷ zs) all = (each_apart zs z all.0, turn_apart zs all.1)
 

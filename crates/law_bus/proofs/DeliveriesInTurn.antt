@@ -13,11 +13,13 @@ use Rattle.node_core.specs.Rows.{accepted_in}
 use Rattle.scenario_text.specs.ScenarioParts.{ScenarioParts}
 use Rattle.scenario_text.specs.ScenarioFacts.{IsSoundScenario}
 use Rattle.scenario_text.specs.FloodParts.{knows}
+use Rattle.scenario_text.specs.FloodDrafts.{Climbs}
 use Rattle.air_log.specs.declared.entry.Entry.{Entry}
 use Rattle.air_log.specs.Lawful.{trail_in}
 use Rattle.air_log.specs.Trails.{run_end, setup_of}
 use Rattle.air_log.specs.WindowLogs.{WindowLog, Closing}
-use Rattle.air_log.proofs.Elements.{contains_cases, contains_head, contains_tail, not_in_none}
+use Rattle.lwb_base.proofs.Elements.{contains_cases, contains_head, contains_tail, not_in_none}
+use Rattle.lwb_base.proofs.Lists.{each_more}
 use Rattle.law_windows.specs.OpenWindows.{AreApart, HasClosedBy}
 use Rattle.law_windows.specs.WindowDeliveries.{at_closing, delivered_by, delivered_in}
 use Rattle.law_windows.specs.WindowTimes.{ClosesInTime, IsInTime}
@@ -25,7 +27,7 @@ use Rattle.law_windows.proofs.WindowFacts.{close_in_time, one_a_slot, open_in_ti
 use Rattle.bus_terms.specs.FloodOfText.{ids}
 use Rattle.bus_terms.specs.Rounds.{delivered_at, round_deliveries, round_plan, slot_deliveries, slots_of}
 use Rattle.bus_terms.specs.Bus.{bus_deliveries, frames_of, ranks_of, state_at}
-use Rattle.bus_terms.proofs.ListsInTurn.{InTurn, each_given, each_more, each_of_pieces, given_in_turn, pairs_in_turn, pieces_in_turn, range_in_turn}
+use Rattle.bus_terms.proofs.ListsInTurn.{each_given, each_of_pieces, given_in_turn, pairs_in_turn, pieces_in_turn, range_in_turn}
 use Rattle.bus_terms.proofs.ListsInTurn.{turn_append}
 use Rattle.bus_terms.proofs.ReceivedInRounds.{ids_rise}
 use Rattle.law_terms.specs.LawfulRuns.{IsLawfulRun}
@@ -64,7 +66,7 @@ module _ (s : ScenarioParts) (sound : IsSoundScenario s) where
   abbrev AtFrame : ℕ → Delivery → Type 0
   AtFrame f a = a.frame ≡ f
 
-  in_slot : (f rank : ℕ) (p : Plan) (j : ℕ) → InTurn Before (of_slot f rank p j)
+  in_slot : (f rank : ℕ) (p : Plan) (j : ℕ) → Climbs Before (of_slot f rank p j)
   in_slot f rank p j =
       given_in_turn (λ u v. u < v) Before (delivered_at s rank f p (state_at s f) j) by_nodes (ids s.nodes)
       (pairs_in_turn (λ u v. u < v) (ids s.nodes) (ids_rise s.nodes sound.ascending))
@@ -83,7 +85,7 @@ module _ (s : ScenarioParts) (sound : IsSoundScenario s) where
       each_given (AtSlot f rank j) (delivered_at s rank f p (state_at s f) j)
       (λ v a is. let at = placed_so f rank j v _ a is in (at.frame, at.rank_is, at.slot)) (ids s.nodes)
 
-  in_round : (f rank : ℕ) (p : Option Plan) → InTurn Before (option_map_or (λ p. flat_map (slot_deliveries s rank f p (state_at s f)) (slots_of p)) p [])
+  in_round : (f rank : ℕ) (p : Option Plan) → Climbs Before (option_map_or (λ p. flat_map (slot_deliveries s rank f p (state_at s f)) (slots_of p)) p [])
   in_round f rank None = tt
   in_round f rank (Some p) =
       pieces_in_turn (λ j k. j < k) Before (AtSlot f rank) (of_slot f rank p) (each_in_slot f rank p) (in_slot f rank p)
@@ -101,7 +103,7 @@ module _ (s : ScenarioParts) (sound : IsSoundScenario s) where
   abbrev of_round : ℕ → ℕ → List Delivery
   of_round f rank = round_deliveries s rank f (state_at s f)
 
-  in_frame : (f : ℕ) → InTurn Before (flat_map (of_round f) (ranks_of s))
+  in_frame : (f : ℕ) → Climbs Before (flat_map (of_round f) (ranks_of s))
   in_frame f =
       pieces_in_turn (λ r q. r < q) Before (AtRank f) (of_round f)
       (λ rank. each_in_round f rank (round_plan s rank f (state_at s f))) (λ rank. in_round f rank (round_plan s rank f (state_at s f)))
@@ -113,7 +115,7 @@ module _ (s : ScenarioParts) (sound : IsSoundScenario s) where
       each_of_pieces (AtFrame f) (of_round f) (λ rank. each_more (AtRank f rank) (AtFrame f)
       (λ a at. at.0) _ (each_in_round f rank (round_plan s rank f (state_at s f)))) (ranks_of s)
 
-  pub bus_in_turn : InTurn Before (bus_deliveries s)
+  pub bus_in_turn : Climbs Before (bus_deliveries s)
   bus_in_turn =
       pieces_in_turn (λ f g. f < g) Before AtFrame (λ f. flat_map (of_round f) (ranks_of s)) each_in_frame in_frame
       (λ f g less a b first second. by_frame a b (omega (arith, first, second, less))) (frames_of s) (range_in_turn 0 s.frames)
@@ -164,7 +166,7 @@ window_place : (S : Setup) (w : WindowLog) (a : Delivery) → at_closing S w ≡
 window_place S w a is =
     placed_so w.frame w.rank w.slot S.id (closed S w.frame w.last.part w.last.flood.initiated w.after.core (accepted_in w.last)).delivered a is
 
-windows_deliver_apart : (S : Setup) (ws : List WindowLog) → InTurn OtherSlot ws → InTurn Apart (delivered_in S ws)
+windows_deliver_apart : (S : Setup) (ws : List WindowLog) → Climbs OtherSlot ws → Climbs Apart (delivered_in S ws)
 windows_deliver_apart S [] other = tt
 windows_deliver_apart S (w ∷ ws) other =
     turn_append Apart (delivered_in S ws) (option_to_list (delivered_by S w w.closed))
@@ -177,7 +179,7 @@ windows_deliver_apart S (w ∷ ws) other =
     places_apart a b (λ same. other_from ws other.0 first.window first.there
     (sym two.frame ∙ sym same.frame ∙ one.frame) (sym two.rank_is ∙ sym same.rank ∙ one.rank_is) (sym two.slot ∙ sym same.slot ∙ one.slot)))))
   where
-    of_last : (d : Option Delivery) → InTurn Apart (option_to_list d)
+    of_last : (d : Option Delivery) → Climbs Apart (option_to_list d)
     of_last None = tt
     of_last (Some d) = (tt, tt)
 
@@ -201,7 +203,7 @@ module _ (s : ScenarioParts) (clocks : ℕ → ℕ → ℕ) (air : List Entry) (
         let before = by.by in
         omega (arith, closes, early, before)
 
-    others : (ws : List WindowLog) → ((x : WindowLog) → Contains ws x → Contains logs x) → AreApart ws → InTurn OtherSlot ws
+    others : (ws : List WindowLog) → ((x : WindowLog) → Contains ws x → Contains logs x) → AreApart ws → Climbs OtherSlot ws
     others [] all apart = tt
     others (x ∷ xs) all apart = (
       all_so (OtherSlot x) xs (λ y there frame rank slot.
@@ -213,7 +215,7 @@ module _ (s : ScenarioParts) (clocks : ℕ → ℕ → ℕ) (air : List Entry) (
       others xs (λ y there. all y (contains_tail x xs y there)) apart.1,
     )
 
-    pub node_apart : InTurn Apart (delivered_in (setup_of s v) logs)
+    pub node_apart : Climbs Apart (delivered_in (setup_of s v) logs)
     node_apart =
         windows_deliver_apart (setup_of s v) logs
         (others logs (λ x there. there) (windows_apart s clocks air (run s clocks air lawful) v known (run_end s) (omega arith)))

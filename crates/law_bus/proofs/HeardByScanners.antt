@@ -18,7 +18,7 @@ use Rattle.air_log.specs.Entries.{IsHeard}
 use Rattle.air_log.specs.Lawful.{heard_by, trail_in}
 use Rattle.air_log.specs.Trails.{Reception, ending_at, hears, run_end, setup_of}
 use Rattle.air_log.specs.WindowLogs.{WindowLog, Closing}
-use Rattle.air_log.proofs.Elements.{in_filtered, contains_head}
+use Rattle.lwb_base.proofs.Elements.{in_filtered, contains_head}
 use Rattle.air_log.proofs.SendingsKept.{profile_lasts}
 use Rattle.law_trails.specs.Obeying.{channel_of}
 use Rattle.law_trails.specs.Phases.{End, device_at}

@@ -1,10 +1,12 @@
 -- A slot that is a run of the flood theorem: its windows have accepted and initiated what their nodes do on the bus.
-use Rattle.std.proofs.Common.{◌≡◌, ℕ, ◌≤◌, List, [], ◌∷◌, Bool, true, false, ◌==◌, ◌||◌, if◌then◌else◌, Some, None, Option, IfSome, inl, inr, is_some, fold}
+use Rattle.std.proofs.Common.{◌≡◌, ℕ, ◌≤◌, List, [], ◌∷◌, Bool, true, false, if◌then◌else◌, Some, None, Option, IfSome, inl, inr, is_some, fold}
 use Rattle.std.proofs.Common.{slice_set, option_and_then, refl, sym, ◌∙◌, ap, subst, arith, true≢false}
-use Rattle.std.proofs.lemmas.Bool.{cases_Bool, cond_both, false≢true}
+use Rattle.std.proofs.lemmas.Bool.{cases_Bool, false≢true}
 use Rattle.lwb_base.specs.Messages.{Plan}
+use Rattle.lwb_base.proofs.Options.{some_is}
 use Rattle.glossy_relay.specs.FloodState.{FloodState}
-use Rattle.glossy_relay.specs.Relaying.{accepted_of, after_heard, fits}
+use Rattle.glossy_relay.specs.Relaying.{accepted_of, after_heard}
+use Rattle.glossy_relay.proofs.CountedPackets.{begun_here}
 use Rattle.bus_rules.specs.declared.part.Part.{Part}
 use Rattle.bus_rules.specs.Cores.{Setup, is_member}
 use Rattle.bus_rules.specs.Slots.{Message, Opened, part_of, opened}
@@ -13,7 +15,6 @@ use Rattle.lwb_member.specs.Said.{MaySay, message_of}
 use Rattle.node_core.specs.Rows.{flood_for}
 use Rattle.scenario_text.specs.ScenarioParts.{ScenarioParts}
 use Rattle.scenario_text.specs.FloodParts.{knows}
-use Rattle.scenario_text.specs.declared.lines.NodeLine.{NodeLine}
 use Rattle.air_log.specs.declared.entry.Entry.{Entry}
 use Rattle.air_log.specs.Trails.{run_end, setup_of}
 use Rattle.air_log.specs.WindowLogs.{WindowLog, Happening, HeardAt, SentAt}
@@ -33,6 +34,7 @@ use Rattle.bus_terms.proofs.ReceivedByPaths.{in_whole, of_filtered}
 use Rattle.bus_terms.proofs.ReceivedInRounds.{accepted_none}
 use Rattle.lwb_flood.specs.FloodRun.{Run, initiates, packet, takes_part}
 use Rattle.lwb_flood.specs.FloodBySteps.{IsFloodBySteps, ended}
+use Rattle.lwb_flood.proofs.LogEntries.{ids_known}
 use Rattle.law_terms.specs.LawfulRuns.{IsLawfulRun}
 use Rattle.law_terms.specs.SlotLaws.{HasWindow, IsWindowOf, Says, bus_slot}
 use Rattle.law_terms.specs.SlotRuns.{IsRunOf, RunsLaw}
@@ -42,25 +44,13 @@ use Rattle.law_bus.specs.FloodedSlots.{StartedSlotLaw}
 use Rattle.bus_terms.proofs.HeardOrigins.{heard_origin}
 use Rattle.law_bus.proofs.SayableWindows.{sayable}
 
--- the ids of nodes
-id_known : (ns : List NodeLine) (v : ℕ) → has (ids ns) v ≡ knows ns v
-id_known [] v = refl
-id_known (n ∷ ns) v = ap (λ (b : Bool). (n.node == v) || b) (id_known ns v)
-
-some_or_none : (o : Option Message) → is_some o ≡ true → (m : Message) × (o ≡ Some m)
-some_or_none None is = absurd (false≢true is)
-some_or_none (Some m) is = (m, refl)
-
 not_both : (o : Option (List ℕ × ℕ)) (a : List ℕ × ℕ) → o ≡ None → o ≡ Some a → ⊥
 not_both o a none some = cc
 
 -- what happens leaves an initiator one
-heard_leaves : (t : FloodState) (q : List ℕ) → (after_heard t q).initiated ≡ t.initiated
-heard_leaves t q = cond_both (fits t q) _ _ (λ (u : FloodState). u.initiated ≡ t.initiated) (λ is. refl) (λ is. refl)
-
 leaves : (t : FloodState) (es : List Happening) → (fold after_happening t es).initiated ≡ t.initiated
 leaves t [] = refl
-leaves t (HeardAt tick q ∷ es) = leaves (after_heard t q) es ∙ heard_leaves t q
+leaves t (HeardAt tick q ∷ es) = leaves (after_heard t q) es ∙ begun_here t q
 leaves t (SentAt tick q ∷ es) = leaves (after_happening t (SentAt tick q)) es
 
 -- a window that opens by its alarm initiates where its node says something
@@ -145,7 +135,7 @@ module _ (s : ScenarioParts) (clocks : ℕ → ℕ → ℕ) (air : List Entry) (
     -- who takes part is a node
     part_known : (v : ℕ) → takes_part r v → knows s.nodes v ≡ true
     part_known v here =
-        sym (id_known s.nodes v)
+        sym (ids_known s.nodes v)
         ∙ in_whole (λ u. takes_part_by rank (part_of p j) (states u) (x.window u)) (ids s.nodes) v
         (ap (λ (g : Setting). has g.everyone v) (sym is.setting) ∙ here)
 
@@ -158,9 +148,9 @@ module _ (s : ScenarioParts) (clocks : ℕ → ℕ → ℕ) (air : List Entry) (
     has_said : (o : ℕ) → initiates r o → HasSaid o
     has_said o begun =
         let there : has x.flood.initiators o ≡ true = ap (λ (g : Setting). has g.initiators o) (sym is.setting) ∙ begun in
-        let known = sym (id_known s.nodes o) ∙ in_whole (λ u. is_some (said_in (x.window u))) (ids s.nodes) o there in
+        let known = sym (ids_known s.nodes o) ∙ in_whole (λ u. is_some (said_in (x.window u))) (ids s.nodes) o there in
         let some = of_filtered (λ u. is_some (said_in (x.window u))) (ids s.nodes) o there in
-        let m = some_or_none (said_in (x.window o)) some in
+        let m = some_is (said_in (x.window o)) some in
         let has_one = says_in_window o known some in
         let w = has_one.window in
         let on_air : said_on_air (setup_of s o) w ≡ Some m.0 = sym (said_same o known w has_one.here has_one.by_alarm) ∙ m.1 in

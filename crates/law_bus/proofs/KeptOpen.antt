@@ -16,7 +16,7 @@ use Rattle.scenario_text.specs.ScenarioParts.{ScenarioParts}
 use Rattle.air_log.specs.Devices.{Device, Listening, Ordered, obeyed, silenced, tunes, listens_to}
 use Rattle.air_log.specs.Trails.{Reception, setup_of, ended, alarmed, before_start, begun_by, starts, before_tick}
 use Rattle.air_log.specs.WindowLogs.{WindowLog, opened_log, gone_on, closed_log, window_of, windows_after, windows_by}
-use Rattle.air_log.proofs.Elements.{not_in_none, contains_head, contains_tail, contains_cases}
+use Rattle.lwb_base.proofs.Elements.{not_in_none, contains_head, contains_tail, contains_cases}
 use Rattle.air_log.proofs.KeptByEvents.{IsKept, in_alarms, in_end, in_tick}
 use Rattle.law_trails.specs.Phases.{End, device_at}
 

@@ -13,7 +13,7 @@ use Rattle.air_log.specs.Lawful.{trail_in}
 use Rattle.air_log.specs.NodeEvents.{Event, Heard, Ended, InOrder, own_ends}
 use Rattle.air_log.specs.Trails.{run_end, frame_start}
 use Rattle.air_log.specs.WindowLogs.{WindowLog}
-use Rattle.air_log.proofs.Elements.{not_in_none}
+use Rattle.lwb_base.proofs.Elements.{not_in_none}
 use Rattle.law_trails.proofs.SentInTrails.{sent_lasts}
 use Rattle.law_safety.proofs.RunFacts.{frame_begins}
 use Rattle.law_windows.specs.WindowTimes.{IsOfSlot}

@@ -1,14 +1,13 @@
 -- Who takes part in the round of a rank and a frame, by its tune.
-use Rattle.std.proofs.Common.{◌≡◌, ℕ, Bool, true, false, ◌==◌, ◌&&◌, ◌||◌, inl, inr, refl, sym, ◌∙◌, arith, eq-eqb, true≢false}
-use Rattle.std.proofs.lemmas.Bool.{cases_eq, ne_eqb}
+use Rattle.std.proofs.Common.{◌≡◌, ℕ, Bool, true, false, ◌==◌, ◌&&◌, ◌||◌, refl, sym, arith, eq-eqb, true≢false}
+use Rattle.std.proofs.lemmas.Bool.{ne_eqb, and_right}
 use Rattle.bus_rules.specs.declared.tune.Tune.{Tune}
 use Rattle.bus_rules.specs.declared.tune.Tune.TheVariants.{Scan, Hold, Host}
 use Rattle.bus_rules.specs.Tuning.{rank_of, hosts, hosts_in, holds_in, scans}
-use Rattle.bus_rules.specs.Cores.{Core, is_fresh, is_member}
+use Rattle.bus_rules.specs.Cores.{is_fresh}
 use Rattle.node_core.specs.Nodes.{Node}
 use Rattle.scenario_text.specs.ScenarioParts.{ScenarioParts}
 use Rattle.law_safety.specs.TunedNodes.{IsRoundOf, Scans}
-use Rattle.bus_terms.proofs.OtherRanks.{not_member}
 
 abbrev pub takes_by : ℕ → ℕ → Tune → Bool → Bool
 takes_by rank f t fresh = hosts_in rank f t || holds_in rank f t || (scans rank t && fresh)
@@ -18,18 +17,6 @@ leads_by rank f t = hosts_in rank f t || holds_in rank f t
 
 either_test : (a b : Bool) → a ≡ true → b ≡ true → (a && b) ≡ true
 either_test a b first second = rw (first, second) refl
-
-not_second : (a b : Bool) → b ≡ false → (a && b) ≡ false
-not_second true b is = is
-not_second false b is = refl
-
--- a member is of the rank
-pub member_rank : (rank f : ℕ) (c : Core) → is_member rank f c ≡ true → rank_of c.tune ≡ rank
-member_rank rank f c is =
-    elim (cases_eq (rank_of c.tune) rank) [
-      | inl same ↦ same
-      | inr other ↦ absurd (true≢false (sym is ∙ not_member rank f c.tune (is_fresh c) (ne_eqb (rank_of c.tune) rank other)))
-    ]
 
 -- who leads a round is a member
 pub leads_member : (rank f : ℕ) (t : Tune) (fresh : Bool) → leads_by rank f t ≡ true → takes_by rank f t fresh ≡ true
@@ -66,7 +53,7 @@ module _ (s : ScenarioParts) (clocks : ℕ → ℕ → ℕ) (v : ℕ) (n : Node)
 
   -- a scanner that is not fresh takes no part, and does not host
   pub scanner_takes : (rank f : ℕ) (t : Tune) → Scans s clocks v n t → takes_by rank f t (is_fresh n.core) ≡ false
-  scanner_takes rank f (Scan r w) is = not_second (r == rank) (is_fresh n.core) is
+  scanner_takes rank f (Scan r w) is = and_right (r == rank) (is_fresh n.core) is
   scanner_takes rank f (Hold r d) is = absurd is
   scanner_takes rank f (Host r d) is = absurd is
 

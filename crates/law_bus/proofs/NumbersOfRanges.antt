@@ -2,7 +2,7 @@
 use Rattle.std.proofs.Common.{ℕ, zero, suc, ◌+◌, ◌<◌, ◌≤◌, ◌∷◌, inl, inr, Contains, subst, arith}
 use Rattle.std.specs.List.{range_with_len}
 use Rattle.std.proofs.lemmas.Bool.{cases_lt}
-use Rattle.air_log.proofs.Elements.{contains_cases, contains_head, contains_tail, not_in_none}
+use Rattle.lwb_base.proofs.Elements.{contains_cases, contains_head, contains_tail, not_in_none}
 
 pub in_range : (a n k : ℕ) → a ≤ k → k < a + n → Contains (range_with_len a n) k
 in_range a zero k from below = absurd (omega (arith, from, below))

@@ -11,7 +11,7 @@ use Rattle.air_log.specs.Devices.{seen}
 use Rattle.air_log.specs.Lawful.{trail_in}
 use Rattle.air_log.specs.Trails.{run_end}
 use Rattle.air_log.specs.WindowLogs.{WindowLog, Closing}
-use Rattle.air_log.proofs.Elements.{Distinct, contains_head, contains_tail}
+use Rattle.lwb_base.proofs.Elements.{Distinct, contains_head, contains_tail}
 use Rattle.law_windows.specs.OpenWindows.{AreApart, HasClosedBy}
 use Rattle.law_windows.specs.WindowTimes.{IsOfSlot, IsInTime, ClosesInTime}
 use Rattle.law_windows.proofs.WindowFacts.{close_in_time, open_in_time, sends_as_called, windows_apart}

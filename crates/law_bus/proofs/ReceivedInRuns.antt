@@ -10,7 +10,7 @@ use Rattle.glossy_relay.specs.Relaying.{accepted_of}
 use Rattle.scenario_text.specs.ScenarioParts.{ScenarioParts}
 use Rattle.scenario_text.specs.FloodParts.{knows}
 use Rattle.scenario_text.specs.declared.lines.NodeLine.{NodeLine}
-use Rattle.radio_model.proofs.Members.{in_map, some_of}
+use Rattle.lwb_base.proofs.Elements.{map_contains, some_of}
 use Rattle.air_log.specs.declared.entry.Entry.{Entry}
 use Rattle.air_log.specs.Deliveries.{deliveries_of}
 use Rattle.air_log.specs.Trails.{run_end}
@@ -28,8 +28,8 @@ use Rattle.law_terms.specs.SlotLaws.{IsRound, IsSlot, bus_slot}
 use Rattle.law_bus.specs.ReceivedInRuns.{DeliversIn, IsMemberIn, IsReceivedInSlot}
 use Rattle.law_bus.proofs.BusDeliveries.{from_bus, in_bus, line_known, made_at, made_so}
 use Rattle.law_bus.proofs.BusLaws.{delivered, slots_are_floods}
-use Rattle.law_bus.proofs.BusLeaders.{known_id}
 use Rattle.law_bus.proofs.RunsOfLogs.{run}
+use Rattle.lwb_flood.proofs.LogEntries.{ids_known}
 
 module _ (s : ScenarioParts) (clocks : ℕ → ℕ → ℕ) (air : List Entry) (lawful : IsLawfulRun s clocks air)
     (f rank j : ℕ) (p : Plan) (round : IsRound s f rank p) (owner : ℕ) (is : part_of p j ≡ DataSlot owner) where
@@ -51,7 +51,7 @@ module _ (s : ScenarioParts) (clocks : ℕ → ℕ → ℕ) (air : List Entry) (
   named : (v : ℕ) → knows s.nodes v ≡ true → Contains (ids s.nodes) v
   named v known =
       let n = some_of (λ (m : NodeLine). m.node == v) s.nodes known in
-      subst (Contains (ids s.nodes)) (eqb-true n.0.node v n.2) (in_map (λ (m : NodeLine). m.node) s.nodes n.0 n.1)
+      subst (Contains (ids s.nodes)) (eqb-true n.0.node v n.2) (map_contains (λ (m : NodeLine). m.node) s.nodes n.0 n.1)
 
   -- what is delivered on the bus in a step is delivered in the run in this step
   to_run : (v k : ℕ) → knows s.nodes v ≡ true → OnBus v k → InRun v k
@@ -95,7 +95,7 @@ module _ (s : ScenarioParts) (clocks : ℕ → ℕ → ℕ) (air : List Entry) (
 
   by_paths : (v k : ℕ) → IsMemberIn s f rank p j v → v ≢ node_of owner → (InRun v k ↔ IsLeast (bus_slot s f rank p j).flood (node_of owner) (suc k) v)
   by_paths v k member other =
-      let there : has (ids s.nodes) v ≡ true = known_id s.nodes v ∙ member.known in
+      let there : has (ids s.nodes) v ≡ true = ids_known s.nodes v ∙ member.known in
       let least = delivers_least s lawful.sound rank f p (state_at s f) j owner is v k there member.opens other in
       (λ delivers. least.0 (to_bus v k member.known delivers), λ path. to_run v k member.known (least.1 path))
 

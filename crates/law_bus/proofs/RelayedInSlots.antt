@@ -19,7 +19,7 @@ use Rattle.air_log.specs.Lawful.{trail_in}
 use Rattle.air_log.specs.NodeEvents.{Event, Heard, Occasion, occasions}
 use Rattle.air_log.specs.Trails.{setup_of}
 use Rattle.air_log.specs.WindowLogs.{WindowLog}
-use Rattle.air_log.proofs.Elements.{not_in_none}
+use Rattle.lwb_base.proofs.Elements.{not_in_none}
 use Rattle.law_trails.proofs.OtherCounters.{first_place}
 use Rattle.law_windows.specs.WindowFloods.{flood_at_first, said_in}
 use Rattle.law_windows.specs.WindowParts.{SendsAt}

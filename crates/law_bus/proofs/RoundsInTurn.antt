@@ -18,12 +18,13 @@ use Rattle.law_windows.proofs.WindowFacts.{open_in_time}
 use Rattle.law_safety.specs.SentPlans.{IsPlanned}
 use Rattle.bus_terms.specs.Rounds.{round, round_plan, after_round, before_slot}
 use Rattle.bus_terms.specs.Bus.{state_at}
+use Rattle.bus_terms.proofs.KeptRanks.{member_of}
 use Rattle.law_terms.specs.LawfulRuns.{IsLawfulRun}
 use Rattle.law_terms.specs.FrameCourses.{power_at}
 use Rattle.law_terms.specs.SlotLaws.{IsRound, IsWindowOf, HasWindow, bus_before}
 use Rattle.law_terms.specs.SlotSteps.{IsFrameStart, IsSlotStart, IsSlotHeard, FirstSlotLaw, SlotStepLaw, RoundEndLaw}
 use Rattle.law_bus.proofs.BusLeaders.{leader_of}
-use Rattle.law_bus.proofs.MembersByTune.{leads_member, member_rank}
+use Rattle.law_bus.proofs.MembersByTune.{leads_member}
 use Rattle.law_bus.proofs.PlannedRounds.{member_planned, placed, plan_is}
 use Rattle.law_bus.proofs.RunsOfLogs.{run, known_by, course_on}
 use Rattle.law_bus.proofs.SlotsAtNodes.{IsThere, look_up, left_by_window, stays_without, found_without}
@@ -74,7 +75,7 @@ module _ (s : ScenarioParts) (clocks : ℕ → ℕ → ℕ) (air : List Entry) (
           here = record {
             there = opens.here.there;
             frame = opens.here.frame;
-            channel = opens.channel ∙ member_rank rank f there.node.core takes;
+            channel = opens.channel ∙ member_of rank f there.node.core takes;
             slot = opens.slot;
           };
           by_alarm = opens.by_alarm;

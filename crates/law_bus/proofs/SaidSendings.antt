@@ -1,6 +1,7 @@
 -- Whatever is sent in a lawful run is sent in the flood of a slot of the bus.
 use Rattle.std.proofs.Common.{◌≡◌, ℕ, ◌≤◌, List, true, is_some, slice_set, Contains, refl, sym, ◌∙◌, ap, subst, arith}
 use Rattle.lwb_base.specs.Messages.{Plan}
+use Rattle.lwb_base.proofs.Options.{some_is}
 use Rattle.bus_rules.specs.Plans.{last_slot}
 use Rattle.scenario_text.specs.ScenarioParts.{ScenarioParts}
 use Rattle.scenario_text.specs.FloodParts.{knows}
@@ -26,7 +27,6 @@ use Rattle.law_terms.specs.SlotRuns.{IsRunOf, RunsLaw}
 use Rattle.law_terms.specs.SlotSteps.{SlotHeardLaw}
 use Rattle.law_bus.proofs.CoresOfWindows.{all_slots, cores_law}
 use Rattle.law_bus.proofs.RunsOfLogs.{run, whole}
-use Rattle.law_bus.proofs.SentBySteps.{some_message}
 
 module _ (s : ScenarioParts) (clocks : ℕ → ℕ → ℕ) (air : List Entry) (x : Sending) (there : Contains (sendings_of air) x) (p : Plan) where
   abbrev f : ℕ
@@ -44,7 +44,7 @@ module _ (s : ScenarioParts) (clocks : ℕ → ℕ → ℕ) (air : List Entry) (
       let o = found.0 in
       let k = counter x in
       let begun : has slot.flood.initiators o ≡ true = subst (λ (g : Setting). has g.initiators o ≡ true) is.setting found.1 in
-      let m = some_message (said_in (slot.window o)) (of_filtered (λ u. is_some (said_in (slot.window u))) (ids s.nodes) o begun) in
+      let m = some_is (said_in (slot.window o)) (of_filtered (λ u. is_some (said_in (slot.window u))) (ids s.nodes) o begun) in
       let says : Says s f x.rank p (slot_byte x) o m.0 = (begun, m.1) in
       record {
         plan = p;

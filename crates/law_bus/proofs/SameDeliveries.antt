@@ -10,7 +10,8 @@ use Rattle.bus_rules.specs.Plans.{last_slot}
 use Rattle.scenario_text.specs.ScenarioParts.{ScenarioParts}
 use Rattle.scenario_text.specs.FloodParts.{knows}
 use Rattle.scenario_text.specs.declared.lines.NodeLine.{NodeLine}
-use Rattle.radio_model.proofs.Members.{any_of, from_flat, in_flat, in_map, not_in_none, of_option}
+use Rattle.scenario_text.specs.FloodDrafts.{Climbs}
+use Rattle.lwb_base.proofs.Elements.{any_of, from_flat, in_flat, map_contains, not_in_none, of_option, contains_cases}
 use Rattle.air_log.specs.declared.entry.Entry.{Entry}
 use Rattle.air_log.specs.Deliveries.{delivered_at as delivered_in_air, deliveries_of}
 use Rattle.air_log.specs.Devices.{Device}
@@ -18,14 +19,13 @@ use Rattle.air_log.specs.Drops.{drops_of}
 use Rattle.air_log.specs.Lawful.{trail_in}
 use Rattle.air_log.specs.Trails.{run_end, setup_of}
 use Rattle.air_log.specs.WindowLogs.{WindowLog, Closing}
-use Rattle.air_log.proofs.Elements.{contains_cases}
 use Rattle.law_safety.proofs.RunFacts.{frame_lasts}
 use Rattle.law_windows.specs.WindowDeliveries.{at_closing, delivered_by, delivered_in}
 use Rattle.law_windows.proofs.WindowFacts.{deliveries_of_windows}
 use Rattle.bus_terms.specs.FloodOfText.{ids}
 use Rattle.bus_terms.specs.Rounds.{delivered_at}
 use Rattle.bus_terms.specs.Bus.{bus_deliveries, bus_drops, state_at}
-use Rattle.bus_terms.proofs.ListsInTurn.{InTurn, pairs_in_turn, pieces_in_turn}
+use Rattle.bus_terms.proofs.ListsInTurn.{pairs_in_turn, pieces_in_turn}
 use Rattle.law_windows.proofs.Strangers.{at_rest_always}
 use Rattle.law_terms.specs.LawfulRuns.{IsLawfulRun}
 use Rattle.law_terms.specs.RunLaws.{AnyClocksLaw, DeliveriesLaw, DropsLaw}
@@ -68,17 +68,17 @@ module _ (heards : SlotHeardLaw) (s : ScenarioParts) (clocks : ℕ → ℕ → �
   of_windows v known = deliveries_of_windows s clocks air (run s clocks air lawful) v known (run_end s) (omega arith)
 
   -- no two of them are of one place
-  made_apart : (v : ℕ) (b : Bool) → knows s.nodes v ≡ b → InTurn Apart (made v) × AllByRecursion (λ a. a.node ≡ v) (made v)
+  made_apart : (v : ℕ) (b : Bool) → knows s.nodes v ≡ b → Climbs Apart (made v) × AllByRecursion (λ a. a.node ≡ v) (made v)
   made_apart v true known =
       let is = sym (of_windows v known) in (
-        subst (InTurn Apart) is (node_apart s clocks air lawful v known),
+        subst (Climbs Apart) is (node_apart s clocks air lawful v known),
         subst (AllByRecursion (λ (a : Delivery). a.node ≡ v)) is (node_places s clocks air lawful v known),
       )
   made_apart v false unknown =
       let none = sym (ap (λ (d : Device). d.made.deliveries) (at_rest_always s clocks air lawful v unknown (run_end s))) in
-      (subst (InTurn Apart) none tt, subst (AllByRecursion (λ (a : Delivery). a.node ≡ v)) none tt)
+      (subst (Climbs Apart) none tt, subst (AllByRecursion (λ (a : Delivery). a.node ≡ v)) none tt)
 
-  all_apart : InTurn Apart all
+  all_apart : Climbs Apart all
   all_apart =
       pieces_in_turn (λ (n m : NodeLine). n.node < m.node) Apart (λ (n : NodeLine) a. a.node ≡ n.node) (delivered_in_air s clocks air)
       (λ n. (made_apart n.node (knows s.nodes n.node) refl).1) (λ n. (made_apart n.node (knows s.nodes n.node) refl).0)
@@ -103,7 +103,7 @@ module _ (heards : SlotHeardLaw) (s : ScenarioParts) (clocks : ℕ → ℕ → �
       let n = from_flat (delivered_in_air s clocks air) s.nodes a within in
       let known : knows s.nodes n.0.node ≡ true = any_of (λ (m : NodeLine). m.node == n.0.node) s.nodes n.0 n.1 (eq-eqb n.0.node n.0.node refl) in
       let of_ = from_windows (setup_of s n.0.node) (logs n.0.node) a (subst (λ (l : List Delivery). Contains l a) (of_windows n.0.node known) n.2) in
-      of_bus n.0.node of_.window of_.closing a (in_map (λ (m : NodeLine). m.node) s.nodes n.0 n.1) of_.there of_.closed of_.is
+      of_bus n.0.node of_.window of_.closing a (map_contains (λ (m : NodeLine). m.node) s.nodes n.0 n.1) of_.there of_.closed of_.is
 
   -- and each of the bus is one of them
   no_delivery : (a : Delivery) → ◌≡◌ {A = Option Delivery} None (Some a) → ⊥

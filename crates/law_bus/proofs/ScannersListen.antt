@@ -17,7 +17,7 @@ use Rattle.air_log.specs.Lawful.{trail_in}
 use Rattle.air_log.specs.NodeEvents.{Event, Heard, Ended, own_ends}
 use Rattle.air_log.specs.Trails.{frame_start, run_end}
 use Rattle.air_log.specs.WindowLogs.{WindowLog, Happening, HeardAt}
-use Rattle.air_log.proofs.Elements.{contains_head, contains_tail}
+use Rattle.lwb_base.proofs.Elements.{contains_head, contains_tail}
 use Rattle.law_trails.specs.TrailLinks.{device_in}
 use Rattle.law_trails.proofs.UnstoppedTimes.{relay_after, relay_is}
 use Rattle.law_safety.specs.Invariant.{IsRun}

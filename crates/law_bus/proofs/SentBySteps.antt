@@ -1,9 +1,9 @@
 -- What a node sends in a slot, step by step: in the air what it sends in the flood of the bus, and as long.
 use Rattle.std.proofs.Common.{◌≡◌, ℕ, ◌≤◌, List, true, Some, None, Option, Contains, option_map, is_some, length, refl, sym, ◌∙◌, ap, subst, arith}
 use Rattle.std.specs.Option.{option_map_or}
-use Rattle.std.proofs.lemmas.Bool.{false≢true}
 use Rattle.std.proofs.lemmas.List.{length-set}
 use Rattle.lwb_base.specs.Messages.{Plan}
+use Rattle.lwb_base.proofs.Options.{some_is}
 use Rattle.glossy_relay.specs.Relaying.{counter_of}
 use Rattle.glossy_relay.proofs.CountedPackets.{counter_set}
 use Rattle.bus_rules.specs.Slots.{Message, message_length}
@@ -42,10 +42,6 @@ pair k n = (k, n)
 abbrev some_pair : ℕ → ℕ → Option (ℕ × ℕ)
 some_pair k n = Some (k, n)
 
-pub some_message : (o : Option Message) → is_some o ≡ true → (m : Message) × (o ≡ Some m)
-some_message None is = absurd (false≢true is)
-some_message (Some m) is = (m, refl)
-
 module _ (s : ScenarioParts) (clocks : ℕ → ℕ → ℕ) (air : List Entry) (lawful : IsLawfulRun s clocks air) (f rank : ℕ) (p : Plan) (j : ℕ) where
   abbrev pub x : Slot
   x = bus_slot s f rank p j
@@ -72,7 +68,7 @@ module _ (s : ScenarioParts) (clocks : ℕ → ℕ → ℕ) (air : List Entry) (
     -- what an initiator says is as long as on the bus
     said_length : (o k : ℕ) → has x.flood.initiators o ≡ true → length (packet r o k) ≡ length_at x o
     said_length o k there =
-        let said = some_message (said_in (x.window o)) (of_filtered (λ u. is_some (said_in (x.window u))) (ids s.nodes) o there) in
+        let said = some_is (said_in (x.window o)) (of_filtered (λ u. is_some (said_in (x.window u))) (ids s.nodes) o there) in
         let says : Says s f rank p j o said.0 = (there, said.1) in
         length-set (r.message o) 2 k
         ∙ ap (λ (q : List ℕ). length q) (is.message o said.0 says)

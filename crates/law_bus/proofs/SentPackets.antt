@@ -10,8 +10,9 @@ use Rattle.glossy_relay.specs.Relaying.{counter_of}
 use Rattle.bus_rules.specs.Charges.{charge as charge_of, last_of}
 use Rattle.bus_rules.specs.Slots.{Opened}
 use Rattle.scenario_text.specs.ScenarioParts.{ScenarioParts}
+use Rattle.scenario_text.specs.FloodDrafts.{Climbs}
 use Rattle.radio_model.specs.declared.sending.Sending.{Sending}
-use Rattle.radio_model.proofs.Members.{from_filter, in_filter}
+use Rattle.lwb_base.proofs.Elements.{filter_from, in_filter}
 use Rattle.air_log.specs.declared.entry.Entry.{Entry}
 use Rattle.air_log.specs.Charges.{charge, counted, sent_in, sent_packets, step_and_length}
 use Rattle.air_log.specs.NodeEvents.{Event, Heard, Ended, sending_of}
@@ -21,7 +22,7 @@ use Rattle.law_windows.specs.WindowTimes.{IsOfSlot}
 use Rattle.bus_terms.specs.Costs.{length_at, sent_by, slot_window}
 use Rattle.bus_terms.specs.Flooding.{moment, steps}
 use Rattle.bus_terms.specs.Rounds.{Slot}
-use Rattle.bus_terms.proofs.ListsInTurn.{InTurn, given_in_turn, pairs_in_turn, range_in_turn}
+use Rattle.bus_terms.proofs.ListsInTurn.{given_in_turn, pairs_in_turn, range_in_turn}
 use Rattle.lwb_flood.specs.FloodRun.{Run}
 use Rattle.lwb_flood.specs.FloodBySteps.{IsFloodBySteps}
 use Rattle.law_terms.specs.LawfulRuns.{IsLawfulRun}
@@ -81,11 +82,11 @@ module _ (s : ScenarioParts) (clocks : ℕ → ℕ → ℕ) (air : List Entry) (
       by_origin None eq = absurd (not_given a eq)
       by_origin (Some o) eq = sym (ap (λ (b : ℕ × ℕ). b.0) (is_given (k, length_at x o) a eq))
 
-  bus_ascends : InTurn Lower (sent_by x v)
+  bus_ascends : Climbs Lower (sent_by x v)
   bus_ascends =
       given_in_turn (λ k l. k < l) Lower given
       (λ k l less a b first second. let one = of_step k a first in let two = of_step l b second in omega (arith, less, one, two))
-      steps (subst (InTurn (λ k l. k < l)) (sym all_steps) (range_in_turn 0 12))
+      steps (subst (Climbs (λ k l. k < l)) (sym all_steps) (range_in_turn 0 12))
 
   module _ (w : WindowLog) (here : IsWindowOf s clocks air f rank j v w) (has : HasEvents s air v w) where
     of_slot : (y : Sending) → IsOfSlot s w y → Contains has.events (Ended y) → SentHere y
@@ -128,13 +129,13 @@ module _ (s : ScenarioParts) (clocks : ℕ → ℕ → ℕ) (air : List Entry) (
         let two = ap (λ (c : ℕ × ℕ). c.0) (is_given (step_and_length z.packet) b second) in
         omega (arith, less, one, two)
 
-    window_ascends : InTurn Lower (filter_map own_step has.events)
+    window_ascends : Climbs Lower (filter_map own_step has.events)
     window_ascends = given_in_turn Follows Lower own_step across has.events (pairs_in_turn Follows has.events in_turn)
 
     -- the same on both sides
     on_the_bus : (a : ℕ × ℕ) → Contains (filter_map own_step has.events) a → Contains (sent_by x v) a
     on_the_bus a within =
-        let found = from_filter own_step has.events a within in
+        let found = filter_from own_step has.events a within in
         by_event found.0 found.1 found.2
       where
         by_event : (e : Event) → Contains has.events e → own_step e ≡ Some a → Contains (sent_by x v) a
@@ -149,7 +150,7 @@ module _ (s : ScenarioParts) (clocks : ℕ → ℕ → ℕ) (air : List Entry) (
 
     in_the_window : (a : ℕ × ℕ) → Contains (sent_by x v) a → Contains (filter_map own_step has.events) a
     in_the_window a within =
-        let found = from_filter given steps a within in
+        let found = filter_from given steps a within in
         let k = found.0 in
         let range = from_range 0 12 k (subst (λ (l : List ℕ). Contains l k) all_steps found.1) in
         let sent = sent_as s clocks air lawful f rank p j r is by_steps v k a (omega (arith, range)) found.2 in

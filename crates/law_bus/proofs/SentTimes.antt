@@ -17,7 +17,7 @@ use Rattle.air_log.specs.declared.entry.Entry.{Entry}
 use Rattle.air_log.specs.Lawful.{heard_by, trail_in}
 use Rattle.air_log.specs.TrailEntries.{IsSentBefore}
 use Rattle.air_log.specs.Trails.{run_end}
-use Rattle.air_log.proofs.Elements.{Distinct, distinct_from_pairs}
+use Rattle.lwb_base.proofs.Elements.{Distinct, distinct_from_pairs}
 use Rattle.air_log.proofs.TrailSendings.{each_sent, in_order}
 use Rattle.law_trails.proofs.SentInTrails.{sent_below, sent_lasts}
 use Rattle.bus_terms.specs.Bus.{bus_cost}

@@ -1,5 +1,5 @@
 -- Who takes part in a slot: a member of the round, or a node that scans its rank.
-use Rattle.std.proofs.Common.{◌≡◌, ℕ, ◌<◌, Bool, true, false, ◌&&◌, List, [], ◌∷◌, None, refl, sym, ◌∙◌, ap, eqb-true, true≢false}
+use Rattle.std.proofs.Common.{◌≡◌, ℕ, ◌<◌, Bool, true, false, ◌&&◌, List, None, refl, sym, ◌∙◌, ap, eqb-true, true≢false}
 use Rattle.std.proofs.lemmas.Bool.{and_parts}
 use Rattle.lwb_base.specs.Messages.{Plan}
 use Rattle.bus_rules.specs.declared.part.Part.{Part}
@@ -11,7 +11,6 @@ use Rattle.bus_rules.specs.Slots.{part_of, is_schedule_part}
 use Rattle.bus_rules.specs.States.{State, StateOff, StateOn}
 use Rattle.scenario_text.specs.ScenarioParts.{ScenarioParts}
 use Rattle.scenario_text.specs.FloodParts.{knows}
-use Rattle.scenario_text.specs.declared.lines.NodeLine.{NodeLine}
 use Rattle.air_log.specs.declared.entry.Entry.{Entry}
 use Rattle.air_log.specs.Devices.{seen}
 use Rattle.air_log.specs.WindowLogs.{WindowLog}
@@ -23,11 +22,7 @@ use Rattle.law_terms.specs.LawfulRuns.{IsLawfulRun}
 use Rattle.law_terms.specs.SlotLaws.{IsWindowOf, HasWindow, bus_slot, bus_before}
 use Rattle.law_terms.specs.SlotSteps.{IsSlotStart}
 use Rattle.law_bus.proofs.RunsOfLogs.{HasCourse, course_of}
-
--- the ids of nodes are those of its lines
-pub same_ids : (ns : List NodeLine) (v : ℕ) → has (ids ns) v ≡ knows ns v
-same_ids [] v = refl
-same_ids (n ∷ ns) v = rw (same_ids ns v) refl
+use Rattle.lwb_flood.proofs.LogEntries.{ids_known}
 
 -- who scans a rank is of it
 pub scans_rank : (rank : ℕ) (t : Tune) → scans rank t ≡ true → rank_of t ≡ rank
@@ -68,7 +63,7 @@ module _ (s : ScenarioParts) (clocks : ℕ → ℕ → ℕ) (air : List Entry) (
   test v = takes_part rank (part_of p j) (bus_before s f rank p j v) (opened_at s rank f (part_of p j) v (bus_before s f rank p j v))
 
   pub known_party : (v : ℕ) → Takes_part v → knows s.nodes v ≡ true
-  known_party v here = sym (same_ids s.nodes v) ∙ in_whole test (ids s.nodes) v here
+  known_party v here = sym (ids_known s.nodes v) ∙ in_whole test (ids s.nodes) v here
 
   pub takes_so : (v : ℕ) → Takes_part v → Takes rank f (part_of p j) (bus_before s f rank p j v)
   takes_so v here = takes_by s rank f (part_of p j) v (bus_before s f rank p j v) (of_filtered test (ids s.nodes) v here)

@@ -5,7 +5,7 @@ use Rattle.lwb_base.specs.Profile.{Numbers}
 use Rattle.radio_model.specs.declared.sending.Sending.{Sending}
 use Rattle.radio_model.specs.OnAir.{Hearing}
 use Rattle.radio_model.specs.Hearing.{frame_of, slot_of}
-use Rattle.air_log.proofs.Elements.{in_filtered, filtered}
+use Rattle.lwb_base.proofs.Elements.{in_filtered, filtered}
 use Rattle.law_bus.specs.SlotRun.{is_of}
 
 module _ (p : Numbers) (f rank j : ℕ) where

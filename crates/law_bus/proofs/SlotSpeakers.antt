@@ -17,7 +17,8 @@ use Rattle.air_log.specs.Lawful.{trail_in}
 use Rattle.air_log.specs.NodeEvents.{Event}
 use Rattle.air_log.specs.Trails.{setup_of}
 use Rattle.air_log.specs.WindowLogs.{WindowLog}
-use Rattle.air_log.proofs.Elements.{contains_cases, contains_head, contains_tail, not_in_none}
+use Rattle.lwb_base.proofs.Elements.{contains_cases, contains_head, contains_tail, not_in_none}
+use Rattle.lwb_base.proofs.Options.{some_is}
 use Rattle.law_windows.specs.WindowFloods.{said_in}
 use Rattle.law_windows.specs.WindowParts.{SendsAt}
 use Rattle.bus_terms.specs.FloodOfText.{ids}
@@ -26,13 +27,13 @@ use Rattle.bus_terms.specs.Rounds as rounds
 use Rattle.bus_terms.specs.ScriptedStates.{setup_in}
 use Rattle.bus_terms.proofs.ReceivedByPaths.{in_filtered, in_whole, of_filtered}
 use Rattle.lwb_flood.specs.FloodRun.{Run, initiates}
+use Rattle.lwb_flood.proofs.LogEntries.{ids_known}
 use Rattle.law_terms.specs.LawfulRuns.{IsLawfulRun}
 use Rattle.law_terms.specs.SlotLaws.{IsWindowOf, bus_before, bus_slot}
 use Rattle.law_terms.specs.SlotSteps.{IsSlotStart}
 use Rattle.law_bus.proofs.WindowsInTurn.{opened_by}
 use Rattle.law_bus.specs.SlotRun.{AreEvents, run_of_slot, bytes_said, is_window, start_in}
 use Rattle.law_bus.proofs.SlotEvents.{same_window}
-use Rattle.law_bus.proofs.SlotParties.{same_ids}
 
 -- the only element that passes a test is found
 find_first : {X : Type 0} (test : X → Bool) (x : X) (xs : List X) (w : X) → (b : Bool) → test x ≡ b → (b ≡ true → x ≡ w) → (b ≡ false → find test xs ≡ Some w)
@@ -55,10 +56,6 @@ find_one test (x ∷ xs) w there passes only =
     by_test : (b : Bool) → test x ≡ b → (Contains xs w → find test xs ≡ Some w) → find test (x ∷ xs) ≡ Some w
     by_test b is rest = find_first test x xs w b is (λ passes. only x (contains_head x xs) (is ∙ passes))
         (λ fails. rest (still_there test x xs w there passes (is ∙ fails)))
-
-some_of : {X : Type 0} (o : Option X) → is_some o ≡ true → (x : X) × (o ≡ Some x)
-some_of None is = absurd (true≢false (sym is))
-some_of (Some x) is = (x, refl)
 
 -- what is said is said by a member
 member_says : (s : ScenarioParts) (rank f : ℕ) (part : Part) (v : ℕ) (x : State)
@@ -130,10 +127,10 @@ module _ (s : ScenarioParts) (clocks : ℕ → ℕ → ℕ) (air : List Entry) (
   pub speaker : (o : ℕ) → has (bus_slot s f rank p j).flood.initiators o ≡ true → IsSpeaker o
   speaker o initiates =
       let some = of_filtered says (ids s.nodes) o initiates in
-      let known : knows s.nodes o ≡ true = sym (same_ids s.nodes o) ∙ in_whole says (ids s.nodes) o initiates in
+      let known : knows s.nodes o ≡ true = sym (ids_known s.nodes o) ∙ in_whole says (ids s.nodes) o initiates in
       let member = member_says s rank f (part_of p j) o (bus_before s f rank p j o) some in
       let own = start.window o member.0 known member.1 member.2 in
-      let m = some_of (rounds.said_in (window_of o)) some in
+      let m = some_is (rounds.said_in (window_of o)) some in
       record {
         window = own.window;
         here = own.here;
@@ -154,7 +151,7 @@ module _ (s : ScenarioParts) (clocks : ℕ → ℕ → ℕ) (air : List Entry) (
   pub speaks : (v : ℕ) (w : WindowLog) (m : Message) → knows s.nodes v ≡ true → Of v w → w.by_alarm ≡ true → said_in (setup_of s v) w ≡ Some m
       → has (bus_slot s f rank p j).flood.initiators v ≡ true
   speaks v w m known here alarm said =
-      in_filtered says (ids s.nodes) v (same_ids s.nodes v ∙ known) (ap (λ (o : Option Message). is_some o) (said_same v w here alarm ∙ said))
+      in_filtered says (ids s.nodes) v (ids_known s.nodes v ∙ known) (ap (λ (o : Option Message). is_some o) (said_same v w here alarm ∙ said))
 
   module _ (events : ℕ → List Event) (are : AreEvents s clocks air f rank j events) (o : ℕ) (is : IsSpeaker o) where
     abbrev r : Run

@@ -39,8 +39,8 @@ use Rattle.law_bus.proofs.RunsOfLogs.{whole, known_by}
 use Rattle.law_bus.proofs.WindowsInTurn.{opened_by, of_kind, in_frame, goes}
 use Rattle.law_bus.proofs.WindowsOfRounds.{OfScanner}
 use Rattle.law_bus.proofs.SlotEvents.{same_window}
-use Rattle.law_bus.proofs.SlotParties.{same_ids}
 use Rattle.law_bus.proofs.SlotSpeakers.{window_is}
+use Rattle.lwb_flood.proofs.LogEntries.{ids_known}
 
 -- a property of what is said, by how that is found
 module _ (P : Option Message → Type 0) (none : P None) where
@@ -144,4 +144,4 @@ module _ (s : ScenarioParts) (clocks : ℕ → ℕ → ℕ) (air : List Entry) (
   pub window_takes : (v : ℕ) (w : WindowLog) → Of v w → has (bus_slot s f rank p j).flood.everyone v ≡ true
   window_takes v w here =
       in_filtered (λ u. takes_part rank (part_of p j) (bus_before s f rank p j u) ((bus_slot s f rank p j).window u)) (ids s.nodes) v
-      (same_ids s.nodes v ∙ known_by s clocks air lawful v w here.there) (takes_test v w here w.by_alarm refl)
+      (ids_known s.nodes v ∙ known_by s clocks air lawful v w here.there) (takes_test v w here w.by_alarm refl)

@@ -18,7 +18,7 @@ use Rattle.air_log.specs.declared.entry.Entry.{Entry}
 use Rattle.air_log.specs.Devices.{seen}
 use Rattle.air_log.specs.Trails.{run_end, setup_of}
 use Rattle.air_log.specs.WindowLogs.{WindowLog, Closing}
-use Rattle.air_log.proofs.Elements.{contains_cases, contains_head, contains_tail, not_in_none}
+use Rattle.lwb_base.proofs.Elements.{contains_cases, contains_head, contains_tail, not_in_none}
 use Rattle.law_windows.specs.WindowRows.{in_window, OpensByAlarm, OpensByHearing}
 use Rattle.bus_terms.specs.ScriptedStates.{setup_in}
 use Rattle.bus_terms.specs.Rounds.{opened_at, closed_by, left_by, said_in, accepted_at, before_slot}

@@ -1,7 +1,7 @@
 -- Who takes part in a slot without a window by an alarm is tuned through what is sent in it, tick by tick, until its last
 -- own sending has ended: behind each tick it is as the frame has found it, or in the window of the slot that it has joined.
-use Rattle.std.proofs.Common.{◌≡◌, ℕ, suc, ◌-◌, ◌/◌, ◌<◌, ◌≤◌, inl, inr, List, true, false, Some, None, Option, Contains, get_or, refl, sym}
-use Rattle.std.proofs.Common.{◌∙◌, ap, subst, arith, eqb-true, true≢false}
+use Rattle.std.proofs.Common.{◌≡◌, ℕ, suc, ◌-◌, ◌/◌, ◌<◌, ◌≤◌, inl, inr, List, true, false, Some, Option, Contains, get_or, refl, sym}
+use Rattle.std.proofs.Common.{◌∙◌, ap, subst, arith}
 use Rattle.std.specs.Prelude.{◌⊎◌}
 use Rattle.std.specs.Option.{IfSome}
 use Rattle.lwb_base.specs.Messages.{Plan}
@@ -15,18 +15,18 @@ use Rattle.scenario_text.specs.FloodParts.{knows}
 use Rattle.radio_model.specs.declared.sending.Sending.{Sending}
 use Rattle.radio_model.specs.Hearing.{Scene, IsTuned, frame_of}
 use Rattle.air_log.specs.declared.entry.Entry.{Entry}
-use Rattle.air_log.specs.Devices.{Device, Listening, Power, PowerOff, PowerOn, listens_to}
+use Rattle.air_log.specs.Devices.{Device, Power, PowerOff, PowerOn}
 use Rattle.air_log.specs.Entries.{sendings_of}
 use Rattle.air_log.specs.HearsAir.{scene_of}
 use Rattle.air_log.specs.Lawful.{heard_by, trail_in}
 use Rattle.air_log.specs.NodeEvents.{Event, own_ends}
 use Rattle.air_log.specs.Trails.{run_end}
 use Rattle.air_log.specs.WindowLogs.{WindowLog, Happening, Closing}
-use Rattle.air_log.proofs.Elements.{contains_head}
-use Rattle.law_trails.specs.Obeying.{channel_of}
+use Rattle.lwb_base.proofs.Elements.{contains_head}
 use Rattle.law_trails.specs.Phases.{Over}
 use Rattle.law_trails.specs.TrailLinks.{device_in}
 use Rattle.law_trails.specs.Walks.{NoWindow}
+use Rattle.law_trails.proofs.ObeyedOrders.{channel_is}
 use Rattle.law_safety.specs.CountedFrames.{frame_alarm_at}
 use Rattle.law_safety.specs.FloodSendings.{IsOfFlood}
 use Rattle.law_safety.specs.Invariant.{IsRun}
@@ -61,10 +61,6 @@ use Rattle.law_bus.proofs.KeptOpen.{IsStill, since_tick}
 use Rattle.law_bus.proofs.OtherSlots.{opens_behind, which_window}
 use Rattle.law_bus.proofs.SlotSendings.{IsOf}
 use Rattle.law_bus.proofs.SlotsOnAir.{ends_in_run, sent_here}
-
-on_channel : (r : ℕ) (l : Option Listening) → listens_to r l ≡ true → channel_of l ≡ Some r
-on_channel r None on = absurd (true≢false (sym on))
-on_channel r (Some l) on = ap (λ (x : ℕ). Some x) (eqb-true l.rank r on)
 
 same_node : (n m : Node) → PowerOn n ≡ PowerOn m → n ≡ m
 same_node n m same = cc
@@ -217,7 +213,7 @@ module _ (s : ScenarioParts) (clocks : ℕ → ℕ → ℕ) (air : List Entry) (
         let of_rank : rank_at n ≡ rank = ap (λ (m : Node). rank_at m) same ∙ scanner.of_rank in
         let radio : RadioFor n d Scanning = subst (RadioFor n d) stage order.radio.at in
         listens_tuned s clocks air go.heedful.trails v rank t is_node in_run
-        (on_channel (rank_at n) d.listening radio.0 ∙ ap (λ (r : ℕ). Some r) of_rank)
+        (channel_is (rank_at n) d.listening radio.0 ∙ ap (λ (r : ℕ). Some r) of_rank)
 
     between : (((n.frame ≡ f) × Stands s clocks air v f d.made.windows n) ⊎ ((n.frame ≡ suc f) × HasEnded s clocks air v f d.made.windows n))
         → IsTuned a v rank t

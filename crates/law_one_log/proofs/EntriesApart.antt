@@ -2,7 +2,7 @@
 use Rattle.std.proofs.Common.{◌≡◌, ◌≢◌, ℕ, ◌<◌, List, [], ◌∷◌, Some, Contains, AllPairs, refl, sym, ap, subst, arith}
 use Rattle.radio_model.specs.declared.sending.Sending.{Sending}
 use Rattle.radio_model.specs.OnAir.{Hearing, Tuning}
-use Rattle.radio_model.proofs.Members.{in_filter, from_filter, pairs_cons, pairs_tail, pairs_head}
+use Rattle.lwb_base.proofs.Elements.{in_filter, filter_from, pairs_cons, pairs_tail, pairs_head}
 use Rattle.air_log.specs.declared.entry.Entry.{Entry}
 use Rattle.air_log.specs.declared.entry.Entry.TheVariants.{Sent, Heard, Tuned}
 use Rattle.air_log.specs.declared.entry.SentEntry.{SentEntry}
@@ -99,7 +99,7 @@ apart_placed (Tuned d) (Tuned e) apart same = apart same.node same.start
 -- an entry is there where what it says is
 module _ (air : List Entry) where
   pub sent_there : (x : SentEntry) → Contains (sendings_of air) (sending_of x) → Contains air (Sent x)
-  sent_there x there = let w = from_filter sending_in air (sending_of x) there in by_entry w.0 w.1 w.2
+  sent_there x there = let w = filter_from sending_in air (sending_of x) there in by_entry w.0 w.1 w.2
     where
       by_entry : (e : Entry) → Contains air e → sending_in e ≡ Some (sending_of x) → Contains air (Sent x)
       by_entry (Sent y) at is = let same : sending_of y ≡ sending_of x = cc in subst (Contains air) (ap sent_entry same) at
@@ -110,7 +110,7 @@ module _ (air : List Entry) where
   entry_of h = heard_entry h.node h.sending
 
   heard_there : (g : HeardEntry) → Contains (hearings_of air) (hearing_of g) → Contains air (Heard g)
-  heard_there g there = let w = from_filter hearing_in air (hearing_of g) there in by_entry w.0 w.1 w.2
+  heard_there g there = let w = filter_from hearing_in air (hearing_of g) there in by_entry w.0 w.1 w.2
     where
       by_entry : (e : Entry) → Contains air e → hearing_in e ≡ Some (hearing_of g) → Contains air (Heard g)
       by_entry (Sent y) at is = cc
@@ -121,7 +121,7 @@ module _ (air : List Entry) where
   tuned_entry e = Tuned (record { rank = e.rank; node = e.node; start = e.start; end = e.end })
 
   tuned_there : (d : TunedEntry) → Contains (tunings_of air) (tuning_of d) → Contains air (Tuned d)
-  tuned_there d there = let w = from_filter tuning_in air (tuning_of d) there in by_entry w.0 w.1 w.2
+  tuned_there d there = let w = filter_from tuning_in air (tuning_of d) there in by_entry w.0 w.1 w.2
     where
       by_entry : (e : Entry) → Contains air e → tuning_in e ≡ Some (tuning_of d) → Contains air (Tuned d)
       by_entry (Sent y) at is = cc

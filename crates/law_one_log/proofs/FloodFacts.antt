@@ -1,38 +1,26 @@
 -- What is known of the log of one flood: the packets and the times of its transmissions, and what made a node relay.
-use Rattle.std.proofs.Common.{◌≡◌, ℕ, ◌+◌, ◌*◌, ◌≤◌, inl, inr, List, [], ◌∷◌, Contains, length, true, sym, ◌∙◌, ap, subst, arith}
+use Rattle.std.proofs.Common.{◌≡◌, ℕ, ◌+◌, ◌*◌, ◌≤◌, List, Contains, length, true, sym, ◌∙◌, ap, subst, arith}
 use Rattle.std.specs.Prelude.{slice_set, slice_index}
 use Rattle.std.proofs.lemmas.List.{length-set}
 use Rattle.tick_clock.specs.Clocks.{Near}
-use Rattle.glossy_relay.specs.FloodState.{FloodState}
-use Rattle.glossy_relay.specs.Relaying.{counter_of}
 use Rattle.glossy_relay.proofs.CountedPackets.{counter_set, fitting_long, relayed_parts}
 use Rattle.radio_model.specs.declared.sending.Sending.{Sending}
 use Rattle.radio_model.specs.Hearing.{Meets}
-use Rattle.radio_model.proofs.Members.{not_in_none, in_head, in_tail, in_either}
+use Rattle.lwb_base.proofs.Elements.{contains_head, contains_tail, contains_cases}
 use Rattle.scenario_text.specs.FloodParts.{FloodParts, knows}
 use Rattle.air_log.specs.declared.entry.Entry.{Entry}
 use Rattle.air_log.specs.Entries.{sendings_of, IsHeard}
 use Rattle.air_log.specs.FloodLaw.{FloodLaw, IsRelay, Lasts, first_packet, first_flood, sending_at}
-use Rattle.air_log.specs.NodeEvents.{Event, Heard, Occasion, occasions, after}
+use Rattle.air_log.specs.NodeEvents.{Heard, after}
 use Rattle.lwb_flood.specs.FloodBySteps.{IsFloodBySteps}
 use Rattle.lwb_flood.specs.FloodLog.{run_of}
+use Rattle.lwb_flood.proofs.SendingTimes.{occasion_event}
+use Rattle.lwb_flood.specs.FloodRun.{counter}
 use Rattle.law_one_log.proofs.EntriesApart.{sent_there}
-
--- the event of an occasion
-occasion_event : (s : FloodState) (es : List Event) (c : Occasion) → Contains (occasions s es) c → Contains es c.event
-occasion_event s [] c there = absurd (not_in_none c there)
-occasion_event s (e ∷ es) c there =
-    elim (in_either (occasions (after s e) es) (record { before = s; event = e }) c there) [
-      | inl is ↦ subst (λ (x : Event). Contains (e ∷ es) x) (ap (λ (o : Occasion). o.event) is) (in_head es e)
-      | inr later ↦ in_tail es e c.event (occasion_event (after s e) es c later)
-    ]
 
 -- the starting node's packet with a counter
 abbrev pub packet_at : FloodParts → ℕ → List ℕ
 packet_at f k = slice_set (first_packet f.start) 2 k
-
-abbrev pub step_of : Sending → ℕ
-step_of x = counter_of x.packet
 
 -- in any two logs of one flood
 pub same_sending : (x y : Sending) → Lasts x → Lasts y → x.node ≡ y.node → x.start ≡ y.start → x.packet ≡ y.packet → x ≡ y
@@ -44,10 +32,10 @@ same_sending x y lasts also node start packet =
     ∙ sym also
 
 module _ (f : FloodParts) (clocks : ℕ → ℕ → ℕ) (air : List Entry) (law : FloodLaw f clocks air) (steps : IsFloodBySteps (run_of f clocks air law)) where
-  pub packet_is : (x : Sending) → Contains (sendings_of air) x → x.packet ≡ packet_at f (step_of x)
+  pub packet_is : (x : Sending) → Contains (sendings_of air) x → x.packet ≡ packet_at f (counter x)
   packet_is x there = (steps.spelled x there).3
 
-  pub timed : (x : Sending) → Contains (sendings_of air) x → (k : ℕ) → step_of x ≡ k → (k ≤ 11) × Near x.start (1344064000 + k * 45056) k
+  pub timed : (x : Sending) → Contains (sendings_of air) x → (k : ℕ) → counter x ≡ k → (k ≤ 11) × Near x.start (1344064000 + k * 45056) k
   timed x there k at =
       let s = steps.spelled x there in
       let few = s.2 in
@@ -56,7 +44,7 @@ module _ (f : FloodParts) (clocks : ℕ → ℕ → ℕ) (air : List Entry) (law
   pub lasting : (x : Sending) → Contains (sendings_of air) x → (x.rank ≡ 0) × (x.end ≡ x.start + 32768)
   lasting x there =
       let last = law.lasts x there in
-      let long : length x.packet ≡ 8 = ap (λ (p : List ℕ). length p) (packet_is x there) ∙ length-set (first_packet f.start) 2 (step_of x) in
+      let long : length x.packet ≡ 8 = ap (λ (p : List ℕ). length p) (packet_is x there) ∙ length-set (first_packet f.start) 2 (counter x) in
       let end : x.end ≡ x.start + (length x.packet + 8) * 2048 = ap (λ (y : Sending). y.end) last in
       (ap (λ (y : Sending). y.rank) last, omega (arith, end, long))
 
@@ -66,7 +54,7 @@ module _ (f : FloodParts) (clocks : ℕ → ℕ → ℕ) (air : List Entry) (law
 
   -- a relay follows a reception with the counter before
   pub cause : (x : Sending) → knows f.nodes x.node ≡ true → (relay : IsRelay f (clocks x.node) (law.events x.node) x)
-      → IsHeard air x.node relay.heard × (step_of x ≡ step_of relay.heard + 1)
+      → IsHeard air x.node relay.heard × (counter x ≡ counter relay.heard + 1)
   cause x here relay =
       let y = relay.heard in
       let parts = relayed_parts relay.flood y.packet x.packet relay.answer in
@@ -75,7 +63,7 @@ module _ (f : FloodParts) (clocks : ℕ → ℕ → ℕ) (air : List Entry) (law
         event = Heard y;
       }) relay.occasion in (
         ((law.happened x.node here).hearings y).0 event,
-        ap (λ (p : List ℕ). slice_index p 2) parts.2 ∙ counter_set y.packet (step_of y + 1) (fitting_long relay.flood y.packet parts.0),
+        ap (λ (p : List ℕ). slice_index p 2) parts.2 ∙ counter_set y.packet (counter y + 1) (fitting_long relay.flood y.packet parts.0),
       )
 
 -- two of one step are on the air together

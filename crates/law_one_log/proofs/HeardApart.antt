@@ -3,7 +3,6 @@ use Rattle.std.proofs.Common.{◌≡◌, ℕ, ◌<◌, inl, inr, List, Some, All
 use Rattle.lwb_base.specs.Profile.{Numbers, IsProfile, airtime}
 use Rattle.link_trace.specs.Passes.{captured}
 use Rattle.radio_model.specs.declared.sending.Sending.{Sending}
-use Rattle.radio_model.specs.OnAir.{Hearing}
 use Rattle.radio_model.specs.Hearing.{Scene, Meets, Rival, Captured, frame_of, slot_of, counter_of}
 use Rattle.scenario_text.specs.ScenarioParts.{ScenarioParts}
 use Rattle.air_log.specs.declared.entry.Entry.{Entry}
@@ -13,6 +12,7 @@ use Rattle.air_log.specs.HearsAir.{scene_of, HearsAir}
 use Rattle.air_log.specs.Safe.{Safe, SameStep}
 use Rattle.law_trails.proofs.SentInTrails.{sent_lasts}
 use Rattle.law_trails.proofs.TunedInTrails.{tuned_listens}
+use Rattle.law_trails.specs.OnePacket.{hears as hearing}
 use Rattle.law_safety.proofs.SafeRuns.{lawful_logs_are_safe}
 use Rattle.law_terms.specs.LawfulRuns.{IsLawfulRun}
 use Rattle.law_one_log.proofs.EntriesApart.{HearingsApart, Other}
@@ -29,9 +29,6 @@ outlasts p (inr is) n =
     let long = ap (λ (q : Numbers). airtime q n) is.0 in
     let near = ap (λ (q : Numbers). q.delta) is.0 in
     omega (arith, long, near)
-
-abbrev hearing : ℕ → Sending → Hearing
-hearing v x = record { node = v; sending = x }
 
 module _ (s : ScenarioParts) (clocks : ℕ → ℕ → ℕ) (air : List Entry) (run : IsLawfulRun s clocks air) where
   abbrev scene : Scene

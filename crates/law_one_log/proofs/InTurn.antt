@@ -7,7 +7,7 @@ use Rattle.std.proofs.lemmas.List.Sorted.{IsPermutation-refl, IsPermutation-sym,
 use Rattle.std.proofs.lemmas.List.Sorted.{Contains-permutation}
 use Rattle.radio_model.specs.OnAir.{Hearing}
 use Rattle.air_log.proofs.StrictOrders.{same_order}
-use Rattle.radio_model.proofs.Members.{not_in_none, in_head, in_tail, in_either, pairs_cons, pairs_tail, pairs_head}
+use Rattle.lwb_base.proofs.Elements.{not_in_none, contains_head, contains_tail, contains_cases, pairs_cons, pairs_tail, pairs_head}
 use Rattle.air_log.specs.Lawful.{comes_before, put_in, by_end}
 
 -- g ends before h, or they end together and g is of an earlier sender
@@ -86,17 +86,17 @@ by_end_moves (h ∷ hs) =
 put_in_turn : (h : Hearing) (gs : List Hearing) → ((g : Hearing) → Contains gs g → EndApart g h) → AllPairs InTurn gs → AllPairs InTurn (put_in h gs)
 put_in_turn h [] apart all = pairs_cons InTurn h [] (λ y there. absurd (not_in_none y there)) all
 put_in_turn h (g ∷ gs) apart all =
-    let rest = put_in_turn h gs (λ k there. apart k (in_tail gs g k there)) (pairs_tail InTurn g gs all) in
+    let rest = put_in_turn h gs (λ k there. apart k (contains_tail g gs k there)) (pairs_tail InTurn g gs all) in
     let later = pairs_head InTurn g gs all in
     cond_both (comes_before g h) (g ∷ put_in h gs) (h ∷ g ∷ gs) (AllPairs InTurn)
     (λ is. pairs_cons InTurn g (put_in h gs)
-    (λ k there. elim (in_either gs h k (Contains-permutation (put_in h gs) (h ∷ gs) k (IsPermutation-sym (h ∷ gs) (put_in h gs) (put_moves h gs)) there)) [
+    (λ k there. elim (contains_cases h gs k (Contains-permutation (put_in h gs) (h ∷ gs) k (IsPermutation-sym (h ∷ gs) (put_in h gs) (put_moves h gs)) there)) [
       | inl same ↦ subst (InTurn g) same (told g h is)
       | inr more ↦ later k more
     ]) rest)
     (λ is.
-    let first = other_way g h is (apart g (in_head gs g)) in
-    pairs_cons InTurn h (g ∷ gs) (λ k there. elim (in_either gs g k there) [
+    let first = other_way g h is (apart g (contains_head g gs)) in
+    pairs_cons InTurn h (g ∷ gs) (λ k there. elim (contains_cases g gs k there) [
       | inl same ↦ subst (InTurn h) same first
       | inr more ↦ chain h g k first (later k more)
     ]) all)

@@ -2,7 +2,7 @@
 use Rattle.std.proofs.Common.{◌≡◌, ℕ, inl, inr, List, [], ◌∷◌, Bool, true, ◌==◌, filter, Contains, AllPairs, get_or, refl, sym, subst, arith}
 use Rattle.std.proofs.lemmas.Bool.{cond_both, cond-true, eq-eqb}
 use Rattle.std.proofs.lemmas.List.Elements.{Contains-get_or}
-use Rattle.radio_model.proofs.Members.{not_in_none, in_head, in_tail, in_either, pairs_cons, pairs_tail, pairs_head}
+use Rattle.lwb_base.proofs.Elements.{not_in_none, contains_head, contains_tail, contains_cases, pairs_cons, pairs_tail, pairs_head}
 
 -- what holds of any two of a list, by what is known of its elements
 pub weaker_pairs : {X : Type 0} (R Q : X → X → Type 0) (xs : List X) → AllPairs R xs
@@ -28,12 +28,12 @@ module _ {X : Type 0} (node : X → ℕ) (R : X → X → Type 0) where
   in_part : (v : ℕ) (xs : List X) (y : X) → Contains xs y → node y ≡ v → Contains (filter (of_node v) xs) y
   in_part v [] y there is = absurd (not_in_none y there)
   in_part v (x ∷ xs) y there is =
-      elim (in_either xs x y there) [
+      elim (contains_cases x xs y there) [
         | inl same ↦ subst (λ (l : List X). Contains l y) (sym (cond-true (of_node v x) (x ∷ filter (of_node v) xs) (filter (of_node v) xs)
             (subst (λ (z : X). of_node v z ≡ true) (sym same) (eq-eqb (node y) v is))))
-            (subst (Contains (x ∷ filter (of_node v) xs)) same (in_head (filter (of_node v) xs) x))
+            (subst (Contains (x ∷ filter (of_node v) xs)) same (contains_head x (filter (of_node v) xs)))
         | inr rest ↦ cond_both (of_node v x) (x ∷ filter (of_node v) xs) (filter (of_node v) xs) (λ (l : List X). Contains l y)
-            (λ at. in_tail (filter (of_node v) xs) x y (in_part v xs y rest is)) (λ not. in_part v xs y rest is)
+            (λ at. contains_tail x (filter (of_node v) xs) y (in_part v xs y rest is)) (λ not. in_part v xs y rest is)
       ]
 
   pub of_all_nodes : (xs : List X) → ((v : ℕ) → AllPairs R (filter (λ x. node x == v) xs)) → AllPairs AtNode xs

@@ -13,7 +13,7 @@ use Rattle.air_log.specs.declared.entry.Entry.{Entry}
 use Rattle.air_log.specs.Entries.{sendings_of, hearings_of, tunings_of}
 use Rattle.air_log.specs.Lawful.{Lawful, heard_by, hearings_by, sent_by, tuned_by}
 use Rattle.air_log.specs.Trails.{run_end, trail}
-use Rattle.air_log.proofs.Elements.{filtered}
+use Rattle.lwb_base.proofs.Elements.{filtered}
 use Rattle.air_log.proofs.SendingsKept.{profile_lasts}
 use Rattle.air_log.proofs.StrictOrders.{Apart, in_other_order}
 use Rattle.air_log.proofs.TrailSendings.{in_order}

@@ -9,7 +9,7 @@ use Rattle.bus_terms.specs.FloodOfText.{setting}
 use Rattle.radio_model.specs.declared.sending.Sending.{Sending}
 use Rattle.radio_model.specs.OnAir.{Hearing, Tuning}
 use Rattle.radio_model.specs.Hearing.{Rival}
-use Rattle.radio_model.proofs.Members.{from_filter, in_filter, pairs_cons, pairs_tail, pairs_head}
+use Rattle.lwb_base.proofs.Elements.{filter_from, in_filter, pairs_cons, pairs_tail, pairs_head}
 use Rattle.scenario_text.specs.FloodParts.{FloodParts, knows}
 use Rattle.air_log.specs.declared.entry.Entry.{Entry}
 use Rattle.air_log.specs.Entries.{sendings_of, hearings_of, tunings_of, IsHeard}
@@ -19,15 +19,16 @@ use Rattle.air_log.specs.NodeEvents.{Event, Heard, Ended, sending_of, own_end, o
 use Rattle.air_log.proofs.StrictOrders.{same_order}
 use Rattle.lwb_flood.specs.FloodBySteps.{IsFloodBySteps}
 use Rattle.lwb_flood.specs.FloodLog.{HasClocks, HasSent, HasHeard, run_of}
+use Rattle.lwb_flood.specs.FloodRun.{counter}
 use Rattle.law_one_log.specs.OneLog.{OneFloodLogLaw}
 use Rattle.law_one_log.proofs.EntriesApart.{also_there}
-use Rattle.law_one_log.proofs.FloodFacts.{packet_at, step_of, same_sending, packet_is, timed, lasting, known, cause, meets}
+use Rattle.law_one_log.proofs.FloodFacts.{packet_at, same_sending, packet_is, timed, lasting, known, cause, meets}
 use Rattle.law_one_log.proofs.KeptApart.{weaker_pairs}
 use Rattle.law_one_log.proofs.SameElements.{same_elements}
 
 -- what a sends in step k, b sends
 abbrev SentToo : ℕ → List Entry → List Entry → Type 0
-SentToo k a b = (x : Sending) → step_of x ≡ k → Contains (sendings_of a) x → Contains (sendings_of b) x
+SentToo k a b = (x : Sending) → counter x ≡ k → Contains (sendings_of a) x → Contains (sendings_of b) x
 
 -- two own transmissions that follow one another end so
 abbrev EndsUp : Event → Event → Type 0
@@ -42,7 +43,7 @@ one_way : (m n : ℕ) → m < n → n < m → ⊥
 one_way m n up down = omega (arith, up, down)
 
 first_end : (x : Sending) (es : List Event) → AllPairs EndsUp (Ended x ∷ es) → (t : ℕ) → Contains (own_ends es) t → x.end < t
-first_end x es all t there = let e = from_filter own_end es t there in by_event e.0 e.1 e.2
+first_end x es all t there = let e = filter_from own_end es t there in by_event e.0 e.1 e.2
   where
     by_event : (e : Event) → Contains es e → own_end e ≡ Some t → x.end < t
     by_event (Heard y) at is = cc
@@ -79,7 +80,7 @@ module _ (steps : StepsLaw) (sends : SendsLaw) (hears : HearsLaw) (f : FloodPart
     in_b = steps f clocks b is other
 
     -- of one step a node hears the same in both
-    one_heard : (v k : ℕ) → SentToo k a b → SentToo k b a → (g h : Sending) → IsHeard a v g → IsHeard b v h → step_of g ≡ k → step_of h ≡ k → g ≡ h
+    one_heard : (v k : ℕ) → SentToo k a b → SentToo k b a → (g h : Sending) → IsHeard a v g → IsHeard b v h → counter g ≡ k → counter h ≡ k → g ≡ h
     one_heard v k to from g h there also at at_too =
         let hears_g = ((law.hears v g).0 there).1 in
         let hears_h = ((other.hears v h).0 also).1 in
@@ -150,13 +151,13 @@ module _ (steps : StepsLaw) (sends : SendsLaw) (hears : HearsLaw) (f : FloodPart
         (sent_next a b law other k before.0 before.1, sent_next b a other law k before.1 before.0)
 
     sent_too : (x : Sending) → Contains (sendings_of a) x → Contains (sendings_of b) x
-    sent_too x there = (sent_both (step_of x)).0 x refl there
+    sent_too x there = (sent_both (counter x)).0 x refl there
 
     heard_too : (h : Hearing) → Contains (hearings_of a) h → Contains (hearings_of b) h
     heard_too h there =
         let v = h.node in
         let x = h.sending in
-        let k = step_of x in
+        let k = counter x in
         let here = ((law.hears v x).0 there).0 in
         let z = (hears f clocks b is other v k here).1 ((hears f clocks a is law v k here).0 (record { sending = x; there = there; counter = refl })) in
         let both = sent_both k in
@@ -178,8 +179,8 @@ module _ (steps : StepsLaw) (sends : SendsLaw) (hears : HearsLaw) (f : FloodPart
             let in_steps = steps f clocks a is law in
             let x_lasts = (lasting f clocks a law in_steps x own.0).1 in
             let y_lasts = (lasting f clocks a law in_steps y own_too.0).1 in
-            let x_timed = timed f clocks a law in_steps x own.0 (step_of x) refl in
-            let y_timed = timed f clocks a law in_steps y own_too.0 (step_of y) refl in
+            let x_timed = timed f clocks a law in_steps x own.0 (counter x) refl in
+            let y_timed = timed f clocks a law in_steps y own_too.0 (counter y) refl in
             let x_low = x_timed.1.below in
             let x_high = x_timed.1.above in
             let y_low = y_timed.1.below in
@@ -192,7 +193,7 @@ module _ (steps : StepsLaw) (sends : SendsLaw) (hears : HearsLaw) (f : FloodPart
               | inr (inr more) ↦ absurd (omega (arith, up, more))
               | inl end ↦
                   let start : x.start ≡ y.start = omega (arith, end, x_lasts, y_lasts) in
-                  let step : step_of x ≡ step_of y = omega (arith, start, x_low, x_high, y_low, y_high, x_few, y_few) in
+                  let step : counter x ≡ counter y = omega (arith, start, x_low, x_high, y_low, y_high, x_few, y_few) in
                   let packet : x.packet ≡ y.packet =
                   packet_is f clocks a law in_steps x own.0 ∙ ap (packet_at f) step ∙ sym (packet_is f clocks a law in_steps y own_too.0) in
                   let same = same_sending x y (law.lasts x own.0) (law.lasts y own_too.0) (own.1 ∙ sym own_too.1) start packet in
@@ -200,7 +201,7 @@ module _ (steps : StepsLaw) (sends : SendsLaw) (hears : HearsLaw) (f : FloodPart
             ]
 
     ends_too : (v : ℕ) → knows f.nodes v ≡ true → (t : ℕ) → Contains (own_ends (law.events v)) t → Contains (own_ends (other.events v)) t
-    ends_too v here t there = let e = from_filter own_end (law.events v) t there in by_event e.0 e.1 e.2
+    ends_too v here t there = let e = filter_from own_end (law.events v) t there in by_event e.0 e.1 e.2
       where
         by_event : (e : Event) → Contains (law.events v) e → own_end e ≡ Some t → Contains (own_ends (other.events v)) t
         by_event (Heard y) at is = cc

@@ -1,19 +1,18 @@
 -- Entries of which no two have the same start, kind and node stand in one order in the log text.
 use Rattle.std.proofs.Common.{◌≡◌, ℕ, ◌<◌, Bool, true, inl, inr, List, [], ◌∷◌, filter, flat_map, Contains, AllPairs}
-use Rattle.std.proofs.Common.{Ordering, Less, Equal, refl, sym, ◌∙◌, ap, arith, true≢false}
+use Rattle.std.proofs.Common.{Ordering, Equal, refl, sym, ◌∙◌, ap, arith, true≢false}
 use Rattle.std.specs.Prelude.{IsPermutation}
-use Rattle.std.specs.Cmp.{IsTotalOrder, IsStrictWeakOrder, nat_cmp_is, nat_cmp_total, on_total, then_total}
+use Rattle.std.specs.Cmp.{IsStrictWeakOrder}
 use Rattle.std.specs.List.Sorted.{ties}
 use Rattle.std.specs.Ordering.{nat_cmp, ordering_then, is_lt}
-use Rattle.std.proofs.lemmas.Bool.{cases_order}
 use Rattle.std.proofs.lemmas.List.Kept.{AllPairs-filter}
 use Rattle.std.proofs.lemmas.List.Sorted.{ranks_by, Contains-permutation, IsPermutation-sym}
-use Rattle.radio_model.proofs.Members.{not_in_none, in_head, in_either}
+use Rattle.lwb_base.proofs.Elements.{not_in_none, contains_head, contains_cases, in_filtered, filtered}
 use Rattle.air_log.specs.declared.entry.Entry.{Entry}
 use Rattle.air_log.specs.Entries.{node_of}
 use Rattle.air_log.specs.LogText.{start_of, kind_of, is_before, entry_line}
-use Rattle.air_log.proofs.DeliveryOrder.{neither}
-use Rattle.air_log.proofs.Elements.{in_filtered, filtered}
+use Rattle.lwb_base.proofs.Orders.{compares_less, by_three_total, compares_equal, one_number}
+use Rattle.lwb_base.proofs.Truths.{both_not}
 use Rattle.air_log.proofs.StableSorts.{same_in_order}
 use Rattle.law_one_log.specs.OneLog.{SamePlace, EntriesApartLaw, OneTextLaw}
 use Rattle.law_one_log.proofs.EntriesApart.{EntriesApart, HearingsApart, all_apart, apart_placed}
@@ -33,21 +32,8 @@ entries_apart s clocks air run =
 abbrev place_of : Entry → ℕ × ℕ × ℕ
 place_of e = (start_of e, kind_of e, node_of e)
 
-abbrev by_place : ℕ × ℕ × ℕ → ℕ × ℕ × ℕ → Ordering
-by_place a b = ordering_then (ordering_then (nat_cmp a.0 b.0) (nat_cmp a.1 b.1)) (nat_cmp a.2 b.2)
-
-is_total : IsTotalOrder by_place
-is_total = then_total (then_total (on_total (λ (t : ℕ × ℕ × ℕ). t.0) nat_cmp_total) (on_total (λ (t : ℕ × ℕ × ℕ). t.1) nat_cmp_total))
-    (on_total (λ (t : ℕ × ℕ × ℕ). t.2) nat_cmp_total)
-
 is_order : IsStrictWeakOrder is_before
-is_order = ranks_by is_total place_of
-
-less_is : (x y : ℕ) → x < y → nat_cmp x y ≡ Less
-less_is x y less = sym (nat_cmp_is x y Less less)
-
-same_is : (x y : ℕ) → x ≡ y → nat_cmp x y ≡ Equal
-same_is x y same = sym (nat_cmp_is x y Equal same)
+is_order = ranks_by by_three_total place_of
 
 module _ (d e : Entry) where
   abbrev then_so : Ordering → Ordering → Ordering → Bool
@@ -57,26 +43,23 @@ module _ (d e : Entry) where
   Before = is_before d e ≡ true
 
   by_start : start_of d < start_of e → Before
-  by_start less = ap (λ (c : Ordering). then_so c (nat_cmp (kind_of d) (kind_of e)) (nat_cmp (node_of d) (node_of e))) (less_is (start_of d) (start_of e) less)
+  by_start less =
+      ap (λ (c : Ordering). then_so c (nat_cmp (kind_of d) (kind_of e)) (nat_cmp (node_of d) (node_of e))) (compares_less (start_of d) (start_of e) less)
 
   by_kind : start_of d ≡ start_of e → kind_of d < kind_of e → Before
   by_kind start less =
-      ap (λ (c : Ordering). then_so c (nat_cmp (kind_of d) (kind_of e)) (nat_cmp (node_of d) (node_of e))) (same_is (start_of d) (start_of e) start)
-      ∙ ap (λ (c : Ordering). then_so Equal c (nat_cmp (node_of d) (node_of e))) (less_is (kind_of d) (kind_of e) less)
+      ap (λ (c : Ordering). then_so c (nat_cmp (kind_of d) (kind_of e)) (nat_cmp (node_of d) (node_of e))) (compares_equal (start_of d) (start_of e) start)
+      ∙ ap (λ (c : Ordering). then_so Equal c (nat_cmp (node_of d) (node_of e))) (compares_less (kind_of d) (kind_of e) less)
 
   by_node : start_of d ≡ start_of e → kind_of d ≡ kind_of e → node_of d < node_of e → Before
   by_node start kind less =
-      ap (λ (c : Ordering). then_so c (nat_cmp (kind_of d) (kind_of e)) (nat_cmp (node_of d) (node_of e))) (same_is (start_of d) (start_of e) start)
-      ∙ ap (λ (c : Ordering). then_so Equal c (nat_cmp (node_of d) (node_of e))) (same_is (kind_of d) (kind_of e) kind)
-      ∙ ap (λ (c : Ordering). then_so Equal Equal c) (less_is (node_of d) (node_of e) less)
-
--- two numbers, neither below the other
-one_number : (x y : ℕ) → (x < y → ⊥) → (y < x → ⊥) → x ≡ y
-one_number x y up down = elim (cases_order x y) [ inl same ↦ same | inr (inl less) ↦ absurd (up less) | inr (inr more) ↦ absurd (down more) ]
+      ap (λ (c : Ordering). then_so c (nat_cmp (kind_of d) (kind_of e)) (nat_cmp (node_of d) (node_of e))) (compares_equal (start_of d) (start_of e) start)
+      ∙ ap (λ (c : Ordering). then_so Equal c (nat_cmp (node_of d) (node_of e))) (compares_equal (kind_of d) (kind_of e) kind)
+      ∙ ap (λ (c : Ordering). then_so Equal Equal c) (compares_less (node_of d) (node_of e) less)
 
 tied_place : (d e : Entry) → ties is_before d e ≡ true → SamePlace d e
 tied_place d e tied =
-    let so = neither (is_before d e) (is_before e d) tied in
+    let so = both_not (is_before d e) (is_before e d) tied in
     let up : is_before d e ≡ true → ⊥ = λ is. true≢false (sym is ∙ so.0) in
     let down : is_before e d ≡ true → ⊥ = λ is. true≢false (sym is ∙ so.1) in
     let start = one_number (start_of d) (start_of e) (λ less. up (by_start d e less)) (λ less. down (by_start e d less)) in
@@ -94,10 +77,10 @@ Never d e = ⊥
 alone : (xs ys : List Entry) → AllPairs Never xs → AllPairs Never ys → ((e : Entry) → Contains xs e → Contains ys e)
     → ((e : Entry) → Contains ys e → Contains xs e) → xs ≡ ys
 alone [] [] one also to from = refl
-alone [] (y ∷ ys) one also to from = absurd (not_in_none y (from y (in_head ys y)))
-alone (x ∷ xs) [] one also to from = absurd (not_in_none x (to x (in_head xs x)))
+alone [] (y ∷ ys) one also to from = absurd (not_in_none y (from y (contains_head y ys)))
+alone (x ∷ xs) [] one also to from = absurd (not_in_none x (to x (contains_head x xs)))
 alone (x ∷ []) (y ∷ []) one also to from =
-    elim (in_either [] y x (to x (in_head [] x))) [ inl is ↦ ap (λ (e : Entry). e ∷ []) (sym is) | inr none ↦ absurd (not_in_none x none) ]
+    elim (contains_cases y [] x (to x (contains_head x []))) [ inl is ↦ ap (λ (e : Entry). e ∷ []) (sym is) | inr none ↦ absurd (not_in_none x none) ]
 alone (x ∷ z ∷ xs) (y ∷ ys) one also to from = absurd (one 0 1 x (omega arith) (omega arith))
 alone (x ∷ []) (y ∷ z ∷ ys) one also to from = absurd (also 0 1 y (omega arith) (omega arith))
 

@@ -1,5 +1,5 @@
 -- Tick by tick: two lawful logs of one scenario over the same clocks have the same receptions.
-use Rattle.std.proofs.Common.{◌≡◌, ℕ, zero, suc, ◌<◌, ◌≤◌, inl, inr, List, [], ◌∷◌, Bool, true, false, ◌==◌, nat_lt, cond, map, filter, Contains, AllPairs}
+use Rattle.std.proofs.Common.{◌≡◌, ℕ, zero, suc, ◌<◌, ◌≤◌, inl, inr, List, Bool, ◌==◌, nat_lt, map, filter, Contains, AllPairs}
 use Rattle.std.proofs.Common.{refl, sym, ◌∙◌, ap, subst, arith, ltb-true}
 use Rattle.std.proofs.lemmas.Bool.{cases_lt}
 use Rattle.std.proofs.lemmas.List.Kept.{AllPairs-filter}
@@ -18,7 +18,8 @@ use Rattle.air_log.specs.HearsAir.{scene_of}
 use Rattle.air_log.specs.Lawful.{Lawful, by_end, reception_of, hearings_by, heard_by}
 use Rattle.air_log.specs.QuietTicks.{ends_before}
 use Rattle.air_log.specs.Trails.{run_end, trail}
-use Rattle.air_log.proofs.Elements.{in_filtered, filtered}
+use Rattle.lwb_base.proofs.Elements.{in_filtered, filtered}
+use Rattle.lwb_base.proofs.Lists.{filter_map_of}
 use Rattle.air_log.proofs.QuietTicks.{prefix, prefix_run}
 use Rattle.air_log.proofs.TunedBefore.{TunedAt}
 use Rattle.law_trails.specs.TrailLinks.{device_in}
@@ -43,16 +44,6 @@ alike_earlier a b t u order alike = (
   λ v x before is. alike.0 v x (omega (arith, order, before)) is,
   λ v x before is. alike.1 v x (omega (arith, order, before)) is,
 )
-
--- a choice before a map and after it
-chosen_map : {X Y : Type 0} (f : X → Y) (p : Y → Bool) (xs : List X) → filter p (map f xs) ≡ map f (filter (λ x. p (f x)) xs)
-chosen_map f p [] = refl
-chosen_map {X} {Y} f p (x ∷ xs) =
-    ap (λ (l : List Y). cond (p (f x)) (f x ∷ l) l) (chosen_map f p xs) ∙ by_test (p (f x)) (filter (λ z. p (f z)) xs)
-  where
-    by_test : (c : Bool) (l : List X) → cond c (f x ∷ map f l) (map f l) ≡ map f (cond c (x ∷ l) l)
-    by_test true l = refl
-    by_test false l = refl
 
 abbrev over_before : ℕ → Hearing → Bool
 over_before t h = nat_lt h.sending.end t
@@ -83,9 +74,9 @@ module _ (s : ScenarioParts) (clocks : ℕ → ℕ → ℕ) (sound : IsSoundScen
     same_heard t v alike =
         let same : taken a v t ≡ taken b v t = same_in_turn (taken a v t) (taken b v t) (in_turn a of_a t v) (in_turn b of_b t v)
         (taken_too a b t v alike.0) (taken_too b a t v alike.1) in
-        chosen_map reception_of (ends_before t) (by_end (hearings_by a v))
+        filter_map_of reception_of (ends_before t) (by_end (hearings_by a v))
         ∙ ap (map reception_of) same
-        ∙ sym (chosen_map reception_of (ends_before t) (by_end (hearings_by b v)))
+        ∙ sym (filter_map_of reception_of (ends_before t) (by_end (hearings_by b v)))
 
     pub same_device : (t v : ℕ) → HeardAlike a b t → device_in s clocks a v t ≡ device_in s clocks b v t
     same_device t v alike = prefix s v (clocks v) (heard_by a v) (heard_by b v) t (same_heard t v alike)

@@ -11,7 +11,7 @@ use Rattle.air_log.specs.Entries.{tunings_of}
 use Rattle.air_log.specs.HearsAir.{scene_of}
 use Rattle.air_log.specs.Lawful.{FollowsTrails, heard_by, tuned_by}
 use Rattle.air_log.specs.Trails.{Reception, run_end, before_tick, trail}
-use Rattle.air_log.proofs.Elements.{in_filtered, filtered}
+use Rattle.lwb_base.proofs.Elements.{in_filtered, filtered}
 use Rattle.air_log.proofs.TunedBefore.{TunedAt, silenced_stays, tick_by}
 use Rattle.law_trails.proofs.SentInTrails.{if_holds, holds_if}
 use Rattle.law_trails.proofs.TunedInTrails.{Tuned, step_stays}

@@ -6,12 +6,13 @@ use Rattle.std.specs.Prelude.{⊤}
 use Rattle.std.proofs.lemmas.Bool.{cond-true, cond-false, ne_eqb}
 use Rattle.lwb_packets.specs.declared.kind.Kind as Kind
 use Rattle.lwb_base.specs.Messages.{Plan, Schedule}
-use Rattle.glossy_relay.specs.Relaying.{accepted_of, counter_of, is_spelling}
+use Rattle.glossy_relay.specs.Relaying.{accepted_of, counter_of}
 use Rattle.bus_rules.specs.declared.part.Part.{Part}
 use Rattle.bus_rules.specs.declared.part.Part.TheVariants.{Opening, Data as DataSlot, Contention, Closing}
 use Rattle.bus_rules.specs.Plans.{last_slot}
 use Rattle.bus_rules.specs.Tuning.{hosts}
 use Rattle.bus_rules.specs.Slots.{Message, ScheduleOf, is_schedule_part}
+use Rattle.bus_rules.proofs.Ranks.{same_schedule}
 use Rattle.lwb_member.specs.Places.{kind_for}
 use Rattle.lwb_member.specs.Said.{message_of}
 use Rattle.node_core.specs.declared.stage.Stage.TheVariants.{InWindow}
@@ -24,8 +25,7 @@ use Rattle.air_log.specs.declared.entry.Entry.{Entry}
 use Rattle.air_log.specs.Devices.{Device}
 use Rattle.air_log.specs.Trails.{setup_of}
 use Rattle.law_trails.specs.NodeRanges.{IsNode, IsAt, IsOpen, IsCarried}
-use Rattle.law_trails.specs.PacketKinds.{kind_of}
-use Rattle.law_trails.proofs.SaidPackets.{kind_says}
+use Rattle.law_trails.proofs.WindowsInRange.{schedule_said}
 use Rattle.law_safety.specs.RoundZeros.{RefFor}
 use Rattle.law_safety.specs.SetAlarms.{rank_at}
 use Rattle.law_safety.specs.TunedNodes.{Either, is_joining, is_last, IsMember}
@@ -50,33 +50,12 @@ listener true first a is = absurd cc
 listener false None a is = absurd cc
 listener false (Some q) a is = (refl, ap (option_map {U = List ℕ} (λ (b : List ℕ × ℕ). b.0)) is)
 
--- a slot whose packets say schedules
-schedule_part : (part : Part) (q : List ℕ) (y : Schedule) → is_spelling (kind_for part) q ≡ true → message_of q ≡ Some (ScheduleOf y)
-    → is_schedule_part part ≡ true
-schedule_part Opening q y spelled says = refl
-schedule_part (DataSlot owner) q y spelled says =
-    let k = kind_says Kind.TheVariants.Payload q spelled in
-    let also : message_of q ≡ Some k.message = k.says in
-    let same : k.message ≡ ScheduleOf y = cc in
-    let kind : Kind.TheVariants.Schedule ≡ Kind.TheVariants.Payload = sym (ap kind_of same) ∙ k.of_kind in
-    absurd cc
-schedule_part (Contention i) q y spelled says =
-    let k = kind_says Kind.TheVariants.Request q spelled in
-    let also : message_of q ≡ Some k.message = k.says in
-    let same : k.message ≡ ScheduleOf y = cc in
-    let kind : Kind.TheVariants.Schedule ≡ Kind.TheVariants.Request = sym (ap kind_of same) ∙ k.of_kind in
-    absurd cc
-schedule_part Closing q y spelled says = refl
-
 -- behind slot 0 it is the last
 last_behind : (p : Plan) (j : ℕ) (part : Part) → StandsAt p j part → is_schedule_part part ≡ true → 1 ≤ j → last_slot p ≤ j
 last_behind p j Opening at is behind = absurd (omega (arith, at, behind))
 last_behind p j (DataSlot owner) at is behind = absurd (true≢false (sym is))
 last_behind p j (Contention i) at is behind = absurd (true≢false (sym is))
 last_behind p j Closing at is behind = at.1
-
-same_schedule : (x y : Schedule) → Some (ScheduleOf x) ≡ Some (ScheduleOf y) → x ≡ y
-same_schedule x y is = cc
 
 module _ (s : ScenarioParts) (clocks : ℕ → ℕ → ℕ) (air : List Entry) (v t : ℕ) (at : AtTick s clocks air v t) (d : Device) (n : Node) (j : ℕ) (w : Window)
     (is : Closes s clocks air v t d n j w) where
@@ -132,7 +111,7 @@ module _ (s : ScenarioParts) (clocks : ℕ → ℕ → ℕ) (air : List Entry) (
         let open_so : IsOpen (setup_of s v) n.frame n.core j w = subst (IsAt (setup_of s v) n.frame n.core) stage ranged.stage in
         let carried : IsCarried (setup_of s v) (kind_for w.part) j taken.0.0 =
         subst (λ (o : Option (List ℕ)). IfSome o (IsCarried (setup_of s v) (kind_for w.part) j)) listens.1 open_so.flood.first in
-        schedule_part w.part taken.0.0 y carried.spelled taken.2
+        schedule_said w.part taken.0.0 y carried.spelled taken.2
 
     -- a host says the schedules of its round, and hears none
     guest_by : (b : Bool) → hosts n.core.tune ≡ b → b ≡ false

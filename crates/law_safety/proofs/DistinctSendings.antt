@@ -1,7 +1,7 @@
 -- No sending stands twice in a log that follows its trails.
-use Rattle.std.proofs.Common.{◌≡◌, ◌≢◌, ℕ, List, [], ◌∷◌, Bool, true, false, ◌==◌, filter, AllPairs, Contains, if◌then◌else◌, refl, sym, ◌∙◌, subst, arith}
+use Rattle.std.proofs.Common.{◌≡◌, ◌≢◌, ℕ, List, [], ◌∷◌, Bool, true, false, ◌==◌, filter, AllPairs, Contains, if◌then◌else◌, refl, sym, subst, arith}
 use Rattle.std.specs.List.{IsDistinct}
-use Rattle.std.proofs.lemmas.Bool.{cond_both, cond-true, eq-eqb, eqb-true, eqb-false, ne_eqb}
+use Rattle.std.proofs.lemmas.Bool.{cond_both, cond-true, eq-eqb, eqb-false, ne_eqb}
 use Rattle.std.proofs.lemmas.List.Elements.{Contains-get_or}
 use Rattle.std.proofs.lemmas.List.Kept.{AllPairs-cons}
 use Rattle.std.proofs.lemmas.Map.Keys.{IsDistinct-IsPermutation, IsDistinct-from_apart, apart_from_distinct}
@@ -12,15 +12,9 @@ use Rattle.air_log.specs.declared.entry.Entry.{Entry}
 use Rattle.air_log.specs.Entries.{sendings_of}
 use Rattle.air_log.specs.Lawful.{FollowsTrails, heard_by, sent_by}
 use Rattle.air_log.specs.Trails.{trail}
-use Rattle.air_log.proofs.Elements.{in_filtered, pairs_head, pairs_tail}
+use Rattle.lwb_base.proofs.Elements.{in_filtered, pairs_head, pairs_tail}
+use Rattle.lwb_base.proofs.Orders.{equal_turned}
 use Rattle.air_log.proofs.TrailSendings.{in_order}
-
-turned : (a b : ℕ) → (a == b) ≡ (b == a)
-turned a b = by_test (a == b) refl
-  where
-    by_test : (c : Bool) → (a == b) ≡ c → (a == b) ≡ (b == a)
-    by_test true is = is ∙ sym (eq-eqb b a (sym (eqb-true a b is)))
-    by_test false is = is ∙ sym (ne_eqb b a (λ same. eqb-false a b is (sym same)))
 
 abbrev start_together : Sending → Sending → Bool
 start_together x y = x.start == y.start
@@ -40,7 +34,7 @@ module _ (s : ScenarioParts) (clocks : ℕ → ℕ → ℕ) (air : List Entry) (
 
   told_apart : (v : ℕ) → IsDistinct start_together (sent_by air v)
   told_apart v =
-      IsDistinct-IsPermutation start_together (λ x y. turned x.start y.start) _ (sent_by air v) (follows.sent v) (by_known (knows s.nodes v))
+      IsDistinct-IsPermutation start_together (λ x y. equal_turned x.start y.start) _ (sent_by air v) (follows.sent v) (by_known (knows s.nodes v))
     where
       by_known : (b : Bool) → IsDistinct start_together (if b then (trail s v (clocks v) (heard_by air v)).made.sent else [])
       by_known true = sent_apart v

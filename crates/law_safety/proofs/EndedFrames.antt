@@ -7,6 +7,7 @@ use Rattle.bus_rules.specs.declared.tune.Tune.TheVariants.{Scan, Hold, Host}
 use Rattle.bus_rules.specs.Tuning.{rank_of, is_rank, next_tune, hosts}
 use Rattle.bus_rules.specs.Cores.{Core, Setup, is_fresh, as_host, begins_host, empty_plan}
 use Rattle.bus_rules.specs.Plans.{last_slot}
+use Rattle.bus_rules.proofs.Ranks.{rank_is}
 use Rattle.lwb_base.specs.Profile.{Numbers}
 use Rattle.time_reference.specs.Budgets.{budget_of}
 use Rattle.scenario_text.specs.ScenarioParts.{ScenarioParts}
@@ -17,10 +18,6 @@ use Rattle.law_trails.proofs.ProfilePackets.{covers}
 use Rattle.node_core.specs.Nodes.{Node, stopped_frame}
 use Rattle.node_core.specs.Rows.{Stepped, frame_alarms, stage_for, orders_for, zero_for}
 use Rattle.law_trails.specs.Lives.{plan_after}
-
-own_is : (own : Option ℕ) (r : ℕ) → is_rank own r ≡ true → own ≡ Some r
-own_is None r is = absurd (true≢false (sym is))
-own_is (Some o) r is = ap (λ (k : ℕ). Some k) (eqb-true o r is)
 
 module _ (s : Setup) (n : Node) where
   -- after the tune T the tune U
@@ -54,7 +51,7 @@ module _ (s : Setup) (n : Node) where
         cond_both (is_fresh n.core) (Scan r 0) host (λ (U : Tune). P (after_tunes (Scan r w) U))
         (λ joined. scans r 0 here)
         (λ alone. cond_both (is_rank s.own r && (w + 1 == 5)) (Host r (n.frame + 1)) on (λ (U : Tune). P (after_tunes (Scan r w) U))
-        (λ both. (let parts = and_parts (is_rank s.own r) (w + 1 == 5) both in becomes r w is (own_is s.own r parts.0) (eqb-true (w + 1) 5 parts.1)))
+        (λ both. (let parts = and_parts (is_rank s.own r) (w + 1 == 5) both in becomes r w is (rank_is s.own r parts.0) (eqb-true (w + 1) 5 parts.1)))
         (λ not_yet. cond_both (w + 1 == 12) (Scan ((r + 1) % s.ranks) 0) (Scan r (w + 1)) (λ (U : Tune). P (after_tunes (Scan r w) U))
         (λ next. scans ((r + 1) % s.ranks) 0 (mod-lt (r + 1) (omega (arith, ranks))))
         (λ same. scans r (w + 1) here)))

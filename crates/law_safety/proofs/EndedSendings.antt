@@ -15,9 +15,10 @@ use Rattle.air_log.specs.Trails.{setup_of}
 use Rattle.law_trails.specs.Obeying.{channel_of, channel_by, alarm_by, ordered_by}
 use Rattle.law_trails.specs.Walks.{after_row}
 use Rattle.law_trails.proofs.RowsOfDevices.{row_obeyed}
+use Rattle.law_trails.proofs.ObeyedOrders.{channel_is}
 use Rattle.law_safety.specs.SetAlarms.{rank_at}
 use Rattle.law_safety.specs.TunedNodes.{Either}
-use Rattle.law_safety.proofs.TunedRadios.{listens_is, off_is, channel_is}
+use Rattle.law_safety.proofs.TunedRadios.{listens_is, off_is}
 
 -- what the end of the sending leaves of the device
 pub record HasEnded (n : Node) (j : ℕ) (w : Window) (d e : Device) : Type 0 where

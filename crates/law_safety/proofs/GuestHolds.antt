@@ -4,22 +4,22 @@ use Rattle.std.proofs.Common.{inl, inr, true≢false}
 use Rattle.std.specs.List.{list_all}
 use Rattle.std.proofs.lemmas.Bool.{and_from, eq-eqb}
 use Rattle.radio_model.specs.Hearing.{slot_of, counter_of, frame_of}
-use Rattle.air_log.proofs.ComputedTrails.{all_passes}
 use Rattle.lwb_base.specs.Messages.{least}
 use Rattle.lwb_base.specs.Profile.{one}
+use Rattle.lwb_base.proofs.Elements.{all_passes}
+use Rattle.lwb_base.proofs.Truths.{implied}
 use Rattle.schedule_codec.specs.Packing.{digits, number}
 use Rattle.schedule_codec.specs.Reading.{schedule_of, asks_in}
 use Rattle.radio_model.specs.declared.sending.Sending.{Sending}
 use Rattle.air_log.specs.WindowLogs.{WindowLog}
-use Rattle.law_trails.specs.OnePacket.{reopening_0, request_0, opening_1, opening_3, request_2, grant_1, grant_3, reopening_1, data_0}
-use Rattle.law_trails.specs.OnePacket.{data_2, closing_0, closing_1, closing_3, reopening_with, closing_with}
+use Rattle.law_trails.specs.OnePacket.{reopening_0, request_0, opening_1, opening_3, request_2, grant_1, grant_3, reopening_1, data_0, sent_by_member}
+use Rattle.law_trails.specs.OnePacket.{data_2, closing_0, reopening_with, closing_with}
 use Rattle.law_trails.specs.OnePacketNodes.{granted_plan}
 use Rattle.law_trails.specs.OnePacketMember.{member_28, member_34, member_53, member_60}
 use Rattle.law_trails.proofs.OnePacketZeros.{member_due_at, granted, reopened, closed}
 use Rattle.law_safety.specs.WorkedRounds.{Holds}
 use Rattle.law_safety.proofs.WorkedPlans.{once, none_of, same_flood_key, planned, heard_plan, fresh_plan, not_zero}
 use Rattle.law_safety.proofs.WorkedPlans.{next_planned, next_heard}
-use Rattle.law_trails.proofs.SafeTests.{implied}
 use Rattle.law_safety.proofs.GuestJoins.{relay_at, zero_at, six_sent}
 
 -- it holds the plan of frame 9, still fresh from the round that has ended
@@ -195,9 +195,6 @@ hears_closing w = record {
   };
 }
 
-abbrev all_sent : List Sending
-all_sent = opening_1 ∷ opening_3 ∷ request_0 ∷ request_2 ∷ grant_1 ∷ grant_3 ∷ reopening_1 ∷ data_0 ∷ data_2 ∷ closing_1 ∷ closing_3 ∷ []
-
 -- it holds the plan of frame 13
 pub holds_on : (w : List WindowLog) → Holds 2 2764855298 (member_60 w)
 unfolding least digits number schedule_of asks_in
@@ -209,7 +206,7 @@ holds_on w = record {
     radio = record { at = (refl, record { ordered = refl; sending = refl }) };
     begun = record {
       at = tt;
-      once = λ f x y a b c. once all_sent
+      once = λ f x y a b c. once sent_by_member
           (refl, (refl, (refl, (refl, (refl, (refl, (refl, (refl, (refl, (refl, (refl, tt))))))))))) x y a.sent b.sent a.first b.first
           (same_flood_key f x y a.frame b.frame c);
     };

@@ -1,5 +1,5 @@
 -- Where a node is that hears: its frame is the true one, and its radio is at the channel of what it hears.
-use Rattle.std.proofs.Common.{◌≡◌, ℕ, suc, ◌/◌, ◌<◌, List, Bool, true, false, not, ◌&&◌, ◌||◌, if◌then◌else◌, Some, None, Option, is_some, unwrap_or}
+use Rattle.std.proofs.Common.{◌≡◌, ℕ, suc, ◌/◌, ◌<◌, List, Bool, true, false, ◌&&◌, if◌then◌else◌, Some, None, Option, is_some, unwrap_or}
 use Rattle.std.proofs.Common.{true≢false, eqb-true, inl, inr, refl, sym, ◌∙◌, ap, subst, arith}
 use Rattle.std.specs.Prelude.{slice_index}
 use Rattle.std.proofs.lemmas.Bool.{false≢true}
@@ -12,14 +12,6 @@ use Rattle.law_trails.specs.Obeying.{channel_of}
 use Rattle.law_safety.specs.BegunFloods.{IsFirstOrdered}
 use Rattle.law_safety.specs.NodesInOrder.{IsOn}
 use Rattle.law_safety.specs.KnownInRows.{IsHeardNow}
-
-pub not_is : (b : Bool) → not b ≡ true → b ≡ false
-not_is true is = absurd (false≢true is)
-not_is false is = refl
-
-pub neither : (a b : Bool) → (a || b) ≡ false → (a ≡ false) × (b ≡ false)
-neither true b is = absurd (true≢false is)
-neither false b is = (refl, is)
 
 -- when a window takes a reference
 pub taken : {A : Type 0} (p : Bool) (x y : A) → p ≡ true → (if p && true && true && true then x else y) ≡ x

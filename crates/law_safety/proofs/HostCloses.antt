@@ -6,14 +6,15 @@ use Rattle.std.proofs.lemmas.Bool.{and_from, eq-eqb}
 use Rattle.tick_clock.specs.Clocks.{due}
 use Rattle.lwb_base.specs.Messages.{least}
 use Rattle.lwb_base.specs.Profile.{one}
+use Rattle.lwb_base.proofs.Elements.{all_passes}
+use Rattle.lwb_base.proofs.Truths.{implied}
 use Rattle.schedule_codec.specs.Packing.{digits, number}
 use Rattle.schedule_codec.specs.Reading.{schedule_of, asks_in}
 use Rattle.radio_model.specs.declared.sending.Sending.{Sending}
 use Rattle.radio_model.specs.Hearing.{slot_of, counter_of, frame_of}
 use Rattle.air_log.specs.WindowLogs.{WindowLog}
-use Rattle.air_log.proofs.ComputedTrails.{all_passes}
-use Rattle.law_trails.specs.OnePacket.{drifting, opening_0, opening_2, request_1, request_3, grant_0, grant_2, reopening_0, data_0, data_1, data_3, closing_0}
-use Rattle.law_trails.specs.OnePacket.{closing_2}
+use Rattle.law_trails.specs.OnePacket.{drifting, opening_0, opening_2, request_1, request_3, grant_0, grant_2, reopening_0, data_0, data_1, data_3}
+use Rattle.law_trails.specs.OnePacket.{sent_by_host}
 use Rattle.law_trails.specs.OnePacketNodes.{granted_plan}
 use Rattle.law_trails.specs.OnePacketHost.{host_38, host_46, host_53, host_59}
 use Rattle.law_trails.proofs.DriftingClocks.{fast, fast_due}
@@ -21,7 +22,6 @@ use Rattle.law_trails.proofs.OnePacketZeros.{host_due_at}
 use Rattle.law_safety.specs.WorkedRounds.{Holds}
 use Rattle.law_safety.proofs.HostZeros.{reads, good_9}
 use Rattle.law_safety.proofs.WorkedPlans.{once, same_flood_key, planned, not_zero}
-use Rattle.law_trails.proofs.SafeTests.{implied}
 
 relay_at : (end tick : ℕ) → fast_due (fast end + 12288) ≡ tick → tick ≡ due (drifting 1) (drifting 1 end + 12288)
 relay_at end tick is = sym (ap (λ (n : ℕ). due (drifting 1) (n + 12288)) (reads end) ∙ host_due_at (fast end + 12288) ∙ is)
@@ -205,9 +205,6 @@ closes w = record {
   };
 }
 
-abbrev eleven : List Sending
-eleven = opening_0 ∷ opening_2 ∷ request_1 ∷ request_3 ∷ grant_0 ∷ grant_2 ∷ reopening_0 ∷ data_1 ∷ data_3 ∷ closing_0 ∷ closing_2 ∷ []
-
 -- the round is over, and it waits for the next
 pub waits : (w : List WindowLog) → Holds 1 2508749826 (host_59 w)
 unfolding least digits number schedule_of asks_in
@@ -219,7 +216,7 @@ waits w = record {
     radio = record { at = (refl, record { ordered = refl; sending = refl }) };
     begun = record {
       at = tt;
-      once = λ f x y a b c. once eleven
+      once = λ f x y a b c. once sent_by_host
           (refl, (refl, (refl, (refl, (refl, (refl, (refl, (refl, (refl, (refl, (refl, tt))))))))))) x y a.sent b.sent a.first b.first
           (same_flood_key f x y a.frame b.frame c);
     };

@@ -12,7 +12,7 @@ use Rattle.lwb_member.specs.Said.{message_of}
 use Rattle.radio_model.specs.declared.sending.Sending.{Sending}
 use Rattle.radio_model.specs.Hearing.{frame_of, counter_of}
 use Rattle.air_log.specs.WindowLogs.{WindowLog}
-use Rattle.air_log.proofs.Elements.{not_in_none, contains_cases}
+use Rattle.lwb_base.proofs.Elements.{not_in_none, contains_cases}
 use Rattle.law_trails.specs.Lives.{Life, OpeningMade, ClosingMade, Step, ComesOn, Ends, Opens, Closes, Quiet, newborn, after_steps, AllMayCome}
 use Rattle.law_trails.specs.OnePacket.{opening_0, opening_2, request_1, request_3, grant_0, grant_2, reopening_0, data_1, data_3}
 use Rattle.law_trails.specs.OnePacketNodes.{first_plan, granted_plan, next_plan}

@@ -7,7 +7,7 @@ use Rattle.schedule_codec.specs.Reading.{schedule_of, asks_in}
 use Rattle.radio_model.specs.declared.sending.Sending.{Sending}
 use Rattle.radio_model.specs.Hearing.{slot_of}
 use Rattle.air_log.specs.WindowLogs.{WindowLog}
-use Rattle.air_log.proofs.Elements.{not_in_none, contains_cases}
+use Rattle.lwb_base.proofs.Elements.{not_in_none, contains_cases}
 use Rattle.law_trails.specs.OnePacket.{opening_0}
 use Rattle.law_trails.specs.OnePacketNodes.{first_plan}
 use Rattle.law_trails.specs.OnePacketHost.{host_6, host_7, host_8}

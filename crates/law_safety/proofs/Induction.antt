@@ -5,7 +5,7 @@ use Rattle.air_log.specs.declared.entry.Entry.{Entry}
 use Rattle.air_log.specs.Devices.{at_rest}
 use Rattle.air_log.specs.Lawful.{heard_by}
 use Rattle.air_log.specs.Trails.{run_end}
-use Rattle.air_log.proofs.Elements.{not_in_none}
+use Rattle.lwb_base.proofs.Elements.{not_in_none}
 use Rattle.law_trails.specs.Lives.{newborn}
 use Rattle.law_trails.specs.Phases.{Lines}
 use Rattle.law_trails.specs.Walks.{Keeps, HoldAll}

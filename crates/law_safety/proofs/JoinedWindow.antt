@@ -2,7 +2,7 @@
 use Rattle.std.proofs.Common.{◌≡◌, ℕ, suc, ◌+◌, ◌/◌, ◌<◌, ◌≤◌, List, Bool, true, false, not, ◌&&◌, ◌||◌, ◌==◌, nat_lt, Some, None}
 use Rattle.std.proofs.Common.{Option, is_some, IfSome, Contains, lt-ltb, eq-eqb, inl, refl, sym, ap, subst, arith}
 use Rattle.std.specs.Prelude.{⊤, slice_index, max}
-use Rattle.std.proofs.lemmas.Bool.{cond_both, false≢true}
+use Rattle.std.proofs.lemmas.Bool.{false≢true}
 use Rattle.lwb_base.specs.Messages.{Schedule}
 use Rattle.schedule_codec.specs.Reading.{is_schedule}
 use Rattle.lwb_packets.specs.declared.kind.Kind as Kind
@@ -12,18 +12,16 @@ use Rattle.time_reference.specs.Zeros.{closing}
 use Rattle.glossy_relay.specs.FloodState.{FloodState, listening}
 use Rattle.glossy_relay.specs.Relaying.{fits}
 use Rattle.bus_rules.specs.declared.delivery.Delivery.{Delivery}
-use Rattle.bus_rules.specs.declared.part.Part.{Part}
-use Rattle.bus_rules.specs.declared.part.Part.TheVariants.{Opening, Closing}
 use Rattle.bus_rules.specs.declared.tune.Tune.{Tune}
 use Rattle.bus_rules.specs.declared.tune.Tune.TheVariants.{Scan, Hold, Host}
 use Rattle.bus_rules.specs.Tuning.{hosts}
 use Rattle.bus_rules.specs.Slots.{ScheduleOf}
-use Rattle.lwb_member.specs.Places.{kind_for}
 use Rattle.lwb_member.specs.Said.{message_of}
 use Rattle.node_core.specs.declared.stage.Stage.TheVariants.{Scanning, InWindow}
 use Rattle.node_core.specs.Windows.{Window}
 use Rattle.node_core.specs.Nodes.{Node, zero_from, closes_at}
 use Rattle.node_core.specs.Rows.{part_by, last_by}
+use Rattle.node_core.proofs.WindowKinds.{schedule_kind}
 use Rattle.scenario_text.specs.ScenarioParts.{ScenarioParts}
 use Rattle.radio_model.specs.declared.sending.Sending.{Sending}
 use Rattle.air_log.specs.declared.entry.Entry.{Entry}
@@ -69,9 +67,6 @@ module _ (s : ScenarioParts) (clocks : ℕ → ℕ → ℕ) (v : ℕ) (n : Node)
 
 all_true : (a b c : Bool) → a ≡ true → b ≡ true → c ≡ true → (a && true && b && c && true) ≡ true
 all_true a b c is so also = rw (is, so, also) refl
-
-kind_is : (y : Schedule) → Kind.TheVariants.Schedule ≡ kind_for (part_by y)
-kind_is y = cond_both (y.gap == 0) Opening Closing (λ (p : Part). Kind.TheVariants.Schedule ≡ kind_for p) (λ is. refl) (λ is. refl)
 
 module _ (s : ScenarioParts) (clocks : ℕ → ℕ → ℕ) (air : List Entry) (v t : ℕ) (at : AtTick s clocks air v t) (h : Reception) (d : Device)
     (now : IsHeardNow s clocks air v t h d)
@@ -213,7 +208,7 @@ module _ (s : ScenarioParts) (clocks : ℕ → ℕ → ℕ) (air : List Entry) (
       window_so : InOpenWindow s clocks air v (suc t) joined joined_device slot open_window
       window_so = record {
         flood = record {
-          kind = kind_is y;
+          kind = schedule_kind y;
           slot = refl;
           limit = refl;
           few = omega arith;

@@ -3,6 +3,7 @@ use Rattle.std.proofs.Common.{◌≡◌, ℕ, suc, ◌+◌, ◌*◌, ◌/◌, �
 use Rattle.std.proofs.Common.{Contains, refl, sym, ◌∙◌, ap, subst, arith, eqb-true, true≢false}
 use Rattle.std.specs.Prelude.{max, slice_index}
 use Rattle.std.proofs.lemmas.Bool.{cases_lt, eqb-false}
+use Rattle.std.proofs.lemmas.Option.{same_Some}
 use Rattle.tick_clock.specs.Clocks.{IsClock, due}
 use Rattle.time_reference.specs.Budgets.{Fits, budget_of}
 use Rattle.time_reference.specs.Zeros.{opening}
@@ -37,9 +38,6 @@ use Rattle.law_safety.specs.Rows.{AtTick}
 use Rattle.law_safety.proofs.RunFacts.{run_fits, host_clock, frame_begins, frame_ends, frame_in_run, frame_from}
 use Rattle.law_safety.proofs.TunedRadios.{listens_is, off_is}
 
-pub same_alarm : (a b : ℕ) → Some a ≡ Some b → a ≡ b
-same_alarm a b is = cc
-
 module _ (s : ScenarioParts) (clocks : ℕ → ℕ → ℕ) (air : List Entry) (v t : ℕ) (at : AtTick s clocks air v t) where
   abbrev pub fits : Fits s.profile (budget_of s.profile)
   fits = run_fits s at.run.driven.sound
@@ -68,7 +66,7 @@ module _ (s : ScenarioParts) (clocks : ℕ → ℕ → ℕ) (air : List Entry) (
     alarm_at a (InWindow j w) awaiting set = absurd awaiting
 
     pub alarm_now : t ≡ frame_alarm_at s clocks v n.frame
-    alarm_now = same_alarm t is.alarm.alarm (sym now ∙ is.alarm.set) ∙ alarm_at is.alarm.alarm n.stage awaits is.alarm.at
+    alarm_now = same_Some t is.alarm.alarm (sym now ∙ is.alarm.set) ∙ alarm_at is.alarm.alarm n.stage awaits is.alarm.at
 
     true_early : t / s.profile.frame ≤ 4095
     true_early = frame_in_run s at.run.driven.sound t at.in_run

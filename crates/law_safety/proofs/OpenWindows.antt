@@ -3,6 +3,7 @@ use Rattle.std.proofs.Common.{◌≡◌, ℕ, suc, ◌/◌, ◌<◌, inl, inr, L
 use Rattle.std.proofs.Common.{true≢false}
 use Rattle.std.specs.Option.{IfSome}
 use Rattle.std.proofs.lemmas.Bool.{cases_lt, lt-ltb}
+use Rattle.std.proofs.lemmas.Option.{none-some}
 use Rattle.radio_model.specs.declared.sending.Sending.{Sending}
 use Rattle.scenario_text.specs.ScenarioParts.{ScenarioParts}
 use Rattle.node_core.specs.declared.stage.Stage.{Stage}
@@ -19,9 +20,6 @@ use Rattle.law_safety.specs.RadiosOn.{RadioFor}
 use Rattle.law_safety.specs.OrderedSendings.{HasOrder}
 use Rattle.law_safety.specs.NodesInOrder.{IsOn, InOrderBy, InOpenWindow, WindowAt}
 use Rattle.law_safety.specs.Rows.{IsFine}
-
-none_some : {A : Type 0} (a : A) → None ≡ Some a → ⊥
-none_some a is = cc
 
 -- where something is ordered, at the start of what is ordered: a window is open, its flood waits, and the radio is on
 pub record IsAbout (s : ScenarioParts) (clocks : ℕ → ℕ → ℕ) (air : List Entry) (v t : ℕ) (d : Device) (o : Ordered) : Type 0 where
@@ -83,7 +81,7 @@ module _ (s : ScenarioParts) (clocks : ℕ → ℕ → ℕ) (air : List Entry) (
     }
 
   none : d.ordered ≡ None → ⊥
-  none is = none_some o (sym is ∙ ordered)
+  none is = none-some o (sym is ∙ ordered)
 
   at_stage : (n : Node) (p : Stage) → d.power ≡ PowerOn n → n.stage ≡ p → IsOn s clocks air v t (suc t) d n → RadioFor n d p → IsAbout s clocks air v t d o
   at_stage n Idle on stage is radio = absurd radio

@@ -1,6 +1,7 @@
 -- The device that a window's opening leaves: its alarm, its radio and the flood of its window.
 use Rattle.std.proofs.Common.{◌≡◌, ℕ, suc, ◌≤◌, List, Bool, true, false, ◌&&◌, ◌||◌, nat_lt, Option, Some, None, IfSome, is_some, refl, sym, ◌∙◌, ap, subst}
 use Rattle.std.proofs.Common.{arith, lt-ltb, true≢false}
+use Rattle.lwb_base.proofs.Truths.{and_false}
 use Rattle.time_reference.specs.Zeros.{closing}
 use Rattle.glossy_relay.specs.Relaying.{accepted_of}
 use Rattle.radio_model.specs.declared.sending.Sending.{Sending}
@@ -24,7 +25,8 @@ use Rattle.law_safety.specs.AcceptedPackets.{IsAccepted, HasAccepted}
 use Rattle.law_safety.specs.OrderedSendings.{HasSending}
 use Rattle.law_safety.specs.Rows.{AtTick}
 use Rattle.law_safety.proofs.AwaitedSlots.{Awaits, closes_then}
-use Rattle.law_safety.proofs.OpenedNodes.{IsLeft, listens, flood_unsent, flood_limit, is_set, left, window, after, standing, none_joins}
+use Rattle.law_safety.proofs.OpenedNodes.{IsLeft, flood_unsent, flood_limit, is_set, left, window, after, standing, none_joins}
+use Rattle.law_safety.proofs.TunedRadios.{listens_is}
 
 flood_waits : (clock : ℕ → ℕ) (s : Setup) (t z : ℕ) (part : Part) (j : ℕ) (x : Option Message)
     → (flood_for s part j x).waiting ≡ (is_some (said clock s t z j None x) || false)
@@ -34,10 +36,6 @@ flood_waits clock s t z part j (Some m) = refl
 none_accepted : (s : Setup) (part : Part) (j : ℕ) (x : Option Message) → accepted_of (flood_for s part j x) ≡ None
 none_accepted s part j None = refl
 none_accepted s part j (Some m) = refl
-
-never_both : (x : Bool) → (x && false) ≡ false
-never_both true = refl
-never_both false = refl
 
 module _ (s : ScenarioParts) (clocks : ℕ → ℕ → ℕ) (air : List Entry) (v t : ℕ) (at : AtTick s clocks air v t) (d : Device) (n : Node) (j : ℕ)
     (is : Awaits s clocks air v t d n j) where
@@ -81,7 +79,7 @@ module _ (s : ScenarioParts) (clocks : ℕ → ℕ → ℕ) (air : List Entry) (
         lt-ltb (flood_for S part j message).sent (flood_for S part j message).limit (omega (arith, unsent, limit, some)) in
         record {
           at = subst (λ (on : Bool). Either on (listens_to (rank_at m) e.listening ≡ true) (e.listening ≡ None)) (sym opens)
-              (listens (rank_at m) e.listening (leaves.channel_is ∙ ap (λ (r : ℕ). Some r) (sym same.rank)));
+              (listens_is (rank_at m) e.listening (leaves.channel_is ∙ ap (λ (r : ℕ). Some r) (sym same.rank)));
         }
 
     pub flood_clause : IsNode (setup_of s v) n → HasFlood s m e j (window s clocks air v t at d n j is)
@@ -99,7 +97,7 @@ module _ (s : ScenarioParts) (clocks : ℕ → ℕ → ℕ) (air : List Entry) (
           limit = opened_so.flood.limit;
           few = omega (arith, unsent);
           waits = flood_waits (clocks v) S t n.zero part j message ∙ sym both;
-          one = ap (λ (x : Option Sending). is_some e.ordered && is_some x) sending_is ∙ never_both (is_some e.ordered);
+          one = ap (λ (x : Option Sending). is_some e.ordered && is_some x) sending_is ∙ and_false (is_some e.ordered);
           spent = λ full. absurd (omega (arith, full, unsent, some));
           own = opened_so.hosted;
         }

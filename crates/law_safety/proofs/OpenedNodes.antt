@@ -18,11 +18,10 @@ use Rattle.node_core.specs.Nodes.{Node, closes_at}
 use Rattle.node_core.specs.Rows.{flood_for}
 use Rattle.scenario_text.specs.ScenarioParts.{ScenarioParts}
 use Rattle.air_log.specs.declared.entry.Entry.{Entry}
-use Rattle.air_log.specs.Devices.{Device, Listening, listens_to}
+use Rattle.air_log.specs.Devices.{Device}
 use Rattle.air_log.specs.Trails.{setup_of}
 use Rattle.law_trails.specs.CoreRanges.{IsSetup}
 use Rattle.law_trails.specs.NodeRanges.{IsNode}
-use Rattle.law_trails.specs.Obeying.{channel_of}
 use Rattle.law_trails.specs.RowEffects.{Leaves, when, said}
 use Rattle.law_trails.proofs.CoresInRange.{host_plan_of}
 use Rattle.law_trails.proofs.CoresInRange.{host_now}
@@ -42,11 +41,6 @@ no_joining : (n : Node) (t : Tune) → (is_scan t ≡ true → is_fresh n.core �
 no_joining n (Scan r w) fresh = not_from_true (is_fresh n.core) (fresh refl)
 no_joining n (Hold r due) fresh = refl
 no_joining n (Host r due) fresh = refl
-
--- a radio at this channel listens to it
-pub listens : (r : ℕ) (l : Option Listening) → channel_of l ≡ Some r → listens_to r l ≡ true
-listens r None is = absurd cc
-listens r (Some l) is = let same : l.rank ≡ r = cc in eq-eqb l.rank r same
 
 -- the flood of a window has not sent
 pub flood_unsent : (s : Setup) (part : Part) (j : ℕ) (x : Option Message) → (flood_for s part j x).sent ≡ 0

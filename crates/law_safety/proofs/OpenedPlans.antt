@@ -3,17 +3,15 @@ use Rattle.std.proofs.Common.{◌≡◌, ℕ, suc, ◌-◌, ◌<◌, ◌≤◌, 
 use Rattle.std.proofs.Common.{None, IfSome, refl, sym, ◌∙◌, ap, subst, arith, eq-eqb, true≢false}
 use Rattle.std.specs.Prelude.{⊤, slice_index}
 use Rattle.std.proofs.lemmas.Bool.{cond-true}
-use Rattle.lwb_base.specs.Messages.{Plan, Ask, Schedule}
-use Rattle.lwb_base.specs.Profile.{Numbers}
+use Rattle.lwb_base.specs.Messages.{Plan, Schedule}
 use Rattle.bus_rules.specs.declared.part.Part.{Part}
 use Rattle.bus_rules.specs.declared.part.Part.TheVariants.{Opening, Data as DataSlot, Contention, Closing}
 use Rattle.bus_rules.specs.Plans.{opening as opening_of, last_slot}
-use Rattle.bus_rules.specs.Streams.{Streams}
-use Rattle.bus_rules.specs.Tables.{Table}
 use Rattle.bus_rules.specs.Tuning.{hosts}
-use Rattle.bus_rules.specs.HostPlans.{HostPlan, host_plan}
+use Rattle.bus_rules.specs.HostPlans.{HostPlan}
 use Rattle.bus_rules.specs.Cores.{Core, Setup}
 use Rattle.bus_rules.specs.Slots.{Message, Opened, ScheduleOf, hosts_now, part_of, opened, host_closes, silent}
+use Rattle.bus_rules.proofs.Ranks.{planned_rank}
 use Rattle.lwb_member.specs.Places.{IsPlaced, kind_for}
 use Rattle.lwb_member.specs.Said.{bytes_of}
 use Rattle.lwb_member.proofs.Told.{told}
@@ -37,11 +35,6 @@ use Rattle.law_safety.specs.Rows.{AtTick}
 use Rattle.law_safety.proofs.AwaitedSlots.{Awaits}
 use Rattle.law_safety.proofs.OpeningRoles.{Role, SameStanding}
 use Rattle.law_safety.proofs.OpenedNodes.{is_set, left, window, after, next, role, standing, none_joins, hosts_round}
-
-planned_rank : (p : Numbers) (node boot rank frame : ℕ) (kept : List Ask) (t : Table) (x : Streams)
-    → (host_plan p node boot rank frame kept t x).plan.rank ≡ rank
-unfolding host_plan
-planned_rank p node boot rank frame kept t x = refl
 
 -- who goes on in the same standing knows the same
 module _ (s : ScenarioParts) (clocks : ℕ → ℕ → ℕ) (air : List Entry) (v told_to : ℕ) (n : Node) (j : ℕ) (plan : Plan) (e : Core) (stage : Stage)

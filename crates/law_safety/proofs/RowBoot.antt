@@ -1,7 +1,6 @@
 -- The row boot: power comes on at the first tick of a frame, and the node scans from the true frame on.
-use Rattle.std.proofs.Common.{◌≡◌, ℕ, ◌+◌, ◌/◌, ◌≤◌, inl, List, true, length, Some, None, Option, Contains, refl, sym, ◌∙◌, ap, subst, arith, true≢false}
-use Rattle.std.specs.Prelude.{max, is_some}
-use Rattle.std.proofs.lemmas.Bool.{eq-eqb}
+use Rattle.std.proofs.Common.{◌≡◌, ℕ, ◌+◌, ◌/◌, ◌≤◌, inl, List, length, Some, None, Option, Contains, refl, sym, ◌∙◌, ap, subst, arith, true≢false}
+use Rattle.std.specs.Prelude.{max}
 use Rattle.lwb_base.specs.declared.event.Event.TheVariants.{Boot}
 use Rattle.tick_clock.specs.Clocks.{IsClock, due}
 use Rattle.time_reference.specs.Budgets.{budget_of}
@@ -14,12 +13,11 @@ use Rattle.scenario_text.specs.declared.script.ScriptLine.{ScriptLine}
 use Rattle.radio_model.specs.declared.sending.Sending.{Sending}
 use Rattle.radio_model.specs.Hearing.{frame_of}
 use Rattle.air_log.specs.declared.entry.Entry.{Entry}
-use Rattle.air_log.specs.Devices.{Device, Power, PowerOff, PowerOn, Listening, Ordered, listens_to, moved}
+use Rattle.air_log.specs.Devices.{Device, Power, PowerOff, PowerOn, Ordered, moved}
 use Rattle.air_log.specs.ScriptedDevices.{switched_on}
 use Rattle.air_log.specs.Lawful.{heard_by}
 use Rattle.air_log.specs.Trails.{setup_of, frame_start}
 use Rattle.law_trails.specs.Lives.{Life, ComesOn, after_step}
-use Rattle.law_trails.specs.Obeying.{channel_of}
 use Rattle.law_trails.specs.Phases.{Lines, IsNextLine}
 use Rattle.law_trails.proofs.LifeSteps.{step_quiet}
 use Rattle.law_trails.proofs.ObeyedOrders.{has_obeyed}
@@ -33,6 +31,7 @@ use Rattle.law_safety.specs.QuietHosts.{LivesAs, LivesBy, IsOrderedBy, HostsInOr
 use Rattle.law_safety.specs.Rows.{IsFine, AtTick, BootRow}
 use Rattle.law_safety.proofs.RunFacts.{run_fits, frame_in_run, frame_below}
 use Rattle.law_safety.proofs.FrameStarts.{line_starts}
+use Rattle.law_safety.proofs.TunedRadios.{listens_is}
 
 -- the sendings of a device stay as they are where its power comes on
 pub on_sent : (clock : ℕ → ℕ) (s : ScenarioParts) (v t count : ℕ) (d : Device) → (switched_on clock (setup_of s v) t count d).made.sent ≡ d.made.sent
@@ -40,14 +39,6 @@ on_sent clock s v t count d =
     let n = rebooted (count + 1) in
     let r = row (setup_of s v) n (clock t) Boot in
     (has_obeyed clock v t (orders_by r) (moved t Boot None (record d { power = PowerOn n }) n r)).sent
-
-abbrev rank_in : Option ℕ → ℕ
-rank_in None = 0
-rank_in (Some r) = r
-
-tuned_to : (rank : ℕ) (l : Option Listening) → channel_of l ≡ Some rank → listens_to rank l ≡ true
-tuned_to rank None is = absurd (true≢false (sym (ap (λ (c : Option ℕ). is_some c) is)))
-tuned_to rank (Some l) is = eq-eqb l.rank rank (ap (λ (c : Option ℕ). rank_in c) is)
 
 module _ (s : ScenarioParts) (clocks : ℕ → ℕ → ℕ) (air : List Entry) (v t : ℕ) (tick : AtTick s clocks air v t)
     (d : Device) (l : ScriptLine) (count : ℕ) (fine : IsFine s clocks air v t Lines d)
@@ -105,7 +96,7 @@ module _ (s : ScenarioParts) (clocks : ℕ → ℕ → ℕ) (air : List Entry) (
         tune = record { rank = omega (arith, some); at = refl };
         radio = record {
           at = (
-            tuned_to 0 e.listening is.channel,
+            listens_is 0 e.listening is.channel,
             record { ordered = is.ordered ∙ was_off.0.still.ordered; sending = is.sending ∙ was_off.0.still.sending },
           );
         };

@@ -3,7 +3,6 @@ use Rattle.std.proofs.Common.{◌≡◌, ℕ, suc, ◌+◌, ◌*◌, ◌/◌, Li
 use Rattle.std.proofs.Common.{ap, subst, arith, eq-eqb}
 use Rattle.std.proofs.lemmas.Bool.{cond-true, cond-false, ne_eqb}
 use Rattle.lwb_base.specs.Messages.{Schedule}
-use Rattle.lwb_base.specs.Profile.{Numbers}
 use Rattle.lwb_base.specs.declared.event.Event.TheVariants.{Alarm}
 use Rattle.time_reference.specs.Reference.{stopped}
 use Rattle.bus_rules.specs.Cores.{Core, Setup, opening_accepted, closing_accepted}
@@ -12,6 +11,7 @@ use Rattle.node_core.specs.declared.stage.Stage.TheVariants.{InWindow}
 use Rattle.node_core.specs.Windows.{Window}
 use Rattle.node_core.specs.Nodes.{Node}
 use Rattle.node_core.specs.Rows.{window_closes, zero_by, accepted_in}
+use Rattle.node_core.proofs.WindowKinds.{zero_stays}
 use Rattle.scenario_text.specs.ScenarioParts.{ScenarioParts}
 use Rattle.radio_model.specs.declared.sending.Sending.{Sending}
 use Rattle.air_log.specs.declared.entry.Entry.{Entry}
@@ -33,11 +33,6 @@ use Rattle.law_safety.proofs.ClosedNodes.{Leads}
 use Rattle.law_safety.proofs.ClosedRounds.{IsMembers, joined_or_member, joins_by, Accepts, accepts, more_slots, no_slots}
 use Rattle.law_safety.proofs.KeptRounds.{KeepsRound, heard_keeps, goes_by_own}
 use Rattle.law_safety.proofs.TakenSchedules.{goes_by_opening, goes_by_closing}
-
--- a zero stays where no schedule was accepted
-zero_stays : (p : Numbers) (z : ℕ) (r : Option ℕ) → zero_by p z r None ≡ z
-zero_stays p z None = refl
-zero_stays p z (Some reference) = refl
 
 module _ (s : ScenarioParts) (clocks : ℕ → ℕ → ℕ) (air : List Entry) (v t : ℕ) (at : AtTick s clocks air v t) (d : Device) (n : Node) (j : ℕ) (w : Window)
     (is : Closes s clocks air v t d n j w) (ranged : IsNode (setup_of s v) n) (stage : n.stage ≡ InWindow j w)

@@ -2,7 +2,7 @@
 use Rattle.std.proofs.Common.{◌≡◌, ℕ, suc, ◌+◌, ◌/◌, ◌<◌, List, [], ◌++◌, Bool, true, false, not, ◌&&◌, if◌then◌else◌, nat_lt, Some, None, Option, is_some}
 use Rattle.std.proofs.Common.{is_none, true≢false, eqb-true, ltb-true, refl, sym, ◌∙◌, ap, arith}
 use Rattle.std.specs.Prelude.{slice_index}
-use Rattle.std.proofs.lemmas.Bool.{and_parts}
+use Rattle.std.proofs.lemmas.Bool.{and_parts, not-true, or_parts}
 use Rattle.lwb_base.specs.declared.event.Event.TheVariants.{Heard}
 use Rattle.glossy_relay.specs.Relaying.{fits, accepted_of, relay_of, first_of, counter_of as count_of}
 use Rattle.glossy_relay.specs.declared.flood.Reply.{Reply}
@@ -31,7 +31,7 @@ use Rattle.law_safety.specs.NodesInOrder.{IsOn, InOpenWindow}
 use Rattle.law_safety.specs.KnownInRows.{IsHeardNow}
 use Rattle.law_safety.specs.Rows.{IsFine, AtTick, HearingRow}
 use Rattle.law_safety.proofs.HeardNow.{heard_in_floods}
-use Rattle.law_safety.proofs.HeardPlaces.{not_is, neither, taken, left, unheard, not_first, none_accepted}
+use Rattle.law_safety.proofs.HeardPlaces.{taken, left, unheard, not_first, none_accepted}
 use Rattle.law_safety.proofs.HeardRelays.{IsOfSlot, heard_in, relay_order, relay_ordered}
 use Rattle.law_safety.proofs.IgnoredHearing.{rank, good, ignored}
 use Rattle.law_safety.proofs.KeptWindows.{new_node, new_window, new_device, IsKept, sending_kept, order_kept, fine_kept}
@@ -63,10 +63,10 @@ module _ (s : ScenarioParts) (clocks : ℕ → ℕ → ℕ) (air : List Entry) (
         let b = and_parts _ _ a.0 in
         let c = and_parts _ _ b.0 in
         let e = and_parts _ _ c.0 in
-        (e.0, not_is w.flood.waiting e.1, eqb-true (slice_index h.packet 1) w.flood.slot b.1)
+        (e.0, not-true w.flood.waiting e.1, eqb-true (slice_index h.packet 1) w.flood.slot b.1)
 
     free : (is_some d.ordered ≡ false) × (is_some d.sending ≡ false)
-    free = neither (is_some d.ordered) (is_some d.sending) (sym window.flood.waits ∙ parts.1)
+    free = or_parts (is_some d.ordered) (is_some d.sending) (sym window.flood.waits ∙ parts.1)
 
     slot : slot_of now.sending ≡ j
     slot = sym (ap (λ (q : List ℕ). slice_index q 1) now.packet) ∙ parts.2 ∙ window.flood.slot

@@ -4,6 +4,7 @@ use Rattle.std.proofs.Common.{subst, arith, true≢false}
 use Rattle.std.specs.Option.{IfSome}
 use Rattle.std.specs.Prelude.{⊤}
 use Rattle.std.proofs.lemmas.Bool.{or_right, cases_lt, lt-ltb}
+use Rattle.std.proofs.lemmas.Option.{none-some}
 use Rattle.lwb_base.specs.declared.event.Event.TheVariants.{Sent}
 use Rattle.glossy_relay.specs.Relaying.{after_sent, accepted_of}
 use Rattle.radio_model.specs.declared.sending.Sending.{Sending}
@@ -34,10 +35,6 @@ use Rattle.law_safety.specs.QuietHosts.{LivesBy, LivesAs, IsOrderedBy}
 use Rattle.law_safety.specs.Rows.{IsFine, SentRow, LateSentRow, SentElsewhereRow}
 use Rattle.law_safety.proofs.RestagedNodes.{either, if_some, member_there, heard_there, round_there}
 use Rattle.law_safety.proofs.EndedSendings.{HasEnded, has_ended}
-
--- of an ordered and a running sending
-none_some : {A : Type 0} (a : A) → None ≡ Some a → ⊥
-none_some a is = cc
 
 not_both : {A : Type 0} (o : Option A) (b : Bool) → b ≡ true → (is_some o && b) ≡ false → o ≡ None
 not_both None b is one = refl
@@ -245,4 +242,4 @@ late_sent_row s clocks air v t at d x n j w here enters sending end on stage idl
 
 pub sent_elsewhere_row : SentElsewhereRow
 sent_elsewhere_row s clocks air v t at d x here enters sending end none =
-    absurd (none_some x (sym (none_by s clocks air v t d d.power none here.holds.node.by_power) ∙ sending))
+    absurd (none-some x (sym (none_by s clocks air v t d d.power none here.holds.node.by_power) ∙ sending))

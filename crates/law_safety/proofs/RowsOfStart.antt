@@ -28,7 +28,7 @@ use Rattle.law_trails.specs.TrailLinks.{device_in}
 use Rattle.law_trails.specs.Walks.{begins}
 use Rattle.law_trails.specs.DeviceRanges.{IsWellAndProper}
 use Rattle.law_trails.specs.SpokenRanges.{IsProper}
-use Rattle.air_log.proofs.Elements.{contains_head}
+use Rattle.lwb_base.proofs.Elements.{contains_head}
 use Rattle.law_trails.proofs.SentInTrails.{sent_below}
 use Rattle.law_safety.specs.SetAlarms.{rank_at, tick_by}
 use Rattle.law_safety.specs.RadiosOn.{RadioFor}

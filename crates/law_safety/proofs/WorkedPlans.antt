@@ -9,8 +9,7 @@ use Rattle.schedule_codec.specs.Reading.{schedule_of, asks_in}
 use Rattle.scenario_text.specs.declared.script.ScriptLine.{ScriptLine}
 use Rattle.radio_model.specs.declared.sending.Sending.{Sending}
 use Rattle.radio_model.specs.Hearing.{slot_of, counter_of, frame_of}
-use Rattle.air_log.proofs.Elements.{not_in_none, contains_cases}
-use Rattle.air_log.proofs.ComputedTrails.{all_passes}
+use Rattle.lwb_base.proofs.Elements.{not_in_none, contains_cases, all_passes}
 use Rattle.lwb_base.specs.Profile.{one}
 use Rattle.law_trails.specs.OnePacket.{one_packet, one_packet_log, opening_0, grant_0, reopening_0, closing_0}
 use Rattle.law_trails.specs.OnePacketNodes.{first_plan, granted_plan, next_plan}

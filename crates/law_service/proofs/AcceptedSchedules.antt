@@ -19,6 +19,7 @@ use Rattle.bus_rules.specs.States.{State, StateOff, StateOn}
 use Rattle.bus_rules.specs.Streams.{Streams}
 use Rattle.bus_rules.specs.Tables.{Table}
 use Rattle.bus_rules.specs.Tuning.{hosts_in, holds_in, scans, rank_of}
+use Rattle.bus_rules.proofs.Ranks.{planned_rank}
 use Rattle.bus_terms.specs.Bus.{state_at}
 use Rattle.bus_terms.specs.FloodOfText.{ids}
 use Rattle.bus_terms.specs.Flooding.{Accepts}
@@ -51,10 +52,6 @@ heard_schedule s rank f part v (StateOn c) y schedule takes = by_member (is_memb
 plan_gap : (n : Numbers) (node boot rank f : ℕ) (kept : List Ask) (t : Table) (x : Streams) → 0 < (host_plan n node boot rank f kept t x).gap
 unfolding host_plan
 plan_gap n node boot rank f kept t x = some_gap n.seconds f _
-
-plan_rank : (n : Numbers) (node boot rank f : ℕ) (kept : List Ask) (t : Table) (x : Streams) → (host_plan n node boot rank f kept t x).plan.rank ≡ rank
-unfolding host_plan
-plan_rank n node boot rank f kept t x = refl
 
 module _ (s : ScenarioParts) (scenario : IsSoundScenario s) (rank f : ℕ) (p : Plan) (host : ℕ) (hosted : IsHosted s rank f p host) where
   abbrev before : ℕ → ℕ → State
@@ -173,7 +170,7 @@ closings s accepted rank f p host hosted lossless k v within = record {
   later = (let more = gap_some in omega (arith, more));
   hosts = ap (λ (r : ℕ). Host r (f + plan.gap)) own_rank_is;
   holds = ap (λ (r : ℕ). Hold r (f + plan.gap))
-      (plan_rank s.profile host is.core.boot (rank_of is.core.tune) f is.core.kept is.core.table is.core.streams ∙ own_rank_is);
+      (planned_rank s.profile host is.core.boot (rank_of is.core.tune) f is.core.kept is.core.table is.core.streams ∙ own_rank_is);
   plan = refl;
 }
   where

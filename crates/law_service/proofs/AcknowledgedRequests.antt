@@ -8,7 +8,7 @@ use Rattle.lwb_base.specs.Messages.{Ask, code_of}
 use Rattle.bus_rules.specs.HostPlans.{Answered, answer, answered, with_ack, host_plan}
 use Rattle.bus_rules.specs.Streams.{Streams}
 use Rattle.bus_rules.specs.Tables.{Table, is_full}
-use Rattle.law_service.proofs.ListElements.{not_in_none, contains_head, contains_tail, contains_cases}
+use Rattle.lwb_base.proofs.Elements.{not_in_none, contains_head, contains_tail, contains_cases}
 
 -- none of the requests is of this stream
 abbrev pub NoneOf : ℕ → List Ask → Type 0

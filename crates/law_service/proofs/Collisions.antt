@@ -3,7 +3,9 @@ use Rattle.std.proofs.Common.{◌≡◌, ◌≢◌, ◌+◌, ◌-◌, ◌==◌, 
 use Rattle.std.proofs.Common.{if◌then◌else◌, is_none, is_some, length, nat_lt, option_and_then, option_map, eq-eqb, add-one, refl, sym, ◌∙◌, ap, subst, arith}
 use Rattle.std.specs.Prelude.{◌⊎◌}
 use Rattle.std.proofs.lemmas.Bool.{false≢true, and_parts, cond-true}
+use Rattle.std.proofs.lemmas.Option.{same_Some}
 use Rattle.lwb_base.specs.Messages.{Plan}
+use Rattle.lwb_base.proofs.Options.{not_both, none_is}
 use Rattle.scenario_text.specs.ScenarioParts.{ScenarioParts}
 use Rattle.bus_rules.specs.declared.part.Part.{Part}
 use Rattle.bus_rules.specs.declared.part.Part.TheVariants.{Contention}
@@ -16,7 +18,7 @@ use Rattle.bus_terms.specs.FloodOfText.{ids}
 use Rattle.bus_terms.specs.Flooding.{Setting, Moment, STEPS, moment, has, offer, candidates, named, pick, may_hear, takes, hears, accepted, Hears}
 use Rattle.bus_terms.specs.Rounds.{Slot, accepted_at, opened_at, closed_by, left_by, before_slot, said_in, takes_part}
 use Rattle.bus_terms.specs.ScriptedStates.{setup_in}
-use Rattle.bus_terms.proofs.Options.{inspect, only_from, in_filter, from_filter, heard_parts, sends_parts, named_parts, none_is, some_injective}
+use Rattle.bus_terms.proofs.Options.{inspect, only_from, in_filter, from_filter, heard_parts, sends_parts, named_parts}
 use Rattle.bus_terms.proofs.ReceivedByPaths.{in_filtered, of_filtered, in_whole}
 use Rattle.bus_terms.proofs.ReceivedInRounds.{accepted_none}
 use Rattle.law_service.specs.Contenders.{DifferentPacketsCollide, Collide, ContendersAreLost, ContendersStayTied, AreTied}
@@ -25,9 +27,6 @@ use Rattle.law_service.specs.ScheduleService.{slot_in, node_before}
 use Rattle.law_service.proofs.ContentionSlots.{contention_at, requests, only_requests}
 use Rattle.law_service.proofs.HostedRounds.{said_message, left_windowed}
 use Rattle.law_service.proofs.TiedNodes.{contention_keeps}
-
-some_is_not_none : (x : Option ℕ) (y : ℕ) → x ≡ None → x ≡ Some y → ⊥
-some_is_not_none x y none some = cc
 
 -- what nobody hears
 silent : (o : Option ℕ) → ((y : ℕ) → o ≡ Some y → ⊥) → o ≡ None
@@ -38,7 +37,7 @@ pub one_or_none : (s : Setting) (m : Moment) (k w u v o : ℕ) → u ≢ v → h
     → s.captured k w ≡ None → pick s m k w ≡ Some o → ⊥
 one_or_none s m k w u v o differ first second uncaptured picked = elim (only_from (candidates s m k w) (named s m k w) o picked) [
   | inl all ↦ differ (all.1 u first ∙ sym (all.1 v second))
-  | inr other ↦ (let c = named_parts (offer s m k w) (s.captured k w) o other in some_is_not_none (s.captured k w) c.0 uncaptured c.1)
+  | inr other ↦ (let c = named_parts (offer s m k w) (s.captured k w) o other in not_both (s.captured k w) c.0 uncaptured c.1)
 ]
 
 pub collide : DifferentPacketsCollide
@@ -63,7 +62,7 @@ module _ (s : Setting) (u v : ℕ) (differ : u ≢ v) (there : (has s.everyone u
             (x.0, parts.0, parts.1))
         | inr other ↦
             (let c = named_parts (offer s m k w) (s.captured k w) o other in
-            absurd (some_is_not_none (s.captured k w) c.0 (uncaptured k w) c.1))
+            absurd (not_both (s.captured k w) c.0 (uncaptured k w) c.1))
       ]
 
   begins : (w : ℕ) → has s.initiators w ≡ true → (moment s 0).sends w ≡ Some w
@@ -72,7 +71,7 @@ module _ (s : Setting) (u v : ℕ) (differ : u ≢ v) (there : (has s.everyone u
 
   begun : (w o : ℕ) → (moment s 0).sends w ≡ Some o → (has s.initiators w ≡ true) × (o ≡ w)
   unfolding moment
-  begun w o is = (let parts = sends_parts (has s.initiators w) (Some w) o is in (parts.0, sym (some_injective w o parts.1)))
+  begun w o is = (let parts = sends_parts (has s.initiators w) (Some w) o is in (parts.0, sym (same_Some w o parts.1)))
 
   idle : (k w o : ℕ) → Hears s w k o → ((moment s k).sends w ≡ None) × (has s.everyone w ≡ true)
   idle k w o heard =
@@ -97,7 +96,7 @@ module _ (s : Setting) (u v : ℕ) (differ : u ≢ v) (there : (has s.everyone u
 
       not_at : (x : ℕ) → has s.initiators x ≡ true → w ≢ x
       not_at x initiates same =
-          some_is_not_none ((moment s 0).sends w) x resting.0 (ap (λ (y : ℕ). (moment s 0).sends y) same ∙ begins x initiates)
+          not_both ((moment s 0).sends w) x resting.0 (ap (λ (y : ℕ). (moment s 0).sends y) same ∙ begins x initiates)
 
       same : s.passes 0 u w ≡ s.passes 0 v w
       same = alike w resting.1 (not_at u both.0) (not_at v both.1)

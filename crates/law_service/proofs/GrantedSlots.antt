@@ -1,8 +1,8 @@
 -- What a host grants for its next round, and the streams that a table keeps while others are put to it.
-use Rattle.std.proofs.Common.{◌≡◌, ◌≢◌, ◌<◌, ◌≤◌, ◌+◌, ◌==◌, ℕ, zero, suc, List, [], ◌∷◌, ◌++◌, Bool, true, false, not, inl, inr, Option, Some, None}
-use Rattle.std.proofs.Common.{cond, nat_lt, nat_le, fold, replicate, sum_by, refl, sym, ◌∙◌, ap, subst, arith}
+use Rattle.std.proofs.Common.{◌≡◌, ◌≢◌, ◌<◌, ◌≤◌, ◌+◌, ◌==◌, ℕ, List, [], ◌∷◌, ◌++◌, Bool, true, false, not, inl, inr, Option, Some, None}
+use Rattle.std.proofs.Common.{cond, nat_lt, nat_le, fold, replicate, sum_by, sym, ◌∙◌, ap, subst, arith}
 use Rattle.std.specs.Prelude.{Contains}
-use Rattle.std.proofs.lemmas.Bool.{cond_both, cond-true, cond-false, eqb-true, eq-eqb, ne_eqb, le-leb, false≢true}
+use Rattle.std.proofs.lemmas.Bool.{cond_both, cond-true, cond-false, eqb-true, ne_eqb, le-leb, false≢true}
 use Rattle.std.proofs.lemmas.Grind.{fold-append}
 use Rattle.std.proofs.lemmas.List.Sums.{sum_by-cons}
 use Rattle.lwb_base.specs.Messages.{Ask, code_of, code}
@@ -10,8 +10,9 @@ use Rattle.bus_rules.specs.Granting.{Grants, count_of, owners_by, granted_by, gi
 use Rattle.bus_rules.specs.HostPlans.{Answered, answer, answered, Served, serve, served, put_if}
 use Rattle.bus_rules.specs.Streams.{Streams, due_of, with_agreed}
 use Rattle.bus_rules.specs.Tables.{Entry, Table, has_code, is_full, new_entry, without, with_entry, after_request, interval_of}
+use Rattle.bus_rules.proofs.Grants.{count_replicate, gap_stays}
 use Rattle.law_service.proofs.AcknowledgedRequests.{NoneOf}
-use Rattle.law_service.proofs.ListElements.{not_in_none, contains_head, contains_tail, contains_cases}
+use Rattle.lwb_base.proofs.Elements.{not_in_none, contains_head, contains_tail, contains_cases}
 
 -- how often a code is among owners
 count_cons : (c x : ℕ) (xs : List ℕ) → count_of c (x ∷ xs) ≡ cond (x == c) 1 0 + count_of c xs
@@ -29,13 +30,6 @@ count_joined c (x ∷ xs) ys =
     one_before (count_of c (x ∷ (xs ++ ys))) (cond (x == c) 1 0) (count_of c xs) (count_of c ys) (count_of c (xs ++ ys)) (count_cons c x (xs ++ ys))
     (count_joined c xs ys) (count_of c (x ∷ xs)) (count_cons c x xs)
 
-count_same : (c n : ℕ) → count_of c (replicate n c) ≡ n
-count_same c zero = refl
-count_same c (suc n) =
-    let p = count_cons c c (replicate n c) ∙ ap (λ (b : Bool). cond b 1 0 + count_of c (replicate n c)) (eq-eqb c c refl) in
-    let r = count_same c n in
-    omega (arith, p, r)
-
 in_first : (whole first rest n : ℕ) → whole ≡ first + rest → first ≡ n → n ≤ whole
 in_first whole first rest n is same = omega (arith, is, same)
 
@@ -52,7 +46,7 @@ owed_counted owes e (x ∷ es) there =
     elim (contains_cases x es e there) [
       | inl is ↦
           in_first (count_of e.code (own ++ others)) (count_of e.code own) (count_of e.code others) (owes e) joined
-          (ap (λ (y : Entry). count_of e.code (replicate (owes y) y.code)) is ∙ count_same e.code (owes e))
+          (ap (λ (y : Entry). count_of e.code (replicate (owes y) y.code)) is ∙ count_replicate e.code (owes e))
       | inr later ↦ in_rest (count_of e.code (own ++ others)) (count_of e.code own) (count_of e.code others) (owes e) joined (more later)
     ]
 
@@ -63,12 +57,9 @@ gap_range seconds f es =
     (λ _. cond_both (nat_le (total seconds (f + 3) es) 40) 3 _ (λ (g : ℕ). (0 < g) × (g ≤ 4)) (λ _. omega arith)
     (λ _. cond_both (nat_le (total seconds (f + 2) es) 40) 2 1 (λ (g : ℕ). (0 < g) × (g ≤ 4)) (λ _. omega arith) (λ _. omega arith)))
 
-grants_gap : (owes : Entry → ℕ) (gap : ℕ) (t : Table) → (grants_for owes gap t).gap ≡ gap
-grants_gap owes gap t = cond_both (nat_le (sum_by owes t.entries) 40) _ _ (λ (g : Grants). g.gap ≡ gap) (λ _. refl) (λ _. refl)
-
 pub round_gap : (seconds f : ℕ) (t : Table) → (plan_round seconds f t).gap ≡ gap_of seconds f t.entries
 unfolding plan_round
-round_gap seconds f t = grants_gap (owed_to seconds (f + gap_of seconds f t.entries)) (gap_of seconds f t.entries) t
+round_gap seconds f t = gap_stays (owed_to seconds (f + gap_of seconds f t.entries)) (gap_of seconds f t.entries) t
 
 pub some_gap : (seconds f : ℕ) (t : Table) → 0 < (plan_round seconds f t).gap
 some_gap seconds f t = (let is = round_gap seconds f t in let range = gap_range seconds f t.entries in omega (arith, is, range))
@@ -79,7 +70,7 @@ pub fitting_grants : (seconds f due : ℕ) (t : Table) → due ≡ f + (plan_rou
 unfolding plan_round
 fitting_grants seconds f due t is fits e there =
     let gap = gap_of seconds f t.entries in
-    let same : due ≡ f + gap = is ∙ ap (λ (g : ℕ). f + g) (grants_gap (owed_to seconds (f + gap)) gap t) in
+    let same : due ≡ f + gap = is ∙ ap (λ (g : ℕ). f + g) (gap_stays (owed_to seconds (f + gap)) gap t) in
     let fitting : total seconds (f + gap) t.entries ≤ 40 = subst (λ (d : ℕ). total seconds d t.entries ≤ 40) same fits in
     let owes : Entry → ℕ = owed_to seconds (f + gap) in
     let all : grants_for owes gap t ≡ granted_by owes gap t.place t.entries =

@@ -1,6 +1,6 @@
 -- A host leads its round from the opening to the closing, and is the only node that says a schedule in it.
 use Rattle.std.proofs.Common.{◌≡◌, ◌<◌, ◌≤◌, ◌==◌, ℕ, zero, suc, List, [], ◌∷◌, Bool, true, false, Option, Some, None, if◌then◌else◌, inl, inr, nat_lt, nat_le}
-use Rattle.std.proofs.Common.{add-one, is_some, length, option_and_then, refl, sym, ◌∙◌, ap, subst, arith}
+use Rattle.std.proofs.Common.{add-one, is_some, length, option_and_then, refl, sym, ◌∙◌, ap, arith}
 use Rattle.std.specs.List.{find}
 use Rattle.std.specs.Option.{option_or}
 use Rattle.std.proofs.lemmas.Bool.{false≢true, or_cases, eqb-true, cond_both, cond-true, cond-false, lt-ltb, le-ltb, lt-leb, ne_eqb}
@@ -15,6 +15,7 @@ use Rattle.bus_rules.specs.Plans.{last_slot, opening}
 use Rattle.bus_rules.specs.Slots.{Message, ScheduleOf, DataOf, RequestOf, Opened, opened, closed, part_of, hosts_now, host_closes, silent}
 use Rattle.bus_rules.specs.States.{State, StateOff, StateOn}
 use Rattle.bus_rules.specs.Tuning.{rank_of, hosts_in, holds_in, rank_of}
+use Rattle.bus_rules.proofs.Ranks.{hosts_own}
 use Rattle.bus_terms.specs.Bus.{state_at}
 use Rattle.bus_terms.specs.FloodOfText.{ids}
 use Rattle.bus_terms.specs.Flooding.{has, accepted, moment, STEPS}
@@ -130,10 +131,6 @@ own_of : (s : ScenarioParts) (rank f v : ℕ) (x : State) → IsRightfulState (s
 own_of s rank f v (StateOff boots) is due = absurd (false≢true due)
 own_of s rank f v (StateOn c) is due = is.own (due_hosts rank f c.tune due) ∙ ap (λ (r : ℕ). Some r) (due_rank rank f c.tune due)
 
--- the host of a rank is due by its own rank
-pub now_due : (rank f : ℕ) (t : Tune) → hosts_in rank f t ≡ true → hosts_in (rank_of t) f t ≡ true
-now_due rank f t due = subst (λ (r : ℕ). hosts_in r f t ≡ true) (sym (due_rank rank f t due)) due
-
 pub host_member : (rank f : ℕ) (c : Core) → hosts_in rank f c.tune ≡ true → is_member rank f c ≡ true
 host_member rank f c due = rw due refl
 
@@ -184,11 +181,11 @@ module _ (s : ScenarioParts) (rank f : ℕ) (p : Plan) (host : ℕ) (hosted : Is
 
   pub opening_said : (is : Hosting rank f p (before_slot s rank f p (state_at s f) 0 host))
       → (opened (setup_in s host) f Opening is.core).message ≡ Some (ScheduleOf (opening is.core.plan))
-  opening_said is = cond-true (hosts_now f is.core) _ None (now_due rank f is.core.tune is.due)
+  opening_said is = cond-true (hosts_now f is.core) _ None (hosts_own rank f is.core.tune is.due)
 
   pub closing_opens : (is : Hosting rank f p (before_slot s rank f p (state_at s f) (last_slot p) host))
       → opened (setup_in s host) f Closing is.core ≡ host_closes (setup_in s host) f is.core
-  closing_opens is = cond-true (hosts_now f is.core) (host_closes (setup_in s host) f is.core) (silent is.core) (now_due rank f is.core.tune is.due)
+  closing_opens is = cond-true (hosts_now f is.core) (host_closes (setup_in s host) f is.core) (silent is.core) (hosts_own rank f is.core.tune is.due)
 
   -- a schedule is said by the host alone, in a slot of schedules
   no_schedule : (j : ℕ) (part : Part) → part_of p j ≡ part → is_closing part ≡ false → Hosting rank f p (before j host)
@@ -196,7 +193,7 @@ module _ (s : ScenarioParts) (rank f : ℕ) (p : Plan) (host : ℕ) (hosted : Is
   no_schedule j Closing at early is y said = false≢true (sym early)
   no_schedule j Opening at early is y said =
       let says : (opened (setup_in s host) f Opening is.core).message ≡ Some (ScheduleOf (opening is.core.plan)) =
-      cond-true (hosts_now f is.core) _ None (now_due rank f is.core.tune is.due) in
+      cond-true (hosts_now f is.core) _ None (hosts_own rank f is.core.tune is.due) in
       let none = accepts_none j Opening at is (opening is.core.plan) says in
       cc
   no_schedule j (DataSlot owner) at early is y said =

@@ -22,6 +22,7 @@ use Rattle.bus_rules.specs.States.{State, StateOff, StateOn, at_core, refuses, q
 use Rattle.bus_rules.specs.Streams.{Streams, Waiting, first_waiting, requested}
 use Rattle.bus_rules.specs.Tables.{Table}
 use Rattle.bus_rules.specs.Tuning.{rank_of, hosts, hosts_in, is_rank, next_tune}
+use Rattle.bus_rules.proofs.Ranks.{same_schedule, rank_is}
 use Rattle.bus_terms.specs.Bus.{before_frame, state_at}
 use Rattle.bus_terms.specs.Rounds.{rounds, before_slot}
 use Rattle.bus_terms.specs.ScriptedStates.{after_act, after_line, lines_of, scripted, setup_in}
@@ -69,9 +70,6 @@ opens q f Closing c is = by_test (hosts_now f c) refl
     }
     by_test false now = is
 
-said_same : (x y : Schedule) → Some (ScheduleOf x) ≡ Some (ScheduleOf y) → x ≡ y
-said_same x y is = cc
-
 -- in a data slot or a contention slot nobody says a schedule
 pub data_no_schedule : (q : Setup) (f owner : ℕ) (c : Core) (x : Schedule) → (opened q f (DataSlot owner) c).message ≡ Some (ScheduleOf x) → ⊥
 data_no_schedule q f owner c x is = by_owner (node_of owner == q.id) (first_waiting c.streams (stream_of owner)) is
@@ -97,7 +95,7 @@ says q f Opening c (ScheduleOf x) is said = by_test (hosts_now f c) refl said
     by_test : (b : Bool) → hosts_now f c ≡ b → (if b then Some (ScheduleOf (opening c.plan)) else None) ≡ Some (ScheduleOf x)
         → x.plan.contend ≡ q.profile.contend
     by_test true now said =
-        subst (λ (y : Schedule). y.plan.contend ≡ q.profile.contend) (said_same (opening c.plan) x said)
+        subst (λ (y : Schedule). y.plan.contend ≡ q.profile.contend) (same_schedule (opening c.plan) x said)
         (is.contend (due_hosts (rank_of c.tune) f c.tune now))
     by_test false now said = absurd (cc)
 says q f (DataSlot owner) c (ScheduleOf x) is said = absurd (data_no_schedule q f owner c x said)
@@ -108,7 +106,7 @@ says q f Closing c (ScheduleOf x) is said = by_test (hosts_now f c) said
     by_test true said =
         let h = host_plan q.profile q.id c.boot (rank_of c.tune) f c.kept c.table c.streams in
         let same = plan_contends q.profile q.id c.boot (rank_of c.tune) f c.kept c.table c.streams in
-        subst (λ (y : Schedule). y.plan.contend ≡ q.profile.contend) (said_same (record { plan = h.plan; gap = h.gap }) x said) same
+        subst (λ (y : Schedule). y.plan.contend ≡ q.profile.contend) (same_schedule (record { plan = h.plan; gap = h.gap }) x said) same
     by_test false said = absurd (cc)
 
 heard : (q : Setup) (f : ℕ) (part : Part) (b : Bool) (c : Core) → IsRightful q c → IsRightful q (slot_heard f part b c)
@@ -153,10 +151,6 @@ lines q [] x is = is
 lines q (l ∷ ls) x is = lines q ls (after_line x l) (acts q l.act x is)
 
 -- the end of a frame
-same_rank : (own : Option ℕ) (r : ℕ) → is_rank own r ≡ true → own ≡ Some r
-same_rank None r is = absurd (false≢true is)
-same_rank (Some own) r is = ap (λ (n : ℕ). Some n) (eqb-true own r is)
-
 ends : (q : Setup) (f : ℕ) (c : Core) → IsRightful q c → IsRightful q (frame_ended q f c)
 ends q f c is = by_tune c.tune refl
   where
@@ -192,7 +186,7 @@ ends q f c is = by_tune c.tune refl
         of_tune (Host r due) own plan = record { own = own; contend = plan }
         of_tune (Hold r due) own plan = by_hold r due (nat_lt f due)
         of_tune (Scan r w) own plan =
-            by_scan r w (is_fresh c) (is_rank q.own r && (w + 1 == 5)) (w + 1 == 12) (λ serves. same_rank q.own r (and_parts (is_rank q.own r) _ serves).0)
+            by_scan r w (is_fresh c) (is_rank q.own r && (w + 1 == 5)) (w + 1 == 12) (λ serves. rank_is q.own r (and_parts (is_rank q.own r) _ serves).0)
 
 ends_state : (q : Setup) (f : ℕ) (x : State) → IsRightfulState q x → IsRightfulState q (at_core (frame_ended q f) x)
 ends_state q f (StateOff boots) is = is

@@ -10,13 +10,14 @@ use Rattle.bus_rules.specs.Cores.{Core}
 use Rattle.bus_rules.specs.Plans.{last_slot, slots_named, opening}
 use Rattle.bus_rules.specs.Slots.{Message, Data, ScheduleOf, DataOf, RequestOf, opened, closed, part_of, hosts_now, most_kept}
 use Rattle.bus_rules.specs.States.{State, StateOn}
+use Rattle.bus_rules.proofs.Ranks.{hosts_own}
 use Rattle.bus_terms.specs.Bus.{state_at}
 use Rattle.bus_terms.specs.Rounds.{accepted_at, opened_at, closed_by, left_by, before_slot}
 use Rattle.bus_terms.specs.ScriptedStates.{setup_in}
 use Rattle.law_service.specs.ScheduleService.{IsHosted, slot_in}
 use Rattle.law_service.proofs.ContentionSlots.{contention_at, IsRequest, requests, only_requests, only_data}
 use Rattle.law_service.proofs.ContentionSlots.{few_more, kept_by, keeps_by, keeps_none, own_of, own_stays}
-use Rattle.law_service.proofs.HostedRounds.{Hosting, leads, heard_from, host_member, left_windowed, accepts_none, now_due}
+use Rattle.law_service.proofs.HostedRounds.{Hosting, leads, heard_from, host_member, left_windowed, accepts_none}
 use Rattle.law_service.proofs.HostsOfRanks.{rightful_before, due_hosts, IsRightfulState}
 use Rattle.law_service.proofs.KeptNone.{kept_of, keeps_nothing}
 
@@ -102,7 +103,7 @@ module _ (s : ScenarioParts) (rank f : ℕ) (p : Plan) where
         by_part (Contention i) at early = absurd (false≢true (ap first (sym at) ∙ early))
         by_part Opening at early =
             let says : (opened (setup_in s host) f Opening is.core).message ≡ Some (ScheduleOf (opening is.core.plan)) =
-            cond-true (hosts_now f is.core) _ None (now_due rank f is.core.tune is.due) in
+            cond-true (hosts_now f is.core) _ None (hosts_own rank f is.core.tune is.due) in
             let none = accepts_none s rank f p host hosted m Opening at is (opening is.core.plan) says in
             kept_with Opening at (λ i same. cc) (λ same. cc) (λ y said. cc) (λ a said. cc)
         by_part (DataSlot owner) at early = kept_with (DataSlot owner) at (λ i same. cc) (λ same. cc)

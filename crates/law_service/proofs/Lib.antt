@@ -5,7 +5,6 @@ mod KeptInRounds
 mod HostsOfRanks
 mod HostedRounds
 mod AcceptedSchedules
-mod ListElements
 mod AcknowledgedRequests
 mod ContentionSlots
 mod KeptNone

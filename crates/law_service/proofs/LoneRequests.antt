@@ -3,6 +3,7 @@ use Rattle.std.proofs.Common.{◌≡◌, ◌≢◌, ◌<◌, ◌≤◌, ◌+◌,
 use Rattle.std.proofs.Common.{length, nat_lt, add-one, refl, sym, ◌∙◌, ap, subst, arith}
 use Rattle.std.proofs.lemmas.Bool.{cond-true, lt-ltb, and_from, cases_Bool, cond-false}
 use Rattle.std.proofs.lemmas.List.{append_assoc}
+use Rattle.std.proofs.lemmas.Option.{same_Some}
 use Rattle.lwb_base.specs.Messages.{Ask, Plan, code_of}
 use Rattle.scenario_text.specs.ScenarioParts.{ScenarioParts}
 use Rattle.scenario_text.specs.ScenarioFacts.{IsSoundScenario}
@@ -15,6 +16,7 @@ use Rattle.bus_rules.specs.States.{State, StateOn}
 use Rattle.bus_rules.specs.Tables.{Table, is_full}
 use Rattle.bus_rules.specs.HostPlans.{answered}
 use Rattle.bus_rules.specs.Tuning.{rank_of}
+use Rattle.bus_rules.proofs.Ranks.{hosts_own}
 use Rattle.bus_terms.specs.Bus.{state_at}
 use Rattle.bus_terms.specs.FloodOfText.{ids}
 use Rattle.bus_terms.specs.Rounds.{Slot, accepted_at, before_slot, takes_part}
@@ -25,7 +27,7 @@ use Rattle.law_service.specs.ScheduleService.{slot_in}
 use Rattle.law_service.specs.RequestService.{ReachesHost, Acknowledges, LoneRequestsAreKept, LoneRequestsAreAcknowledged}
 use Rattle.law_service.proofs.AcknowledgedRequests.{NoneOf, none_more, plan_acks}
 use Rattle.law_service.proofs.ContentionSlots.{contention_at, IsRequest, requests, kept_by, own_of}
-use Rattle.law_service.proofs.HostedRounds.{Hosting, leads, has_planned, now_due, said_message}
+use Rattle.law_service.proofs.HostedRounds.{Hosting, leads, has_planned, said_message}
 use Rattle.law_service.proofs.SoleVoices.{accepts_said}
 use Rattle.law_service.proofs.KeptByHosts.{request_from, own_same, slot_kept, room}
 
@@ -40,9 +42,6 @@ pub record Tracked (c : Core) (a : Ask) (x : State) : Type 0 where
 
 pub same_core : (c d : Core) (x : State) → x ≡ StateOn c → x ≡ StateOn d → c ≡ d
 same_core c d x first second = let is : StateOn c ≡ StateOn d = sym first ∙ second in cc
-
-same_some : (m n : ℕ) → Some m ≡ Some n → m ≡ n
-same_some m n is = cc
 
 module _ (s : ScenarioParts) (scenario : IsSoundScenario s) (rank f : ℕ) (p : Plan) (host j u : ℕ) (a : Ask) (c : Core)
     (reaches : ReachesHost s rank f p host j u a c) where
@@ -68,7 +67,7 @@ module _ (s : ScenarioParts) (scenario : IsSoundScenario s) (rank f : ℕ) (p : 
       let d = slot_kept s rank f p host reaches.hosted j late early lead in
       let same : lead.core ≡ c = same_core lead.core c (at j host) lead.on reaches.on in
       let free = room s rank f p host reaches.hosted j late early lead in
-      let takes = and_from (hosts_now f lead.core) (nat_lt (length lead.core.kept) (most_kept s.profile)) (now_due rank f lead.core.tune lead.due)
+      let takes = and_from (hosts_now f lead.core) (nat_lt (length lead.core.kept) (most_kept s.profile)) (hosts_own rank f lead.core.tune lead.due)
       (lt-ltb (length lead.core.kept) (most_kept s.profile) free) in (
         d.0,
         d.1,
@@ -100,7 +99,7 @@ module _ (s : ScenarioParts) (scenario : IsSoundScenario s) (rank f : ℕ) (p : 
       let own_then : own_of (at m u) ≡ Some (m - length p.owners) =
       ap (λ (v : ℕ). own_of (at m v)) (sym one) ∙ ap own_of from.2.2 ∙ theirs.own in
       let own_here : own_of (at j u) ≡ Some (j - length p.owners) = ap own_of asked.1 ∙ ours.own in
-      let equal = same_some (m - length p.owners) (j - length p.owners) (sym own_then ∙ own_same s rank f p j u (suc n) late soon ∙ own_here) in
+      let equal = same_Some (m - length p.owners) (j - length p.owners) (sym own_then ∙ own_same s rank f p j u (suc n) late soon ∙ own_here) in
       omega (arith, equal, late)
 
   next : (n : ℕ) → j + suc n < last_slot p → Tracked c a (at (j + suc n) host) → Tracked c a (at (suc (j + suc n)) host)

@@ -11,8 +11,8 @@ use Rattle.bus_rules.specs.Streams.{Streams, cleared, declared, put, after_conte
 use Rattle.bus_terms.specs.Bus.{before_frame, bus_deliveries}
 use Rattle.bus_terms.specs.Flooding.{Setting, moment, accepted}
 use Rattle.bus_terms.specs.Rounds.{before_slot}
+use Rattle.bus_terms.proofs.WorkedBuses.{node, link, at}
 use Rattle.law_service.specs.Contenders.{own_number}
-use Rattle.law_service.proofs.WorkedReach.{node, link, at}
 
 -- nodes 7 and 23 have the fourth of four contention slots, and of three the second and the third
 four_slots : (own_number 7 0 4 ≡ 4) × (own_number 23 0 4 ≡ 4) × (own_number 7 3 4 ≡ 3) × (own_number 23 3 4 ≡ 3)

@@ -5,8 +5,6 @@ use Rattle.lwb_base.specs.Messages.{least}
 use Rattle.link_trace.specs.declared.lines.LinkLine.{LinkLine}
 use Rattle.link_trace.specs.declared.lines.LoseLine.{LoseLine}
 use Rattle.scenario_text.specs.ScenarioParts.{ScenarioParts}
-use Rattle.scenario_text.specs.declared.lines.NodeLine.{NodeLine}
-use Rattle.scenario_text.specs.declared.script.Act.{Act}
 use Rattle.scenario_text.specs.declared.script.Act.TheVariants.{On, Declare, Put}
 use Rattle.scenario_text.specs.declared.script.ScriptLine.{ScriptLine}
 use Rattle.bus_rules.specs.declared.delivery.Delivery.{Delivery}
@@ -18,16 +16,8 @@ use Rattle.bus_terms.specs.FloodOfText.{ids}
 use Rattle.bus_terms.specs.Flooding.{moment}
 use Rattle.bus_terms.specs.Rounds.{before_slot, round_deliveries}
 use Rattle.bus_terms.specs.Bus.{before_frame, state_at}
+use Rattle.bus_terms.proofs.WorkedBuses.{node, link, at}
 use Rattle.law_service.specs.Reach.{is_linked}
-
-abbrev pub node : ℕ → NodeLine
-node v = record { node = v; offset = 0 }
-
-abbrev pub link : ℕ → ℕ → LinkLine
-link u v = record { from = u; to = v }
-
-abbrev pub at : ℕ → ℕ → Act → ScriptLine
-at f v a = record { frame = f; node = v; act = a }
 
 -- links both ways between each node and the next
 abbrev chain : List ℕ → List LinkLine

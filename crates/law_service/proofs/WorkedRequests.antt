@@ -11,7 +11,8 @@ use Rattle.bus_rules.specs.Tables.{Entry, Table, is_full}
 use Rattle.bus_terms.specs.Flooding.{moment}
 use Rattle.bus_terms.specs.Rounds.{before_slot, rounds}
 use Rattle.bus_terms.specs.Bus.{before_frame, state_at}
-use Rattle.law_service.proofs.WorkedReach.{line, link, three}
+use Rattle.bus_terms.proofs.WorkedBuses.{link}
+use Rattle.law_service.proofs.WorkedReach.{line, three}
 
 -- what the plan of a node acknowledges
 abbrev acks_of : State → List Ask

@@ -1,45 +1,18 @@
 -- Script lines at a device and in the bus.
-use Rattle.std.proofs.Common.{◌≡◌, ℕ, ◌+◌, List, [], ◌∷◌, Bool, true, false, ◌==◌, ◌&&◌, None, Option, refl, ap, ◌∙◌, fold}
-use Rattle.std.proofs.lemmas.Bool.{cond_both}
-use Rattle.lwb_base.specs.declared.event.Event.{Event}
+use Rattle.std.proofs.Common.{◌≡◌, ℕ, ◌+◌, List, [], ◌∷◌, Bool, true, false, None, refl, ap, ◌∙◌, fold}
 use Rattle.lwb_base.specs.declared.event.Event.TheVariants.{Boot}
-use Rattle.lwb_base.specs.declared.order.Order.{Order}
-use Rattle.lwb_base.specs.declared.order.Order.TheVariants.{Listen, Off as RadioOff, SendAt, Alarm}
-use Rattle.radio_model.specs.declared.sending.Sending.{Sending}
-use Rattle.radio_model.specs.OnAir.{Tuning}
 use Rattle.scenario_text.specs.declared.script.Act.{Act}
 use Rattle.scenario_text.specs.declared.script.Act.TheVariants.{On, Off, Declare, Leave, Put}
 use Rattle.scenario_text.specs.declared.script.ScriptLine.{ScriptLine}
 use Rattle.bus_rules.specs.Cores.{Setup}
 use Rattle.node_core.specs.Nodes.{Node, rebooted}
-use Rattle.node_core.specs.Rows.{row}
-use Rattle.node_core.specs.Rows.{node_after, orders_by}
-use Rattle.air_log.specs.Devices.{Device, Power, PowerOff, PowerOn, obeyed, tunes, listens_to, silenced, stepped, moved}
+use Rattle.air_log.specs.Devices.{Device, Power, PowerOff, PowerOn}
 use Rattle.air_log.specs.ScriptedDevices as Air
 use Rattle.air_log.specs.Drops as AirDrops
 use Rattle.bus_rules.specs.States.{State, StateOn, refuses}
 use Rattle.bus_terms.specs.ScriptedStates as Bus
 use Rattle.air_log.specs.Devices.{seen}
-
-tuned_power : (rank t : ℕ) (d : Device) (es : List Tuning) → (tunes rank t d es).power ≡ d.power
-tuned_power rank t d [] = refl
-tuned_power rank t d (e ∷ es) = cond_both ((e.rank == rank) && (e.end == t)) _ _ (λ (x : Device). x.power ≡ d.power) (λ p. refl) (λ p. refl)
-
-obeyed_power : (clock : ℕ → ℕ) (v t : ℕ) (d : Device) (o : Order) → (obeyed clock v t d o).power ≡ d.power
-obeyed_power clock v t d (Listen rank) = cond_both (listens_to rank d.listening) _ _ (λ (x : Device). x.power ≡ d.power) (λ p. refl)
-    (λ p. tuned_power rank t (silenced v t d) (silenced v t d).made.tuned)
-obeyed_power clock v t d RadioOff = refl
-obeyed_power clock v t d (SendAt local p) = refl
-obeyed_power clock v t d (Alarm local) = refl
-
-all_obeyed : (clock : ℕ → ℕ) (v t : ℕ) (d : Device) (os : List Order) → (fold (obeyed clock v t) d os).power ≡ d.power
-all_obeyed clock v t d [] = refl
-all_obeyed clock v t d (o ∷ os) = all_obeyed clock v t (obeyed clock v t d o) os ∙ obeyed_power clock v t d o
-
--- an event leaves the node where its row leaves it
-event_power : (clock : ℕ → ℕ) (s : Setup) (t : ℕ) (e : Event) (x : Option Sending) (d : Device) (n : Node)
-    → (stepped clock s t e x d n).power ≡ PowerOn (node_after n (row s n (clock t) e))
-event_power clock s t e x d n = all_obeyed clock s.id t (moved t e x d n (row s n (clock t) e)) (orders_by (row s n (clock t) e))
+use Rattle.air_log.proofs.EventPower.{stepped_power}
 
 put_same : (s : Setup) (f i : ℕ) (payload : List ℕ) (d : Device) (n : Node) → d.power ≡ PowerOn n
     → seen (Air.put_or_dropped s f i payload d n).power ≡ Bus.after_act (Put i payload) (StateOn n.core)
@@ -51,7 +24,7 @@ put_same s f i payload d n is = by_drop (refuses i n.core) refl
 
 act_same : (clock : ℕ → ℕ) (s : Setup) (t f : ℕ) (d : Device) (a : Act) (p : Power) → d.power ≡ p
     → seen (Air.after_act clock s t f d a p).power ≡ Bus.after_act a (seen p)
-act_same clock s t f d On (PowerOff b) is = ap seen (event_power clock s t Boot None (record d { power = PowerOn (rebooted (b + 1)) }) (rebooted (b + 1)))
+act_same clock s t f d On (PowerOff b) is = ap seen (stepped_power clock s t Boot None (record d { power = PowerOn (rebooted (b + 1)) }) (rebooted (b + 1)))
 act_same clock s t f d On (PowerOn n) is = ap seen is
 act_same clock s t f d Off (PowerOff b) is = ap seen is
 act_same clock s t f d Off (PowerOn n) is = refl

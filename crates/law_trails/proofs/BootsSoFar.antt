@@ -9,16 +9,15 @@ use Rattle.radio_model.specs.declared.sending.Sending.{Sending}
 use Rattle.scenario_text.specs.ScenarioParts.{ScenarioParts}
 use Rattle.scenario_text.specs.ScenarioFacts.{IsSoundScenario, turned, turned_by}
 use Rattle.scenario_text.specs.declared.script.ScriptLine.{ScriptLine}
+use Rattle.scenario_text.proofs.BootsTold.{turned_over, Boots}
+use Rattle.scenario_text.proofs.BootsCounted.{never_less}
 use Rattle.bus_rules.specs.Cores.{Setup}
 use Rattle.air_log.specs.Devices.{Device, event, seen_power}
 use Rattle.air_log.specs.ScriptedDevices.{after_line}
 use Rattle.air_log.specs.Trails.{Reception, setup_of, frame_start, lines_at, scripted, ending_at, hears, heard, ended_by, ended, alarmed, tick}
-use Rattle.air_log.proofs.KeptPower.{line_power, event_power, alarmed_power, begun_power, boots_up, turned_over}
-use Rattle.air_log.proofs.Elements.{pairs_tail}
+use Rattle.air_log.proofs.KeptPower.{line_power, event_power, alarmed_power, begun_power}
+use Rattle.lwb_base.proofs.Elements.{pairs_tail}
 use Rattle.law_trails.proofs.DevicesInRange.{kept_all}
-
-abbrev Boots : Type 0
-Boots = Bool × ℕ
 
 -- lines that begin at a tick
 abbrev pub starts_at : ScenarioParts → ScriptLine → ℕ
@@ -95,7 +94,7 @@ module _ (s : ScenarioParts) where
       by_test rest true is = rest
       by_test rest false is =
           let none = none_earlier t (starts_at s l) ls (ltb-false (starts_at s l) t is) up.1 in
-          subst (λ (xs : List ScriptLine). (turned v b xs).1 ≤ (turned v b (l ∷ ls)).1) (sym none) (boots_up v b (l ∷ ls))
+          subst (λ (xs : List ScriptLine). (turned v b xs).1 ≤ (turned v b (l ∷ ls)).1) (sym none) (never_less v b (l ∷ ls))
 
   -- the lines of one node do it all
   own_lines : (v t : ℕ) (b : Boots) (ls : List ScriptLine)

@@ -2,7 +2,7 @@
 use Rattle.std.proofs.Common.{◌≡◌, ℕ, ◌+◌, ◌%◌, ◌<◌, ◌≤◌, List, [], ◌∷◌, ◌++◌, length, Bool, true, false, ◌&&◌, ◌==◌, nat_lt, if◌then◌else◌, Some, None, Option}
 use Rattle.std.proofs.Common.{IfSome, refl, sym, ◌∙◌, ap, subst, arith, mod-lt}
 use Rattle.std.specs.List.{list_all}
-use Rattle.std.proofs.lemmas.Bool.{cond_both, and_parts, and_from, ltb-true, eqb-true, eqb-false}
+use Rattle.std.proofs.lemmas.Bool.{cond_both, and_parts, and_from, ltb-true, eqb-false}
 use Rattle.std.proofs.lemmas.List.{length_push}
 use Rattle.std.proofs.lemmas.List.Folds.{list_all-append}
 use Rattle.lwb_base.specs.Messages.{Ask, Schedule, node_of, stream_of}
@@ -19,6 +19,7 @@ use Rattle.bus_rules.specs.Cores.{Core, Setup, booted, is_fresh, begins_host, ne
 use Rattle.bus_rules.specs.Cores.{schedule_accepted}
 use Rattle.bus_rules.specs.Slots.{Opened, Message, ScheduleOf, DataOf, RequestOf, hosts_now, opened, host_closes, silent, is_own, owner_heard, slot_heard}
 use Rattle.bus_rules.specs.Slots.{most_kept, closed}
+use Rattle.bus_rules.proofs.Ranks.{rank_is}
 use Rattle.lwb_member.specs.Members.{IsBoot}
 use Rattle.lwb_member.proofs.HostPlanned.{contend_few}
 use Rattle.law_trails.specs.StreamRanges.{AreStreams}
@@ -64,10 +65,6 @@ MayTake c (DataOf d) = Unit {0}
 MayTake c (RequestOf a) = ask_in_range a ≡ true
 
 -- the own rank
-own_is : (o : Option ℕ) (r : ℕ) → is_rank o r ≡ true → o ≡ Some r
-own_is None r is = absurd (cc)
-own_is (Some own) r is = ap (λ (n : ℕ). Some n) (eqb-true own r is)
-
 module _ (s : Setup) (set : IsSetup s) where
   contend_is : s.profile.contend ≤ 4
   contend_is = contend_few s.profile set.profile
@@ -184,7 +181,7 @@ module _ (s : Setup) (set : IsSetup s) where
       cond_both (is_fresh c) (Scan r 0) own (After c (Scan r w))
       (λ joined. scanning c r 0 is rank (omega arith))
       (λ alone. cond_both (is_rank s.own r && (w + 1 == 5)) (Host r (f + 1)) rest (After c (Scan r w))
-      (λ begins. hosting c r (f + 1) is rank (own_is s.own r (and_parts (is_rank s.own r) (w + 1 == 5) begins).0))
+      (λ begins. hosting c r (f + 1) is rank (rank_is s.own r (and_parts (is_rank s.own r) (w + 1 == 5) begins).0))
       (λ other. cond_both (w + 1 == 12) (Scan ((r + 1) % s.ranks) 0) (Scan r (w + 1)) (After c (Scan r w))
       (λ next. scanning c ((r + 1) % s.ranks) 0 is (mod-lt (r + 1) (omega (arith, set.ranks))) (omega arith))
       (λ stays. let less = eqb-false (w + 1) 12 stays in scanning c r (w + 1) is rank (omega arith))))

@@ -15,6 +15,7 @@ use Rattle.scenario_text.specs.ScenarioFacts.{IsAct, turned, turned_by}
 use Rattle.scenario_text.specs.declared.script.Act.{Act}
 use Rattle.scenario_text.specs.declared.script.Act.TheVariants.{On, Off, Declare, Leave, Put}
 use Rattle.scenario_text.specs.declared.script.ScriptLine.{ScriptLine}
+use Rattle.scenario_text.proofs.BootsCounted.{never_less}
 use Rattle.bus_rules.specs.Streams.{Streams, declared, left, put}
 use Rattle.bus_rules.specs.States.{refuses, queues}
 use Rattle.bus_rules.specs.Cores.{Core, Setup}
@@ -27,7 +28,7 @@ use Rattle.air_log.specs.Devices.{Device, Power, PowerOff, PowerOn, Listening, O
 use Rattle.air_log.specs.Devices.{stepped, event, event_by, silenced, tunes, listens_to, seen_power}
 use Rattle.air_log.specs.ScriptedDevices.{after_act, after_line, dropped, with_new_core}
 use Rattle.air_log.specs.Trails.{Reception, ending_at, hears, heard, ended_by, ended, is_due, alarms, alarmed, one_alarm, begun, begun_by, starts, sending_from}
-use Rattle.air_log.proofs.KeptPower.{line_power, boots_up}
+use Rattle.air_log.proofs.KeptPower.{line_power}
 use Rattle.law_trails.specs.StreamRanges.{AreStreams}
 use Rattle.law_trails.specs.CoreRanges.{IsSetup}
 use Rattle.law_trails.specs.NodeRanges.{IsAt, IsNode}
@@ -167,7 +168,7 @@ module _ (s : Setup) (set : IsSetup s) (Q H : List ℕ → Type 0) (rules : AreR
       let b = seen_power d.power in
       let next : (turned s.id (turned_by l.act b) ls).1 ≤ 200 =
       subst (λ (own : Bool). (turned s.id (if own then turned_by l.act b else b) ls).1 ≤ 200) all.0.0 few in
-      let now : (turned_by l.act b).1 ≤ 200 = omega (arith, boots_up s.id (turned_by l.act b) ls, next) in
+      let now : (turned_by l.act b).1 ≤ 200 = omega (arith, never_less s.id (turned_by l.act b) ls, next) in
       lines_are ls (after_line clock s t d l) all.1 (subst (λ (c : Bool × ℕ). (turned s.id c ls).1 ≤ 200) (sym (line_power clock s t d l)) next)
       (act_is l.frame d l.act d.power refl all.0.1 now is)
 

@@ -68,10 +68,6 @@ module _ (s : Setup) (k : Kind) (j : ℕ) where
   }
 
 -- what hearing leaves as it was
-pub begun_here : (f : FloodState) (q : List ℕ) → (after_heard f q).initiated ≡ f.initiated
-begun_here f q = cond_both (fits f q) (record f { waiting = nat_lt (counter_of q) 11; first = first_of f.first q }) f
-    (λ (g : FloodState). g.initiated ≡ f.initiated) (λ is. refl) (λ is. refl)
-
 pub heard_first : (P : List ℕ → Type 0) (f : FloodState) (q : List ℕ) → P q → IfSome f.first P → IfSome (after_heard f q).first P
 heard_first P f q new old =
     cond_both (fits f q) (record f { waiting = nat_lt (counter_of q) 11; first = first_of f.first q }) f (λ (g : FloodState). IfSome g.first P)

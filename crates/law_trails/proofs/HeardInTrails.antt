@@ -6,7 +6,7 @@ use Rattle.air_log.specs.declared.entry.Entry.{Entry}
 use Rattle.air_log.specs.Entries.{hearings_of}
 use Rattle.air_log.specs.Lawful.{comes_before, put_in, by_end, reception_of, hearings_by, heard_by}
 use Rattle.air_log.specs.Trails.{Reception}
-use Rattle.air_log.proofs.Elements.{contains_head, contains_tail, contains_cases, map_contains, map_from, in_filtered, filtered}
+use Rattle.lwb_base.proofs.Elements.{contains_head, contains_tail, contains_cases, map_contains, map_from, in_filtered, filtered}
 use Rattle.law_trails.specs.TrailLinks.{IsReceptionOf}
 
 -- the same elements

@@ -15,8 +15,9 @@ use Rattle.air_log.specs.ScriptedDevices.{after_act, after_line, dropped, switch
 use Rattle.air_log.specs.Trails.{Reception, hears, ended, ended_by, is_due, one_alarm, begun, begun_by, starts}
 use Rattle.air_log.proofs.KeptByEvents.{IsKept, in_event, in_end}
 use Rattle.air_log.proofs.NextDue.{Ahead, Sends, kept_ahead, kept_sends, end_over, alarm_over, begin_over}
+use Rattle.air_log.proofs.EventPower.{stepped_power}
 use Rattle.law_trails.specs.Phases.{Lines, Hearings, End, Alarms, Start, Over, SilentBy, IsKnown}
-use Rattle.law_trails.proofs.RowsOfDevices.{stepped_power, switched_on_is}
+use Rattle.law_trails.proofs.RowsOfDevices.{switched_on_is}
 
 module _ (clock : ℕ → ℕ) (s : Setup) (t : ℕ) where
   -- what each event keeps, a script line keeps

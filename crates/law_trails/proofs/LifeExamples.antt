@@ -1,7 +1,7 @@
 -- A host that is on again may close a round that it did not open: so its silence lasts until the next opening or closing.
 use Rattle.std.proofs.Common.{◌≡◌, List, [], ◌∷◌, false, refl, arith}
 use Rattle.bus_rules.specs.Cores.{no_plan}
-use Rattle.air_log.proofs.Elements.{not_in_none}
+use Rattle.lwb_base.proofs.Elements.{not_in_none}
 use Rattle.law_trails.specs.Lives.{Step, ComesOn, GoesOff, Closes, Ends, newborn, after_steps, AllMayCome}
 
 abbrev steps : List Step

@@ -7,7 +7,7 @@ use Rattle.lwb_base.specs.Messages.{Plan}
 use Rattle.bus_rules.specs.declared.tune.Tune.{Tune}
 use Rattle.bus_rules.specs.declared.tune.Tune.TheVariants.{Scan, Hold, Host}
 use Rattle.bus_rules.specs.Tuning.{hosts, next_tune, scan_after, is_rank}
-use Rattle.air_log.proofs.Elements.{not_in_none}
+use Rattle.lwb_base.proofs.Elements.{not_in_none}
 use Rattle.law_trails.specs.Lives.{Life, OpeningMade, ClosingMade, Step, ComesOn, GoesOff, Opens, Closes, Holds, Ends, MayCome, IsPast, after_step, after_steps}
 use Rattle.law_trails.specs.Lives.{AllMayCome, plan_after, newborn, Quiet, ByTune, ByPower, HostsQuietly, HostsAreQuiet}
 

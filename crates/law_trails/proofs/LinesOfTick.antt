@@ -14,7 +14,7 @@ use Rattle.node_core.specs.Nodes.{with_streams}
 use Rattle.air_log.specs.Devices.{Device, Power, PowerOff, PowerOn}
 use Rattle.air_log.specs.ScriptedDevices.{after_act, after_line, dropped, switched_on, with_new_core}
 use Rattle.air_log.specs.Trails.{setup_of, frame_start, lines_at, scripted}
-use Rattle.air_log.proofs.Elements.{not_in_none, contains_head, contains_tail, contains_cases, in_filtered, filtered}
+use Rattle.lwb_base.proofs.Elements.{not_in_none, contains_head, contains_tail, contains_cases, in_filtered, filtered}
 use Rattle.law_trails.specs.Phases.{IsSilent, SilentBy}
 use Rattle.law_trails.specs.TrailLinks.{IsTold, HasBooted, WentOff, WentOffBy, StaysOn, boots_of}
 use Rattle.law_trails.proofs.RowsOfDevices.{switched_on_is}

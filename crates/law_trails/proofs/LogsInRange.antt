@@ -19,7 +19,7 @@ use Rattle.air_log.specs.Lawful.{FollowsTrails, comes_before, put_in, by_end, re
 use Rattle.air_log.specs.Devices.{Device, Listening, Ordered}
 use Rattle.air_log.specs.Trails.{Reception, setup_of, run_end, before_start, begun_by, starts, sending_from, before_tick}
 use Rattle.air_log.specs.TrailEntries.{IsSentBefore}
-use Rattle.air_log.proofs.Elements.{not_in_none, contains_head, contains_tail, contains_cases}
+use Rattle.lwb_base.proofs.Elements.{not_in_none, contains_head, contains_tail, contains_cases}
 use Rattle.air_log.proofs.KeptByEvents.{in_tick}
 use Rattle.air_log.proofs.SendingsKept.{profile_lasts}
 use Rattle.air_log.proofs.TrailSendings.{kept_sent, each_sent}

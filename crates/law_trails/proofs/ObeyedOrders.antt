@@ -9,9 +9,9 @@ use Rattle.radio_model.specs.OnAir.{Tuning}
 use Rattle.air_log.specs.Devices.{Device, Listening, Ordered, obeyed, silenced, tunes, listens_to}
 use Rattle.law_trails.specs.Obeying.{channel_of, channel_by, alarm_by, ordered_by, HasObeyed}
 
-listened : (rank : ℕ) (l : Option Listening) → listens_to rank l ≡ true → channel_of l ≡ Some rank
-listened rank None on = absurd (true≢false (sym on))
-listened rank (Some l) on = ap (λ (r : ℕ). Some r) (eqb-true l.rank rank on)
+pub channel_is : (rank : ℕ) (l : Option Listening) → listens_to rank l ≡ true → channel_of l ≡ Some rank
+channel_is rank None on = absurd (true≢false (sym on))
+channel_is rank (Some l) on = ap (λ (r : ℕ). Some r) (eqb-true l.rank rank on)
 
 module _ (clock : ℕ → ℕ) (v t : ℕ) where
   -- a device that differs in what orders change
@@ -49,7 +49,7 @@ module _ (clock : ℕ → ℕ) (v t : ℕ) where
   one d (Listen rank) =
       let x = silenced v t d in
       cond_both (listens_to rank d.listening) d (tunes rank t x x.made.tuned) (Tuned rank d)
-      (λ on. rebuilt (Listen rank ∷ []) d d.listening d.alarm d.ordered d.made.tuned (listened rank d.listening on) refl refl)
+      (λ on. rebuilt (Listen rank ∷ []) d d.listening d.alarm d.ordered d.made.tuned (channel_is rank d.listening on) refl refl)
       (λ other. retuned rank d x.made.tuned)
   one d Off = rebuilt (Off ∷ []) d None d.alarm d.ordered (silenced v t d).made.tuned refl refl refl
   one d (SendAt local packet) =

@@ -5,7 +5,7 @@ use Rattle.air_log.specs.Lawful.{FollowsHearing}
 use Rattle.law_trails.specs.OnePacket.{one_packet, one_packet_log, sent_in_rounds, heard_in_rounds, tuned_by_host, tuned_by_member}
 use Rattle.law_trails.proofs.TurnedLogs.{IsTurned, hears_all, all_differ}
 
-abbrev tuned_in_rounds : List Tuning
+abbrev pub tuned_in_rounds : List Tuning
 tuned_in_rounds = tuned_by_host ++ tuned_by_member
 
 turned : IsTurned one_packet sent_in_rounds heard_in_rounds tuned_in_rounds

@@ -1,30 +1,17 @@
 -- The log of the worked rounds of one packet is lawful.
-use Rattle.std.proofs.Common.{◌≡◌, ◌≢◌, ℕ, List, [], ◌++◌, Bool, true, false, ◌==◌, ◌||◌, IsPermutation, refl, sym, ◌∙◌, subst, inl, inr, eqb-true}
+use Rattle.std.proofs.Common.{◌≡◌, ◌≢◌, ℕ, [], false, ◌==◌, IsPermutation, refl, sym, subst, inl, inr, eqb-true}
 use Rattle.std.proofs.lemmas.Bool.{cases_eq, ne_eqb}
-use Rattle.std.proofs.lemmas.List.Sorted.{IsPermutation-refl}
+use Rattle.lwb_base.proofs.Orders.{same_list}
+use Rattle.lwb_base.proofs.Elements.{all_passes}
 use Rattle.radio_model.specs.declared.sending.Sending.{Sending}
 use Rattle.radio_model.specs.OnAir.{Tuning}
 use Rattle.scenario_text.specs.FloodParts.{knows}
 use Rattle.air_log.specs.Lawful.{Lawful, trail_sent, trail_tuned, sent_by, tuned_by}
-use Rattle.air_log.proofs.ComputedTrails.{all_passes}
 use Rattle.air_log.proofs.NextDue.{none_passes}
+use Rattle.air_log.proofs.FirstRoundLog.{from_either, of_either}
 use Rattle.law_trails.specs.OnePacket.{one_packet, drifting, one_packet_log, sent_in_rounds, sent_by_host, sent_by_member, tuned_by_host, tuned_by_member}
 use Rattle.law_trails.proofs.OnePacketTrails.{host_sent, host_tuned, member_sent, member_tuned}
-use Rattle.law_trails.proofs.OnePacketHearings.{follows_hearing}
-
--- no other id has done anything
-abbrev tuned_in_rounds : List Tuning
-tuned_in_rounds = tuned_by_host ++ tuned_by_member
-
-abbrev of_either : ℕ → Bool
-of_either v = (v == 1) || (v == 2)
-
-from_either : (u v : ℕ) → of_either u ≡ true → v ≢ 1 → v ≢ 2 → u ≡ v → ⊥
-from_either u v is one two same = by_test (u == 1) refl is
-  where
-    by_test : (b : Bool) → (u == 1) ≡ b → (b || (u == 2)) ≡ true → ⊥
-    by_test true at is = one (sym same ∙ eqb-true u 1 at)
-    by_test false at is = two (sym same ∙ eqb-true u 2 is)
+use Rattle.law_trails.proofs.OnePacketHearings.{follows_hearing, tuned_in_rounds}
 
 unknown : (v : ℕ) → v ≢ 1 → v ≢ 2 → knows one_packet.nodes v ≡ false
 unknown v one two = rw (ne_eqb 1 v (λ is. one (sym is))) rw (ne_eqb 2 v (λ is. two (sym is))) refl
@@ -48,9 +35,6 @@ SentAs v = IsPermutation (trail_sent one_packet drifting one_packet_log v) (sent
 
 abbrev TunedAs : ℕ → Type 0
 TunedAs v = IsPermutation (trail_tuned one_packet drifting one_packet_log v) (tuned_by one_packet_log v)
-
-same_list : {X : Type 0} (xs ys zs : List X) → xs ≡ zs → ys ≡ zs → IsPermutation xs ys
-same_list xs ys zs a b = rw (a, b) (IsPermutation-refl zs)
 
 -- what holds of both nodes and of all others
 by_node : (P : ℕ → Type 0) → P 1 → P 2 → ((v : ℕ) → v ≢ 1 → v ≢ 2 → P v) → (v : ℕ) → P v

@@ -8,8 +8,7 @@ use Rattle.scenario_text.specs.declared.script.ScriptLine.{ScriptLine}
 use Rattle.radio_model.specs.declared.sending.Sending.{Sending}
 use Rattle.radio_model.specs.Hearing.{counter_of}
 use Rattle.air_log.specs.Safe.{Safe, HasWord, StaysOn}
-use Rattle.air_log.proofs.Elements.{not_in_none, contains_cases, in_filtered}
-use Rattle.air_log.proofs.ComputedTrails.{all_passes}
+use Rattle.lwb_base.proofs.Elements.{not_in_none, contains_cases, in_filtered, all_passes}
 use Rattle.law_trails.specs.OnePacket.{one_packet, drifting, one_packet_log, sent_in_rounds, opening_0, request_0, reopening_0, data_0}
 use Rattle.law_trails.specs.OnePacketNodes.{first_plan, granted_plan}
 use Rattle.law_trails.proofs.SafeTests.{in_frame_by, apart_by, alike_by, one_by}

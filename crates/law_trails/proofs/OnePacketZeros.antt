@@ -5,14 +5,12 @@ use Rattle.std.proofs.lemmas.Bool.{cond_both}
 use Rattle.tick_clock.specs.Clocks.{Near, IsClock, due}
 use Rattle.tick_clock.specs.Rates.{segment_reading}
 use Rattle.tick_clock.specs.RatesLaw.{rates_law}
+use Rattle.tick_clock.proofs.Readings.{true_clock}
 use Rattle.lwb_base.specs.Profile.{one}
 use Rattle.time_reference.specs.Budgets.{budget_one}
 use Rattle.time_reference.specs.Zeros.{Ref, nominal, started}
 use Rattle.law_trails.specs.OnePacket.{drifting}
 use Rattle.law_trails.proofs.DriftingClocks.{fast_due, fast_dues, slow, slow_due, slow_dues, tame_fast, tame_slow, host_clock, member_clock}
-
-true_clock : IsClock (λ t. t)
-true_clock = record { begins = omega arith; fast = λ t d within. omega arith; slow = λ t d within. omega arith }
 
 abbrev slow_or_true : ℕ → ℕ → ℕ
 slow_or_true v = if 2 == v then segment_reading 0 ((0, negsuc 19) ∷ []) else λ t. t

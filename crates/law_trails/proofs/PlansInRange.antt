@@ -1,5 +1,5 @@
 -- The plan that a host makes can be written, and what it leaves is in its ranges.
-use Rattle.std.proofs.Common.{◌≡◌, ℕ, zero, suc, ◌+◌, ◌≤◌, List, [], ◌∷◌, ◌++◌, length, fold, replicate, true, ◌==◌, nat_lt, nat_le, if◌then◌else◌, Some, None}
+use Rattle.std.proofs.Common.{◌≡◌, ℕ, zero, suc, ◌+◌, ◌≤◌, List, [], ◌∷◌, ◌++◌, length, fold, replicate, true, ◌==◌, nat_le, if◌then◌else◌, Some, None}
 use Rattle.std.proofs.Common.{Option, refl, arith}
 use Rattle.std.specs.Prelude.{All}
 use Rattle.std.specs.List.{list_all, sum_by}
@@ -7,7 +7,7 @@ use Rattle.std.specs.Option.{IfSome}
 use Rattle.std.proofs.lemmas.Bool.{cond_both, and_from, and_parts, le-leb}
 use Rattle.std.proofs.lemmas.List.Elements.{All-head, All-tail}
 use Rattle.lwb_base.specs.Profile.{Numbers, IsProfile}
-use Rattle.lwb_base.specs.Messages.{Ask, code, code_of}
+use Rattle.lwb_base.specs.Messages.{Ask, code}
 use Rattle.lwb_packets.specs.Ranges.{between}
 use Rattle.schedule_codec.specs.AckLists.{ask_in_range}
 use Rattle.schedule_codec.specs.OwnerLists.{ascend}
@@ -17,7 +17,8 @@ use Rattle.bus_rules.specs.Streams.{Streams, with_agreed, is_due, due_of, stream
 use Rattle.bus_rules.specs.Tables.{Entry, Table, Above, is_full, interval_of}
 use Rattle.bus_rules.specs.Granting.{Grants, grant, owners_by, granted_by, grants_for, share_in, given, last_code, gap_of, owed_to, plan_round}
 use Rattle.bus_rules.specs.HostPlans.{Answered, Served, with_ack, answer, answered, put_if, serve, served, host_plan}
-use Rattle.stream_table.proofs.Order.{Keeps}
+use Rattle.bus_rules.proofs.Grants.{with_few}
+use Rattle.stream_table.proofs.Changes.{grant_keeps}
 use Rattle.host_scheduler.proofs.Shares.{Rises, owners_rise}
 use Rattle.lwb_member.specs.Members.{IsBoot}
 use Rattle.lwb_member.specs.Planning.{AreAnswers}
@@ -29,16 +30,6 @@ use Rattle.law_trails.specs.TableRanges.{IsEntry, IsTable}
 use Rattle.law_trails.specs.PlanRanges.{IsHostPlan}
 use Rattle.law_trails.proofs.StreamsInRange.{stream_is, agreed_are}
 use Rattle.law_trails.proofs.TablesInRange.{mapped_is, request_is, interval_is}
-
--- kept requests are answered
-with_ack_few : (a : Ask) (bs : List Ask) → length (with_ack a bs) ≤ length bs + 1
-with_ack_few a [] = omega arith
-with_ack_few a (b ∷ bs) =
-    cond_both (code_of a == code_of b) (a ∷ bs) (if nat_lt (code_of a) (code_of b) then a ∷ b ∷ bs else b ∷ with_ack a bs)
-    (λ (l : List Ask). length l ≤ length (b ∷ bs) + 1)
-    (λ same. omega arith)
-    (λ other. cond_both (nat_lt (code_of a) (code_of b)) (a ∷ b ∷ bs) (b ∷ with_ack a bs) (λ (l : List Ask). length l ≤ length (b ∷ bs) + 1)
-    (λ less. omega arith) (λ more. omega (arith, with_ack_few a bs)))
 
 record AreAnswered (x : Answered) (most : ℕ) : Type 0 where
   table : IsTable x.table
@@ -56,7 +47,7 @@ answers_are frame (a ∷ kept) x most ranges are =
     let few : length acks ≤ most + 1 =
     cond_both (is_full a x.table) x.acks (with_ack a x.acks) (λ (l : List Ask). length l ≤ most + 1)
     (λ full. omega (arith, are.few))
-    (λ room. omega (arith, are.few, with_ack_few a x.acks)) in
+    (λ room. omega (arith, are.few, with_few a x.acks)) in
     let rest = answers_are frame kept (answer frame x a) (most + 1) both.1 (record {
       table = request_is frame x.table a both.0 are.table;
       acks = next;
@@ -99,9 +90,6 @@ module _ (p : Numbers) (node boot frame : ℕ) (low : 1 ≤ node) (high : node �
       serve_is _ 3 (omega arith) two
 
 -- slots are granted
-grant_keeps : (share : Entry → ℕ) → Keeps (grant share)
-grant_keeps share = record { code = λ e. refl }
-
 each_between : (n c : ℕ) (rest : List ℕ) → between 4 803 c ≡ true → list_all (between 4 803) rest ≡ true
     → list_all (between 4 803) (replicate n c ++ rest) ≡ true
 each_between zero c rest is all = all

@@ -2,7 +2,7 @@
 use Rattle.std.proofs.Common.{◌≡◌, ℕ, ◌+◌, ◌<◌, ◌≤◌, List, [], ◌∷◌, ◌++◌, true, Contains, sym, arith, true≢false}
 use Rattle.bus_rules.specs.declared.tune.Tune.TheVariants.{Host}
 use Rattle.bus_rules.specs.Tuning.{hosts}
-use Rattle.air_log.proofs.Elements.{contains_head, contains_tail}
+use Rattle.lwb_base.proofs.Elements.{contains_head, contains_tail}
 use Rattle.law_trails.specs.Lives.{Life, ClosingMade, Step, ComesOn, GoesOff, Opens, Closes, Holds, Ends, MayCome, after_step, after_steps, AllMayCome, newborn}
 use Rattle.law_trails.specs.Lives.{Quiet, SaysNothing, QuietPeriod}
 use Rattle.law_trails.proofs.LifeSteps.{as_host, hosts_are_quiet}

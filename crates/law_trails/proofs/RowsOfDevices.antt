@@ -8,17 +8,12 @@ use Rattle.radio_model.specs.declared.sending.Sending.{Sending}
 use Rattle.bus_rules.specs.Cores.{Setup}
 use Rattle.node_core.specs.Nodes.{Node, frame_alarm, rebooted}
 use Rattle.node_core.specs.Rows.{Stepped, boots, row}
-use Rattle.node_core.specs.Rows.{node_after, orders_by}
-use Rattle.air_log.specs.Devices.{Device, PowerOn, moved, stepped}
+use Rattle.node_core.specs.Rows.{orders_by}
+use Rattle.air_log.specs.Devices.{Device, PowerOn, moved}
 use Rattle.air_log.specs.ScriptedDevices.{switched_on}
 use Rattle.law_trails.specs.Obeying.{channel_of, HasObeyed}
 use Rattle.law_trails.specs.Walks.{after_row}
 use Rattle.law_trails.proofs.ObeyedOrders.{has_obeyed}
-
--- after an event a node is on, as the row leaves it, if one fits
-pub stepped_power : (clock : ℕ → ℕ) (s : Setup) (t : ℕ) (e : Event) (x : Option Sending) (d : Device) (n : Node)
-    → (stepped clock s t e x d n).power ≡ PowerOn (node_after n (row s n (clock t) e))
-stepped_power clock s t e x d n = let r = row s n (clock t) e in (has_obeyed clock s.id t (orders_by r) (moved t e x d n r)).power
 
 pub row_obeyed : (clock : ℕ → ℕ) (s : Setup) (t : ℕ) (e : Event) (x : Option Sending) (d : Device) (n : Node) (r : Stepped)
     → HasObeyed clock t r.orders (moved t e x d n (Some r)) (after_row clock s t e x d n r)

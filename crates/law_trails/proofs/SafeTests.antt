@@ -6,6 +6,8 @@ use Rattle.std.specs.Str.{bytes_eq}
 use Rattle.std.proofs.lemmas.Bool.{and_parts, and_from, leb-true, eq-eqb, or_cases}
 use Rattle.std.proofs.lemmas.List.Elements.{All-nil, All-cons}
 use Rattle.std.proofs.lemmas.List.Kept.{AllPairs-cons}
+use Rattle.lwb_base.proofs.Elements.{all_passes}
+use Rattle.lwb_base.proofs.Truths.{implied}
 use Rattle.lwb_packets.specs.Body.{body}
 use Rattle.lwb_packets.specs.Requests.{is_request}
 use Rattle.schedule_codec.specs.Reading.{is_schedule}
@@ -17,11 +19,6 @@ use Rattle.air_log.specs.declared.entry.Entry.{Entry}
 use Rattle.air_log.specs.Entries.{sendings_of}
 use Rattle.air_log.specs.Trails.{frame_start}
 use Rattle.air_log.specs.Safe.{WithinOneFrame, NoOverlap, SameButForCounter, OneInitiator, Silence, SameSlot, SameStep, Alike, Begins}
-use Rattle.air_log.proofs.ComputedTrails.{all_passes}
-
-pub implied : (a b : Bool) → (not a || b) ≡ true → a ≡ true → b ≡ true
-implied true b is at = is
-implied false b is at = absurd (true≢false (sym at))
 
 pub no_clash : (a b c : Bool) → not (a && (b && c)) ≡ true → a ≡ true → b ≡ true → c ≡ true → ⊥
 no_clash true true true is x y z = true≢false (sym is)

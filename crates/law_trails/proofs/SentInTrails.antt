@@ -16,7 +16,7 @@ use Rattle.air_log.specs.TrailEntries.{IsSentBefore}
 use Rattle.air_log.specs.Trails.{Reception, setup_of, run_end, begun_by, starts, sending_from, before_start, before_tick}
 use Rattle.air_log.proofs.KeptByEvents.{in_tick}
 use Rattle.air_log.proofs.TrailSendings.{kept_sent, at_tick}
-use Rattle.air_log.proofs.Elements.{not_in_none, in_filtered, filtered}
+use Rattle.lwb_base.proofs.Elements.{not_in_none, in_filtered, filtered}
 use Rattle.law_trails.specs.TrailLinks.{IsSentBelow, device_in}
 
 -- as before, or one more that starts at the tick

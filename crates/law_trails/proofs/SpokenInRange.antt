@@ -13,7 +13,7 @@ use Rattle.lwb_packets.specs.declared.kind.Kind.TheVariants as Kinds
 use Rattle.schedule_codec.specs.Packing.{fit}
 use Rattle.schedule_codec.specs.Spelling.{spelling, in_range}
 use Rattle.schedule_codec.specs.Reading.{schedule_of, is_schedule}
-use Rattle.schedule_codec.proofs.Readings.{Parts, parts_of, range_from, spelled_by, bytes_same, length-spelling, schedule_spelled}
+use Rattle.schedule_codec.proofs.Readings.{range_from, spelled_by, bytes_same, length-spelling, schedule_spelled}
 use Rattle.glossy_relay.specs.FloodState.{FloodState}
 use Rattle.glossy_relay.specs.Relaying.{is_packet, is_spelling, slot_of, counter_of, fits, reply_to}
 use Rattle.glossy_relay.specs.declared.flood.Reply.TheVariants.{Relay}
@@ -25,6 +25,7 @@ use Rattle.lwb_member.proofs.Spoken.{data_spoken, request_spoken, schedule_spoke
 use Rattle.lwb_member.proofs.Lengths.{said_long}
 use Rattle.law_trails.specs.PlanRanges.{IsWholePlan}
 use Rattle.law_trails.specs.SpokenRanges.{IsSpoken}
+use Rattle.law_trails.proofs.SaidPackets.{parts_in}
 
 -- how long a packet is, and its counter
 record IsSized (q : List ℕ) : Type 0 where
@@ -101,12 +102,9 @@ schedule_long x =
     let owners = some_owners x.plan.owners in
     cond_both (x.plan.contend == 0) 9 (6 + 4 * length x.plan.acks) (λ (n : ℕ). 7 ≤ n + owners_length x.plan.owners) (λ one. omega arith) (λ two. omega arith)
 
-pub schedule_parts : (q : List ℕ) (x : Schedule) → schedule_of q ≡ Some x → Parts x (slot_of q) (counter_of q)
-schedule_parts q x is = parts_of x (slot_of q) (counter_of q) (and_parts _ _ (spelled_by q x is)).0
-
 schedule_may : (q : List ℕ) (x : Schedule) → schedule_of q ≡ Some x → IsSized q × MaySay (slot_of q) (ScheduleOf x)
 schedule_may q x is =
-    let parts = schedule_parts q x is in
+    let parts = parts_in q x is in
     let same : spelling x (slot_of q) (counter_of q) ≡ q =
     bytes_same (spelling x (slot_of q) (counter_of q)) q
     (and_parts (in_range x (slot_of q) (counter_of q)) (bytes_eq (spelling x (slot_of q) (counter_of q)) q) (spelled_by q x is)).1 in

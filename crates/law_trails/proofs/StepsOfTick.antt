@@ -30,7 +30,7 @@ use Rattle.air_log.specs.AlarmRuns.{IsAlarmRun, after_alarms}
 use Rattle.air_log.specs.Trails.{Reception, setup_of, run_end, lines_at, ending_at, hears, ended, ended_by, is_due, begun, begun_by, starts, before_tick}
 use Rattle.air_log.proofs.AlarmRuns.{alarms_are_run}
 use Rattle.air_log.proofs.NextDue.{some_byte}
-use Rattle.air_log.proofs.Elements.{contains_head, filtered}
+use Rattle.lwb_base.proofs.Elements.{contains_head, filtered}
 use Rattle.law_trails.specs.Phases.{Phase, Lines, Hearings, End, Alarms, Start, Over, device_at, IsKnown, SilentBy, IsNextLine, IsNextHearing, IsNextAlarm}
 use Rattle.law_trails.specs.Walks.{AwaitsFrame, NoWindow, HasNoWindow, IsLost, Now, Keeps}
 use Rattle.law_trails.proofs.KnownDevices.{line_known, told_known, hearing_known, taken_known, end_known, alarm_known, over_known, begun_known, passed_known}

@@ -1,5 +1,5 @@
 -- Whatever a host does to its table, it stays in its ranges.
-use Rattle.std.proofs.Common.{◌≡◌, ◌≢◌, ◌⊎◌, inl, inr, ℕ, ◌+◌, ◌≤◌, List, [], ◌∷◌, length, filter, filter_map, map, Bool, true, false, not, ◌&&◌, ◌==◌, nat_lt}
+use Rattle.std.proofs.Common.{◌≡◌, ◌≢◌, ◌⊎◌, inl, inr, ℕ, ◌+◌, ◌≤◌, List, [], ◌∷◌, length, filter_map, map, Bool, true, false, not, ◌&&◌, ◌==◌, nat_lt}
 use Rattle.std.proofs.Common.{is_none, cond, if◌then◌else◌, Some, None, Option, refl, sym, subst, arith}
 use Rattle.std.specs.Prelude.{All}
 use Rattle.std.specs.List.{cons_option}
@@ -9,11 +9,13 @@ use Rattle.std.proofs.lemmas.List.{length-map}
 use Rattle.std.proofs.lemmas.List.Elements.{All-nil, All-cons, All-head, All-tail, All-map, All-weaker, All-filter}
 use Rattle.lwb_packets.specs.Ranges.{between}
 use Rattle.lwb_base.specs.Messages.{Ask, code_of}
+use Rattle.lwb_base.proofs.Lists.{length_cond, length_filtered, length_sifted}
 use Rattle.schedule_codec.specs.AckLists.{ask_in_range}
 use Rattle.bus_rules.specs.Tables.{Entry, Table, AreEntries, Above, Ascends, no_table, has_code, entry_of, without, with_entry, is_full, new_entry}
 use Rattle.bus_rules.specs.Tables.{after_request, interval_in, interval_of, seen, missed}
 use Rattle.bus_rules.specs.Slots.{owner_heard}
-use Rattle.stream_table.proofs.Order.{Keeps, Sifts, none_above, ascends_map, ascends_filter_map, ascends_filter, ascends_with}
+use Rattle.stream_table.proofs.Order.{Keeps, none_above, ascends_map, ascends_filter_map, ascends_filter, ascends_with}
+use Rattle.stream_table.proofs.Changes.{seen_keeps, missed_sifts}
 use Rattle.law_trails.specs.TableRanges.{IsEntry, IsTable}
 
 pub no_table_is : IsTable no_table
@@ -40,23 +42,6 @@ ask_is a is =
       interval = leb-true a.interval 120 intervals.1;
     }
 
--- entries that go, stay or change
-length_kept : (b : Bool) (x : Entry) (xs ys : List Entry) → length xs ≤ length ys → length (cond b (x ∷ xs) xs) ≤ length ys + 1
-length_kept true x xs ys le = omega arith
-length_kept false x xs ys le = omega arith
-
-filtered_few : (f : Entry → Bool) (es : List Entry) → length (filter f es) ≤ length es
-filtered_few f [] = omega arith
-filtered_few f (e ∷ es) = omega (arith, length_kept (f e) e (filter f es) es (filtered_few f es))
-
-length_option : (o : Option Entry) (xs ys : List Entry) → length xs ≤ length ys → length (cons_option o xs) ≤ length ys + 1
-length_option None xs ys le = omega arith
-length_option (Some x) xs ys le = omega arith
-
-sifted_few : (g : Entry → Option Entry) (es : List Entry) → length (filter_map g es) ≤ length es
-sifted_few g [] = omega arith
-sifted_few g (e ∷ es) = omega (arith, length_option (g e) (filter_map g es) es (sifted_few g es))
-
 with_option : (o : Option Entry) (es : List Entry) → IfSome o IsEntry → All IsEntry es → All IsEntry (cons_option o es)
 with_option None es is all = all
 with_option (Some e) es is all = All-cons IsEntry e es is all
@@ -74,17 +59,11 @@ mapped_is f t place keeps each is = record {
 }
 
 -- the owner of a data slot is heard, or not
-seen_keeps : (c : ℕ) → Keeps (seen c)
-seen_keeps c = record { code = λ e. refl }
-
 missed_cases : (P : Option Entry → Type 0) (c : ℕ) (e : Entry) → P (Some (record e { unheard = e.unheard + 1 })) → P None → P (Some e) → P (missed c e)
 missed_cases P c e more gone same =
     cond_both (has_code c e) (if nat_lt (e.unheard + 1) 16 then Some (record e { unheard = e.unheard + 1 }) else None) (Some e) P
     (λ mine. cond_both (nat_lt (e.unheard + 1) 16) (Some (record e { unheard = e.unheard + 1 })) None P (λ less. more) (λ goes. gone))
     (λ other. same)
-
-missed_sifts : (c : ℕ) → Sifts (missed c)
-missed_sifts c = record { code = λ e. missed_cases (λ o. IfSome o (λ x. x.code ≡ e.code)) c e refl tt refl }
 
 missed_is : (c : ℕ) (e : Entry) → IsEntry e → IfSome (missed c e) IsEntry
 missed_is c e is = missed_cases (λ o. IfSome o IsEntry) c e (record { code = is.code; boot = is.boot; interval = is.interval }) tt is
@@ -93,7 +72,7 @@ pub owner_is : (owner : ℕ) (heard : Bool) (t : Table) → IsTable t → IsTabl
 owner_is owner true t is = mapped_is (seen owner) t t.place (seen_keeps owner) (λ e x. record { code = x.code; boot = x.boot; interval = x.interval }) is
 owner_is owner false t is = record {
   entries = record {
-    few = omega (arith, sifted_few (missed owner) t.entries, is.entries.few);
+    few = omega (arith, length_sifted (missed owner) t.entries, is.entries.few);
     ascends = ascends_filter_map (missed owner) t.entries (missed_sifts owner) is.entries.ascends;
   };
   each = each_sifted (missed owner) t.entries (missed_is owner) is.each;
@@ -167,7 +146,7 @@ request_is frame t a range is =
     (λ room. cond_both (a.interval == 0) gone (with_entry new t.entries) Kept
     (λ ends. record {
       entries = record {
-        few = omega (arith, filtered_few (λ e. not (has_code (code_of a) e)) t.entries, is.entries.few);
+        few = omega (arith, length_filtered (λ e. not (has_code (code_of a) e)) t.entries, is.entries.few);
         ascends = ascends_filter (λ e. not (has_code (code_of a) e)) t.entries is.entries.ascends;
       };
       each = All-filter (λ e. not (has_code (code_of a) e)) IsEntry t.entries is.each;

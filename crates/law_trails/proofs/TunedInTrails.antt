@@ -18,7 +18,7 @@ use Rattle.air_log.specs.Trails.{Reception, setup_of, run_end, before_start, bef
 use Rattle.air_log.proofs.KeptByEvents.{in_tick}
 use Rattle.air_log.proofs.TrailTunings.{each_tuned}
 use Rattle.air_log.proofs.TunedBefore.{TunedAt, Stays, IsTunedAs, stays_same, stays_on, silenced_stays, kept, As, begun_stays, tick_by}
-use Rattle.air_log.proofs.Elements.{in_filtered}
+use Rattle.lwb_base.proofs.Elements.{in_filtered}
 use Rattle.law_trails.specs.TrailLinks.{ListensSince, device_in}
 use Rattle.law_trails.proofs.SentInTrails.{if_holds}
 

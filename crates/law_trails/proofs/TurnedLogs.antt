@@ -13,18 +13,7 @@ use Rattle.radio_model.specs.OnAir.{Hearing, Tuning}
 use Rattle.radio_model.specs.Hearing.{Scene, Hears, Meets, IsTuned, TunedThrough, Arrives, Before, frame_of, slot_of, counter_of}
 use Rattle.scenario_text.specs.ScenarioParts.{ScenarioParts}
 use Rattle.air_log.specs.Trails.{run_end}
-use Rattle.air_log.proofs.Elements.{not_in_none, contains_cases, contains_head, contains_tail}
-use Rattle.air_log.proofs.ComputedTrails.{all_passes}
-
--- some element passes the test
-witness : {X : Type 0} (test : X → Bool) (xs : List X) → list_any test xs ≡ true → (x : X) × Contains xs x × (test x ≡ true)
-witness test [] is = absurd (true≢false (sym is))
-witness {X} test (x ∷ xs) is = by_test (test x) refl is (witness test xs)
-  where
-    by_test : (b : Bool) → test x ≡ b → (b || list_any test xs) ≡ true → (list_any test xs ≡ true → (y : X) × Contains xs y × (test y ≡ true))
-        → (y : X) × Contains (x ∷ xs) y × (test y ≡ true)
-    by_test true at is rest = (x, contains_head x xs, at)
-    by_test false at is rest = let y = rest is in (y.0, contains_tail x xs y.0 y.1, y.2)
+use Rattle.lwb_base.proofs.Elements.{not_in_none, contains_cases, all_passes, some_of}
 
 -- the same sending
 abbrev is_same : Sending → Sending → Bool
@@ -106,8 +95,8 @@ module _ (s : ScenarioParts) (sent : List Sending) (heard : List Hearing) (tuned
       let on = and_parts _ _ there.1 in
       let other = and_parts _ _ on.1 in
       let rest = and_parts _ _ other.1 in
-      let x = witness (is_same h.sending) sent there.0 in
-      let e = witness (tunes h) tuned on.0 in
+      let x = some_of (is_same h.sending) sent there.0 in
+      let e = some_of (tunes h) tuned on.0 in
       let node = and_parts _ _ e.2 in
       let rank = and_parts _ _ node.1 in
       let span = and_parts _ _ rank.1 in
@@ -176,7 +165,7 @@ module _ (s : ScenarioParts) (sent : List Sending) (heard : List Hearing) (tuned
         let passing : arrives on.tuning.node x ≡ true = subst (λ (u : ℕ). arrives u x ≡ true) (sym on.node) hears.arrives in
         let during = and_from _ _ (le-leb on.tuning.start x.start on.since) (lt-ltb x.start on.tuning.end on.until) in
         let among = from_cover _ _ _ _ cover (λ is. self (sym (eqb-true on.tuning.node x.node is) ∙ on.node)) during passing in
-        let h = witness (of_start on.tuning.node x.start) heard among in
+        let h = some_of (of_start on.tuning.node x.start) heard among in
         let of = and_parts _ _ h.2 in
         let start : h.0.sending.start ≡ x.start = eqb-true h.0.sending.start x.start of.1 in
         let good = good_at h.0 h.1 in

@@ -17,7 +17,7 @@ use Rattle.air_log.specs.Trails.{Reception, alarms, before_tick, before_start, t
 use Rattle.air_log.specs.Lawful.{heard_by}
 use Rattle.air_log.specs.Safe.{Silence, is_hosting, by_host}
 use Rattle.air_log.specs.TwoNodeLog.{true_time}
-use Rattle.air_log.proofs.Elements.{not_in_none, contains_cases}
+use Rattle.lwb_base.proofs.Elements.{not_in_none, contains_cases}
 use Rattle.air_log.proofs.ComputedTrails.{goes_through, after_ticks, computed, true_due}
 use Rattle.law_trails.specs.BrokenClauses.{BreaksOnly, Silent}
 use Rattle.law_trails.specs.UnsafeLogs.{no_power, switched_off, data_said, later_data, asked, opened, closed, granted, unheard, not_the_owner, not_due}

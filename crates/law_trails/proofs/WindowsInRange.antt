@@ -13,6 +13,7 @@ use Rattle.schedule_codec.specs.Reading.{schedule_of}
 use Rattle.schedule_codec.proofs.Readings.{Parts, parts_of}
 use Rattle.glossy_relay.specs.FloodState.{FloodState, listening}
 use Rattle.glossy_relay.specs.Relaying.{is_spelling, slot_of, counter_of, fits, after_heard, after_sent}
+use Rattle.glossy_relay.proofs.CountedPackets.{begun_here}
 use Rattle.bus_rules.specs.declared.part.Part.{Part}
 use Rattle.bus_rules.specs.declared.part.Part.TheVariants.{Opening, Data as DataSlot, Contention, Closing}
 use Rattle.bus_rules.specs.Plans.{last_slot, opening}
@@ -31,7 +32,7 @@ use Rattle.law_trails.specs.NodeRanges.{IsCarried, IsFlood, IsOpen}
 use Rattle.law_trails.proofs.SpokenInRange.{read_may}
 use Rattle.law_trails.proofs.SaidInRange.{IsSayable, few_owners, placed, says as says_in}
 use Rattle.law_trails.proofs.CoresInRange.{MayTake}
-use Rattle.law_trails.proofs.FloodsInRange.{listening_is, initiating_is, heard_is, sent_is, begun_here, heard_first}
+use Rattle.law_trails.proofs.FloodsInRange.{listening_is, initiating_is, heard_is, sent_is, heard_first}
 
 -- a spelling of one kind says no message of another
 pub schedule_said : (part : Part) (q : List ℕ) (x : Schedule) → is_spelling (kind_for part) q ≡ true → message_of q ≡ Some (ScheduleOf x)

@@ -4,10 +4,10 @@ use Rattle.std.specs.Option.{option_and_then}
 use Rattle.std.proofs.lemmas.Bool.{cond_both}
 use Rattle.glossy_relay.specs.Relaying.{accepted_of}
 use Rattle.bus_rules.specs.declared.part.Part.{Part}
-use Rattle.bus_rules.specs.declared.part.Part.TheVariants.{Opening, Data as DataSlot, Contention, Closing}
 use Rattle.bus_rules.specs.Tuning.{rank_of}
 use Rattle.bus_rules.specs.Cores.{Core, Setup, opening_accepted, closing_accepted}
-use Rattle.bus_rules.specs.Slots.{Message, ScheduleOf, DataOf, RequestOf, closed, slot_heard}
+use Rattle.bus_rules.specs.Slots.{Message, ScheduleOf, DataOf, RequestOf, closed}
+use Rattle.bus_rules.proofs.Ranks.{heard_rank}
 use Rattle.lwb_member.specs.Said.{message_of}
 use Rattle.node_core.specs.Windows.{Window}
 use Rattle.node_core.specs.Nodes.{Node}
@@ -33,12 +33,6 @@ IsOfRank r None = Unit {0}
 IsOfRank r (Some (ScheduleOf y)) = y.plan.rank ≡ r
 IsOfRank r (Some (DataOf d)) = Unit {0}
 IsOfRank r (Some (RequestOf a)) = Unit {0}
-
-heard_rank : (f : ℕ) (part : Part) (heard : Bool) (c : Core) → rank_of (slot_heard f part heard c).tune ≡ rank_of c.tune
-heard_rank f Opening heard c = refl
-heard_rank f (DataSlot owner) heard c = refl
-heard_rank f (Contention i) heard c = refl
-heard_rank f Closing heard c = refl
 
 pub closed_rank : (s : Setup) (f : ℕ) (part : Part) (initiated : Bool) (c : Core) (m : Option Message) → IsOfRank (rank_of c.tune) m
     → rank_of (closed s f part initiated c m).core.tune ≡ rank_of c.tune

@@ -11,7 +11,7 @@ use Rattle.air_log.specs.Charges.{charge, counted, sent_packets}
 use Rattle.air_log.specs.Lawful.{trail_in}
 use Rattle.air_log.specs.Trails.{frame_start, run_end}
 use Rattle.air_log.specs.WindowLogs.{WindowLog, Closing}
-use Rattle.air_log.proofs.Elements.{contains_head, contains_tail}
+use Rattle.lwb_base.proofs.Elements.{contains_head, contains_tail}
 use Rattle.law_trails.proofs.HeedfulLogs.{lawful_is_heedful}
 use Rattle.law_safety.specs.Invariant.{IsRun}
 use Rattle.law_safety.proofs.RunFacts.{frame_is, frame_lasts}

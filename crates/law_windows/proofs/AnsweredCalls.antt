@@ -1,6 +1,5 @@
 -- What one step makes of the calls of a node's windows, over plain lists.
 use Rattle.std.proofs.Common.{◌≡◌, ℕ, ◌+◌, ◌⊎◌, inl, inr, List, [], ◌∷◌, ◌++◌, true, Some, None, Option, is_some, Contains, fold, refl, sym, ◌∙◌, ap, subst}
-use Rattle.std.proofs.Common.{true≢false}
 use Rattle.std.specs.Option.{IfSome}
 use Rattle.std.proofs.lemmas.List.{append-nil}
 use Rattle.std.proofs.lemmas.List.Elements.{Contains-append_left, Contains-append_right, Contains-push_cases}
@@ -15,7 +14,8 @@ use Rattle.radio_model.specs.declared.sending.Sending.{Sending}
 use Rattle.air_log.specs.Devices.{Ordered}
 use Rattle.air_log.specs.Trails.{setup_of}
 use Rattle.air_log.specs.WindowLogs.{WindowLog, Happening, HeardAt, SentAt, Closing}
-use Rattle.air_log.proofs.Elements.{contains_head, contains_tail, contains_cases}
+use Rattle.lwb_base.proofs.Elements.{contains_head, contains_tail, contains_cases}
+use Rattle.lwb_base.proofs.Options.{none_not_some}
 use Rattle.law_windows.specs.OpenWindows.{AreClosed}
 use Rattle.law_windows.specs.WindowFloods.{flood_at_first, after_happening}
 use Rattle.law_windows.specs.WindowTimes.{IsOfSlot}
@@ -25,9 +25,6 @@ use Rattle.law_windows.proofs.KeptCalls.{NewRelay, slot_still, sent_still, calle
 
 pub none_some : {A : Type 0} (o : Option A) (a : A) → o ≡ None → o ≡ Some a → ⊥
 none_some o a none some = cc
-
-open_closed : (c : Option Closing) → c ≡ None → is_some c ≡ true → ⊥
-open_closed c none some = true≢false (sym some ∙ ap (λ (o : Option Closing). is_some o) none)
 
 -- what an order says
 abbrev order_tick : Option Ordered → ℕ
@@ -54,7 +51,7 @@ module _ (s : ScenarioParts) (clocks : ℕ → ℕ → ℕ) (v : ℕ) where
       → Contains logs w → is_some w.closed ≡ true → Calls w tick packet → IsSent s clocks v sent w tick packet
   sent_by_closed logs o x sent has w tick packet there closed call = elim (has.answered w tick packet there call) [
     | inl is ↦ is
-    | inr still ↦ absurd (open_closed w.closed still.open_ closed)
+    | inr still ↦ absurd (none_not_some w.closed still.open_ closed)
   ]
 
   -- ---- a window more
@@ -269,7 +266,7 @@ module _ (s : ScenarioParts) (clocks : ℕ → ℕ → ℕ) (v : ℕ) where
         is_this : (w : WindowLog) → Contains (x ∷ earlier) w → w.closed ≡ None → x ≡ w
         is_this w there not_closed = elim (contains_cases x earlier w there) [
           | inl same ↦ same
-          | inr old ↦ absurd (open_closed w.closed not_closed (closed w old))
+          | inr old ↦ absurd (none_not_some w.closed not_closed (closed w old))
         ]
 
         by_order : (p : Option Ordered) → p ≡ Some (record { tick = y.start; packet = y.packet }) → IfSome p (IsOrderedIn s clocks v (x ∷ earlier))

@@ -1,9 +1,9 @@
 -- Each step keeps that a node sends what its windows call for.
-use Rattle.std.proofs.Common.{◌≡◌, ℕ, suc, ◌+◌, ◌*◌, ◌/◌, ◌≤◌, inl, inr, List, [], ◌∷◌, ◌++◌, Bool, true, false, not, ◌||◌, if◌then◌else◌, nat_lt, Some, None}
+use Rattle.std.proofs.Common.{◌≡◌, ℕ, suc, ◌+◌, ◌*◌, ◌/◌, ◌≤◌, inl, inr, List, [], ◌∷◌, ◌++◌, Bool, true, false, ◌||◌, if◌then◌else◌, nat_lt, Some, None}
 use Rattle.std.proofs.Common.{Option, is_some, fold, max, refl, sym, ◌∙◌, ap, subst, arith, true≢false, eqb-true}
 use Rattle.std.specs.Option.{IfSome}
 use Rattle.std.proofs.Math.Nat.{mul-le-mul_right}
-use Rattle.std.proofs.lemmas.Bool.{and_parts}
+use Rattle.std.proofs.lemmas.Bool.{and_parts, not-true}
 use Rattle.lwb_base.specs.Messages.{Schedule}
 use Rattle.lwb_packets.specs.declared.kind.Kind as Kind
 use Rattle.tick_clock.specs.Clocks.{IsClock, due}
@@ -60,10 +60,6 @@ fits_so : (b c : Bool) (p q : List ℕ) → (if b then (if c then Relay p else K
 fits_so true c p q is = refl
 fits_so false c p q is = absurd cc
 
-not_so : (b : Bool) → not b ≡ true → b ≡ false
-not_so true is = absurd (true≢false (sym is))
-not_so false is = refl
-
 pub relays_idle : (f : FloodState) (p q : List ℕ) → reply_to f p ≡ Relay q → f.waiting ≡ false
 relays_idle f p q is =
     let fitting = fits_so (fits f p) (nat_lt (counter_of p) 11) (relay_of p) q is in
@@ -71,7 +67,7 @@ relays_idle f p q is =
     let b = and_parts _ _ a.0 in
     let c = and_parts _ _ b.0 in
     let e = and_parts _ _ c.0 in
-    not_so f.waiting e.1
+    not-true f.waiting e.1
 
 idle_none : (o : Option Ordered) (b : Bool) → (is_some o || b) ≡ false → o ≡ None
 idle_none None b is = refl

@@ -21,7 +21,7 @@ use Rattle.air_log.specs.Devices.{Device, Power, PowerOff, PowerOn}
 use Rattle.air_log.specs.ScriptedDevices.{switched_on, with_new_core}
 use Rattle.air_log.specs.Lawful.{heard_by}
 use Rattle.air_log.specs.Trails.{setup_of, run_end, before_tick}
-use Rattle.air_log.proofs.Elements.{not_in_none, contains_head, contains_tail}
+use Rattle.lwb_base.proofs.Elements.{not_in_none, contains_head, contains_tail}
 use Rattle.law_trails.specs.Phases.{Phase, Lines, Hearings, End, Alarms, Start, Over, IsNextLine}
 use Rattle.law_trails.specs.Walks.{Now, Keeps, AwaitsFrame, after_row}
 use Rattle.law_trails.specs.TrailLinks.{device_in}
@@ -43,9 +43,7 @@ use Rattle.law_windows.proofs.OpenedByRows.{IsOfRows, rows_steps}
 use Rattle.law_windows.proofs.PlacesWithout.{awaiting, after_frame, unchanged}
 use Rattle.law_windows.proofs.RowsOfWindows.{open_first, begun_after, joined_after, gone_on_after, closed_after}
 use Rattle.law_windows.proofs.WindowWalk.{P, keeps, on_in, fine_before, waits, windows_before, at_tick}
-
-abbrev Rows : ScenarioParts → (ℕ → ℕ → ℕ) → ℕ → ℕ → ℕ → WindowLog → Type 0
-Rows s clocks v now taken w = IsOfRows s clocks v w
+use Rattle.law_windows.proofs.UnchangedNodes.{Rows}
 
 module _ (s : ScenarioParts) (clocks : ℕ → ℕ → ℕ) (air : List Entry) (v : ℕ) where
   abbrev S : Setup

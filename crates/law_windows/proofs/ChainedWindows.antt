@@ -11,7 +11,7 @@ use Rattle.node_core.specs.Nodes.{Node}
 use Rattle.node_core.specs.Rows.{stage_for}
 use Rattle.air_log.specs.WindowLogs.{WindowLog, Happening, Closing}
 use Rattle.air_log.specs.Devices.{Power, PowerOff, PowerOn}
-use Rattle.air_log.proofs.Elements.{contains_head, contains_tail, contains_cases}
+use Rattle.lwb_base.proofs.Elements.{contains_head, contains_tail, contains_cases}
 use Rattle.law_trails.specs.Walks.{AwaitsFrame}
 use Rattle.law_safety.specs.CountedFrames.{IsResting}
 use Rattle.law_windows.specs.WindowChains.{Follows, HasNext, HasLast, AwaitsAt, AwaitsBy, IsWaiting, AreChained}

@@ -1,14 +1,12 @@
 -- How many own sendings have ended by a tick, and when the last that may be ends.
-use Rattle.std.proofs.Common.{◌≡◌, ◌≢◌, ℕ, zero, suc, ◌<◌, ◌≤◌, List, [], ◌∷◌, Bool, true, false, nat_le, if◌then◌else◌, get_or, map, Contains, AllPairs, refl}
+use Rattle.std.proofs.Common.{◌≡◌, ◌≢◌, ℕ, zero, suc, ◌<◌, ◌≤◌, List, [], ◌∷◌, Bool, true, false, nat_le, get_or, map, Contains, AllPairs, refl}
 use Rattle.std.proofs.Common.{sym, ◌∙◌, ap, arith, inl, inr, true≢false}
 use Rattle.std.proofs.lemmas.Bool.{cases_lt, leb-true, le-leb}
 use Rattle.air_log.specs.NodeEvents.{Event, Heard, Ended, sending_of, own_ends}
-use Rattle.air_log.proofs.Elements.{contains_head, contains_tail, contains_cases, pairs_head, pairs_tail}
+use Rattle.lwb_base.proofs.Elements.{contains_head, contains_tail, contains_cases, pairs_head, pairs_tail}
+use Rattle.lwb_base.proofs.Truths.{one_if}
 use Rattle.law_windows.specs.WindowEvents.{happening_of}
 use Rattle.law_windows.specs.WindowRadios.{sendings_in}
-
-abbrev pub one_if : Bool → ℕ
-one_if b = if b then 1 else 0
 
 pub not_by : (t k : ℕ) → k < t → nat_le t k ≡ false
 not_by t k after = of_test (nat_le t k) refl

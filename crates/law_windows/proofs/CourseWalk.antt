@@ -9,7 +9,7 @@ use Rattle.air_log.specs.WindowLogs.{WindowLog}
 use Rattle.air_log.specs.Devices.{Device, Power, PowerOff, PowerOn, at_rest}
 use Rattle.air_log.specs.Lawful.{heard_by}
 use Rattle.air_log.specs.Trails.{run_end, before_tick, frame_start, scripted}
-use Rattle.air_log.proofs.Elements.{not_in_none}
+use Rattle.lwb_base.proofs.Elements.{not_in_none}
 use Rattle.law_trails.specs.Phases.{Phase, Lines, Hearings, End, Alarms, Start, Over, device_at, next_phase}
 use Rattle.law_trails.specs.TrailLinks.{device_in}
 use Rattle.law_trails.specs.Walks.{HasNoWindow, Keeps, Now}

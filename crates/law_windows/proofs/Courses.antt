@@ -9,7 +9,7 @@ use Rattle.air_log.specs.declared.entry.Entry.{Entry}
 use Rattle.air_log.specs.WindowLogs.{WindowLog, Closing}
 use Rattle.air_log.specs.Devices.{Power, PowerOff, PowerOn, seen}
 use Rattle.air_log.specs.Trails.{setup_of}
-use Rattle.air_log.proofs.Elements.{contains_head}
+use Rattle.lwb_base.proofs.Elements.{contains_head}
 use Rattle.law_trails.specs.Walks.{AwaitsFrame}
 use Rattle.law_trails.proofs.HeedfulLogs.{lawful_is_heedful}
 use Rattle.law_safety.specs.Invariant.{IsRun}

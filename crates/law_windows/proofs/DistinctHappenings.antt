@@ -15,7 +15,8 @@ use Rattle.air_log.specs.ScriptedDevices.{after_line}
 use Rattle.air_log.specs.Lawful.{Lawful, heard_by}
 use Rattle.air_log.specs.Trails.{Reception, setup_of, run_end, before_tick, frame_start, ending_at, hears, scripted}
 use Rattle.air_log.specs.WindowLogs.{WindowLog, Happening, HeardAt, SentAt}
-use Rattle.air_log.proofs.Elements.{Distinct, not_in_none, contains_head, contains_cases, map_from, filtered}
+use Rattle.lwb_base.proofs.Elements.{Distinct, not_in_none, contains_head, contains_cases, map_from, filtered}
+use Rattle.lwb_base.proofs.Options.{none_not_some}
 use Rattle.law_trails.specs.Phases.{End, IsNextHearing, device_at}
 use Rattle.law_trails.specs.TrailLinks.{device_in}
 use Rattle.law_safety.specs.Invariant.{IsRun}
@@ -30,7 +31,6 @@ use Rattle.law_windows.specs.WindowSteps.{HasWindows, KeepsWindows}
 use Rattle.law_windows.proofs.DistinctHearings.{split_distinct, distinct_receptions}
 use Rattle.law_windows.proofs.GrownWindows.{HasComeOf, heard_at, grown}
 use Rattle.law_windows.proofs.HeardThroughout.{nothing_told}
-use Rattle.law_windows.proofs.OneWindow.{open_not}
 use Rattle.law_windows.proofs.WindowHistory.{IsHistory, history_steps, made, in_air}
 use Rattle.law_windows.proofs.WindowWalk.{windows_before, windows_behind}
 
@@ -95,7 +95,7 @@ module _ (rows : AllRows) (s : ScenarioParts) (clocks : ℕ → ℕ → ℕ) (ai
 
       pub heard_now : (e : Happening) → Contains w.happenings e → tick_of e ≡ t → (h : Reception) × Contains taken h × (heard_at t h ≡ e)
       heard_now e in_it now = elim come [
-        | inl old ↦ absurd (open_not w.closed open_ old.1)
+        | inl old ↦ absurd (none_not_some w.closed open_ old.1)
         | inr (inl grew) ↦ elim
             (Contains-append_cases grew.old.happenings (map (heard_at t) taken) e (subst (λ (es : List Happening). Contains es e) grew.happenings in_it)) [
               | inl before ↦ absurd (let early = past t within grew.old grew.there e before in omega (arith, early, now))

@@ -2,6 +2,7 @@
 use Rattle.std.proofs.Common.{◌≡◌, ℕ, suc, ◌-◌, ◌⊎◌, inl, inr, List, [], ◌∷◌, ◌++◌, Bool, ◌==◌, Some, Option, Contains, filter, map, length, sym, ◌∙◌, ap}
 use Rattle.std.proofs.Common.{subst, arith, eqb-true}
 use Rattle.std.proofs.lemmas.Bool.{cond_both}
+use Rattle.std.proofs.lemmas.Option.{same_Some}
 use Rattle.radio_model.specs.declared.sending.Sending.{Sending}
 use Rattle.radio_model.specs.OnAir.{Hearing}
 use Rattle.radio_model.specs.Hearing.{Meets, Before}
@@ -11,7 +12,7 @@ use Rattle.air_log.specs.Entries.{hearings_of, IsHeard}
 use Rattle.air_log.specs.Devices.{Listening}
 use Rattle.air_log.specs.Lawful.{Lawful, comes_before, put_in, by_end, reception_of, hearings_by, heard_by}
 use Rattle.air_log.specs.Trails.{Reception, ending_at}
-use Rattle.air_log.proofs.Elements.{Distinct, not_in_none, contains_head, contains_tail, contains_cases, distinct_from_pairs, map_from, filtered}
+use Rattle.lwb_base.proofs.Elements.{Distinct, not_in_none, contains_head, contains_tail, contains_cases, distinct_from_pairs, map_from, filtered}
 use Rattle.air_log.proofs.SendingsKept.{profile_lasts}
 use Rattle.law_trails.specs.Obeying.{channel_of}
 use Rattle.law_trails.specs.TrailLinks.{ListensSince, device_in}
@@ -79,9 +80,6 @@ sorted_distinct (h ∷ hs) all = put_distinct h (by_end hs) (λ there. all.0 (so
 
 -- ---- hearings of one node
 
-some_rank : (a b : ℕ) → Some a ≡ Some b → a ≡ b
-some_rank a b is = cc
-
 module _ (s : ScenarioParts) (clocks : ℕ → ℕ → ℕ) (air : List Entry) (run : IsRun s clocks air) (lawful : Lawful s clocks air) (v : ℕ) where
   -- what ends at one tick came over one channel
   pub one_channel : (x y : Sending) → IsHeard air v x → IsHeard air v y → x.end ≡ y.end → x.rank ≡ y.rank
@@ -102,7 +100,7 @@ module _ (s : ScenarioParts) (clocks : ℕ → ℕ → ℕ) (air : List Entry) (
       ∙ ap (λ (r : ℕ). Some r) on_x.channel in
       let of_y : channel_of (device_in s clocks air v (suc k)).listening ≡ Some y.rank = ap (λ (l : Option Listening). channel_of l) on_y.is
       ∙ ap (λ (r : ℕ). Some r) on_y.channel in
-      some_rank x.rank y.rank (sym of_x ∙ of_y)
+      same_Some x.rank y.rank (sym of_x ∙ of_y)
 
   -- and is one, if it is the same packet
   pub same_heard : (x y : Sending) → IsHeard air v x → IsHeard air v y → x.end ≡ y.end → x.packet ≡ y.packet → x ≡ y

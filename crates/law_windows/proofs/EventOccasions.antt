@@ -2,7 +2,7 @@
 use Rattle.std.proofs.Common.{◌≡◌, inl, inr, List, [], ◌∷◌, ◌++◌, Contains, fold, map, refl, sym, ◌∙◌, ap}
 use Rattle.glossy_relay.specs.FloodState.{FloodState}
 use Rattle.air_log.specs.NodeEvents.{Event, Heard, Ended, Occasion, after, after_all, occasions}
-use Rattle.air_log.proofs.Elements.{not_in_none, contains_head, contains_tail, contains_cases}
+use Rattle.lwb_base.proofs.Elements.{not_in_none, contains_head, contains_tail, contains_cases}
 use Rattle.law_windows.specs.WindowEvents.{happening_of}
 use Rattle.law_windows.specs.WindowFloods.{after_happening}
 use Rattle.law_windows.proofs.ListEnds.{nothing_in}

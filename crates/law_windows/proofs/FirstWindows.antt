@@ -22,7 +22,7 @@ use Rattle.air_log.specs.Devices.{Device, Power, PowerOff, PowerOn}
 use Rattle.air_log.specs.ScriptedDevices.{switched_on}
 use Rattle.air_log.specs.Lawful.{heard_by}
 use Rattle.air_log.specs.Trails.{Reception, setup_of, run_end, before_tick}
-use Rattle.air_log.proofs.Elements.{not_in_none, contains_head, contains_tail, contains_cases}
+use Rattle.lwb_base.proofs.Elements.{not_in_none, contains_head, contains_tail, contains_cases}
 use Rattle.law_trails.specs.Phases.{Phase, Lines, Hearings, End, Alarms, Start, Over, IsNextLine}
 use Rattle.law_trails.specs.Walks.{Now, Keeps, after_row}
 use Rattle.law_trails.specs.TrailLinks.{device_in}

@@ -20,7 +20,7 @@ use Rattle.scenario_text.specs.ScenarioParts.{ScenarioParts}
 use Rattle.air_log.specs.WindowLogs.{WindowLog, Happening, HeardAt, Closing}
 use Rattle.air_log.specs.Devices.{Device, Power, PowerOff, PowerOn, event_by, moved, stepped, obeyed}
 use Rattle.air_log.specs.Trails.{Reception, setup_of, hears}
-use Rattle.air_log.proofs.Elements.{contains_head, contains_tail, contains_cases}
+use Rattle.lwb_base.proofs.Elements.{contains_head, contains_tail, contains_cases}
 use Rattle.law_trails.specs.Walks.{NoWindow, after_row}
 use Rattle.law_trails.proofs.UnmovedDevices.{unmoved}
 use Rattle.law_trails.proofs.RowsOfDevices.{row_obeyed}

@@ -16,7 +16,7 @@ use Rattle.air_log.specs.ScriptedDevices.{after_line}
 use Rattle.air_log.specs.Lawful.{heard_by}
 use Rattle.air_log.specs.Trails.{Reception, setup_of, frame_start, ending_at, hears, heard, scripted}
 use Rattle.air_log.specs.WindowLogs.{WindowLog, Happening, HeardAt, SentAt, Closing}
-use Rattle.air_log.proofs.Elements.{in_filtered, map_contains}
+use Rattle.lwb_base.proofs.Elements.{in_filtered, map_contains}
 use Rattle.law_trails.specs.Phases.{End, device_at}
 use Rattle.law_trails.specs.TrailLinks.{device_in}
 use Rattle.law_trails.proofs.HeardInTrails.{reception_is}

@@ -13,7 +13,7 @@ use Rattle.radio_model.specs.declared.sending.Sending.{Sending}
 use Rattle.air_log.specs.Devices.{Ordered}
 use Rattle.air_log.specs.Trails.{setup_of}
 use Rattle.air_log.specs.WindowLogs.{WindowLog, Happening, HeardAt, SentAt, Closing}
-use Rattle.air_log.proofs.Elements.{contains_head, contains_tail, contains_cases}
+use Rattle.lwb_base.proofs.Elements.{contains_head, contains_tail, contains_cases}
 use Rattle.law_windows.specs.WindowFloods.{flood_at_first, after_happening}
 use Rattle.law_windows.specs.WindowTimes.{IsOfSlot}
 use Rattle.law_windows.specs.WindowCalls.{BeginsIn, CallsFor, IsCalled, HasEnded, IsOrderedIn, IsSent}

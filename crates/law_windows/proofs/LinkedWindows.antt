@@ -12,7 +12,7 @@ use Rattle.air_log.specs.declared.entry.Entry.{Entry}
 use Rattle.air_log.specs.WindowLogs.{WindowLog, Closing}
 use Rattle.air_log.specs.Devices.{Device, Power, PowerOff, PowerOn}
 use Rattle.air_log.specs.Trails.{setup_of, frame_start}
-use Rattle.air_log.proofs.Elements.{contains_head, contains_tail, contains_cases}
+use Rattle.lwb_base.proofs.Elements.{contains_head, contains_tail, contains_cases}
 use Rattle.law_trails.specs.Phases.{Phase, Lines, Hearings, End, Alarms, Start, Over}
 use Rattle.law_trails.specs.TrailLinks.{device_in}
 use Rattle.law_trails.specs.Walks.{AwaitsFrame, NoWindow}

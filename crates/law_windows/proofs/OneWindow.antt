@@ -1,6 +1,5 @@
 -- A node has one window of a slot at most.
-use Rattle.std.proofs.Common.{◌≡◌, ℕ, ◌<◌, ◌⊎◌, inl, inr, List, [], ◌∷◌, Bool, true, false, None, Option, IfSome, Contains, sym, ◌∙◌, ap, subst, arith, is_some}
-use Rattle.std.proofs.Common.{true≢false}
+use Rattle.std.proofs.Common.{◌≡◌, ℕ, ◌<◌, ◌⊎◌, inl, inr, List, [], ◌∷◌, Bool, true, false, Option, IfSome, Contains, sym, ◌∙◌, ap, subst, arith}
 use Rattle.std.specs.Prelude.{slice_index}
 use Rattle.tick_clock.specs.Clocks.{IsClock}
 use Rattle.time_reference.specs.Budgets.{Fits, budget_of}
@@ -10,7 +9,7 @@ use Rattle.scenario_text.specs.ScenarioParts.{ScenarioParts}
 use Rattle.scenario_text.specs.FloodParts.{knows}
 use Rattle.air_log.specs.declared.entry.Entry.{Entry}
 use Rattle.air_log.specs.WindowLogs.{WindowLog, Closing}
-use Rattle.air_log.proofs.Elements.{not_in_none, contains_cases}
+use Rattle.lwb_base.proofs.Elements.{not_in_none, contains_cases}
 use Rattle.law_safety.specs.RoundZeros.{GoodFor}
 use Rattle.law_safety.specs.Invariant.{IsRun}
 use Rattle.law_safety.specs.Rows.{AllRows}
@@ -19,9 +18,6 @@ use Rattle.law_windows.specs.OpenWindows.{AreApart, HasClosedBy, SameWindowSlot}
 use Rattle.law_windows.specs.WindowRows.{IsOpened}
 use Rattle.law_windows.specs.WindowTimes.{IsOfSlot, OpensInTime, IsInTime, ClosesInTime, closing_of}
 use Rattle.law_windows.proofs.SlotTimes.{before_good, closes_good, lies_in_window}
-
-pub open_not : (c : Option Closing) → c ≡ None → is_some c ≡ true → ⊥
-open_not c none some = true≢false (sym some ∙ ap (λ (o : Option Closing). is_some o) none)
 
 -- of two that are apart one has closed before the other opened
 pub apart_so : (logs : List WindowLog) (x y : WindowLog) → AreApart logs → Contains logs x → Contains logs y

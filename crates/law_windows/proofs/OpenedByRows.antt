@@ -9,7 +9,7 @@ use Rattle.scenario_text.specs.ScenarioParts.{ScenarioParts}
 use Rattle.air_log.specs.declared.entry.Entry.{Entry}
 use Rattle.air_log.specs.WindowLogs.{WindowLog, Happening, HeardAt, Closing}
 use Rattle.air_log.specs.Trails.{setup_of}
-use Rattle.air_log.proofs.Elements.{contains_head}
+use Rattle.lwb_base.proofs.Elements.{contains_head}
 use Rattle.law_safety.proofs.OpeningRoles.{same_standing, role_of}
 use Rattle.law_windows.specs.WindowRows.{in_window, OpensBy, IsOpened, ClosesAs}
 use Rattle.law_windows.specs.OpenWindows.{IsOpen}

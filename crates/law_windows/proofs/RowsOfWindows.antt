@@ -20,7 +20,7 @@ use Rattle.scenario_text.specs.ScenarioParts.{ScenarioParts}
 use Rattle.air_log.specs.WindowLogs.{WindowLog, Closing, happening, windows_after, gone_on}
 use Rattle.air_log.specs.Devices.{Device, Power, PowerOn}
 use Rattle.air_log.specs.Trails.{setup_of}
-use Rattle.air_log.proofs.Elements.{contains_head, contains_tail, contains_cases}
+use Rattle.lwb_base.proofs.Elements.{contains_head, contains_tail, contains_cases}
 use Rattle.law_trails.specs.Walks.{after_row, NoWindow}
 use Rattle.law_trails.proofs.RowsOfDevices.{row_obeyed}
 use Rattle.law_safety.specs.SetAlarms.{rank_at}

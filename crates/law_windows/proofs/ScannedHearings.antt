@@ -16,8 +16,8 @@ use Rattle.node_core.specs.Rows.{Stepped, at_heard, scanner_hears, joins}
 use Rattle.node_core.specs.Rows.{node_after}
 use Rattle.air_log.specs.Devices.{Device, Power, PowerOff, PowerOn, event_by}
 use Rattle.air_log.specs.Trails.{Reception, hears}
-use Rattle.air_log.proofs.Elements.{not_in_none, contains_cases}
-use Rattle.law_trails.proofs.RowsOfDevices.{stepped_power}
+use Rattle.air_log.proofs.EventPower.{stepped_power}
+use Rattle.lwb_base.proofs.Elements.{not_in_none, contains_cases}
 use Rattle.law_safety.specs.SetAlarms.{rank_at}
 
 module _ (clock : ℕ → ℕ) (s : Setup) (t : ℕ) where

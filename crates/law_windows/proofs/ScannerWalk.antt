@@ -25,7 +25,7 @@ use Rattle.air_log.specs.Devices.{Device, Power, PowerOff, PowerOn}
 use Rattle.air_log.specs.ScriptedDevices.{switched_on}
 use Rattle.air_log.specs.Lawful.{heard_by}
 use Rattle.air_log.specs.Trails.{Reception, ending_at, heard as heard_all, setup_of, run_end, frame_start, scripted, before_tick}
-use Rattle.air_log.proofs.Elements.{in_filtered, not_in_none, contains_head, contains_tail, contains_cases}
+use Rattle.lwb_base.proofs.Elements.{in_filtered, not_in_none, contains_head, contains_tail, contains_cases}
 use Rattle.law_trails.specs.Phases.{Phase, Lines, Hearings, End, Alarms, Start, Over, IsNextLine, next_phase, device_at}
 use Rattle.law_trails.specs.Walks.{Now, Keeps, after_row}
 use Rattle.law_trails.specs.TrailLinks.{device_in}
@@ -48,9 +48,7 @@ use Rattle.law_windows.proofs.WindowWalk.{P, keeps, on_in, fine_before, waits, w
 use Rattle.law_windows.proofs.PlacesWithout.{awaiting, after_frame, unchanged}
 use Rattle.law_windows.proofs.RowsOfWindows.{open_first, begun_after, joined_after, gone_on_after, closed_after}
 use Rattle.law_windows.proofs.OpenedByRows.{IsOfRows, rows_steps}
-
-abbrev Rows : ScenarioParts → (ℕ → ℕ → ℕ) → ℕ → ℕ → ℕ → WindowLog → Type 0
-Rows s clocks v now taken w = IsOfRows s clocks v w
+use Rattle.law_windows.proofs.UnchangedNodes.{Rows}
 
 module _ (s : ScenarioParts) (clocks : ℕ → ℕ → ℕ) (air : List Entry) (v : ℕ) where
   abbrev S : Setup

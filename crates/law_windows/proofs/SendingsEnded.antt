@@ -5,10 +5,11 @@ use Rattle.std.specs.List.{last_or}
 use Rattle.std.proofs.lemmas.Bool.{le-leb}
 use Rattle.air_log.specs.Charges.{sent_in}
 use Rattle.air_log.specs.WindowLogs.{Happening, HeardAt, SentAt}
-use Rattle.air_log.proofs.Elements.{not_in_none, contains_head, contains_tail, contains_cases, pairs_head, pairs_tail}
+use Rattle.lwb_base.proofs.Elements.{not_in_none, contains_head, contains_tail, contains_cases, pairs_head, pairs_tail}
+use Rattle.lwb_base.proofs.Truths.{one_if}
 use Rattle.law_windows.specs.WindowHistory.{tick_of}
 use Rattle.law_windows.specs.WindowRadios.{sendings_in}
-use Rattle.law_windows.proofs.CountedEnds.{one_if, not_by}
+use Rattle.law_windows.proofs.CountedEnds.{not_by}
 
 -- their packets
 abbrev pub packets : List Happening → List (List ℕ)

@@ -1,5 +1,5 @@
 -- The flood of each window is of the kind of the part that the window goes by.
-use Rattle.std.proofs.Common.{◌≡◌, ℕ, List, refl, sym, ◌∙◌, ap, subst, nat_lt, ◌==◌}
+use Rattle.std.proofs.Common.{◌≡◌, ℕ, List, refl, sym, ◌∙◌, ap, subst, nat_lt}
 use Rattle.std.proofs.lemmas.Bool.{cond_both}
 use Rattle.std.specs.Prelude.{slice_index}
 use Rattle.lwb_base.specs.Messages.{Schedule}
@@ -7,15 +7,14 @@ use Rattle.lwb_packets.specs.declared.kind.Kind as Kind
 use Rattle.glossy_relay.specs.FloodState.{FloodState, listening}
 use Rattle.glossy_relay.specs.Relaying.{after_heard, counter_of, first_of, fits}
 use Rattle.bus_rules.specs.Cores.{Setup}
-use Rattle.bus_rules.specs.declared.part.Part.{Part}
-use Rattle.bus_rules.specs.declared.part.Part.TheVariants.{Opening, Closing}
 use Rattle.bus_rules.specs.Tuning.{rank_of}
 use Rattle.lwb_member.specs.Said.{message_of}
 use Rattle.lwb_member.specs.Places.{kind_for}
 use Rattle.node_core.specs.declared.stage.Stage.TheVariants.{AwaitSlot}
 use Rattle.node_core.specs.Windows.{Window}
 use Rattle.node_core.specs.Nodes.{Node}
-use Rattle.node_core.specs.Rows.{flood_by, is_foreign, part_by}
+use Rattle.node_core.specs.Rows.{flood_by, is_foreign}
+use Rattle.node_core.proofs.WindowKinds.{schedule_kind}
 use Rattle.scenario_text.specs.ScenarioParts.{ScenarioParts}
 use Rattle.air_log.specs.declared.entry.Entry.{Entry}
 use Rattle.air_log.specs.Devices.{Device, PowerOn}
@@ -50,9 +49,6 @@ taken_like : (rank : ℕ) (w : Window) (p : List ℕ) → IsLike (flood_by rank 
 taken_like rank w p =
     cond_both (is_foreign rank (message_of p)) w.flood (after_heard w.flood p) (λ (g : FloodState). IsLike g w.flood)
     (λ is. record { kind = refl; slot = refl; limit = refl }) (λ is. heard_like w.flood p)
-
-schedule_kind : (y : Schedule) → Kind.TheVariants.Schedule ≡ kind_for (part_by y)
-schedule_kind y = cond_both (y.gap == 0) Opening Closing (λ (p : Part). Kind.TheVariants.Schedule ≡ kind_for p) (λ is. refl) (λ is. refl)
 
 module _ (s : ScenarioParts) where
   -- a window that goes on with a flood like its own

@@ -12,7 +12,7 @@ use Rattle.air_log.specs.Devices.{Device, at_rest}
 use Rattle.air_log.specs.Lawful.{heard_by}
 use Rattle.air_log.specs.ScriptedDevices.{after_line}
 use Rattle.air_log.specs.Trails.{Reception, alarmed, alarms, before_tick, begun, ended, ending_at, frame_start, hears, lines_at, run_end, setup_of, tick}
-use Rattle.air_log.proofs.Elements.{not_in_none, contains_head, contains_tail}
+use Rattle.lwb_base.proofs.Elements.{not_in_none, contains_head, contains_tail}
 use Rattle.law_terms.specs.LawfulRuns.{IsLawfulRun}
 use Rattle.law_windows.specs.FramePlaces.{StrangersLaw}
 

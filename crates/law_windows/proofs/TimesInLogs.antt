@@ -16,7 +16,7 @@ use Rattle.air_log.specs.HearsAir.{scene_of}
 use Rattle.air_log.specs.Lawful.{Lawful, heard_by, trail_in, tuned_by}
 use Rattle.air_log.specs.Trails.{run_end}
 use Rattle.air_log.specs.TrailEntries.{IsTunedBy}
-use Rattle.air_log.proofs.Elements.{in_filtered, filtered}
+use Rattle.lwb_base.proofs.Elements.{in_filtered, filtered}
 use Rattle.air_log.proofs.TrailTunings.{each_tuned, tuned_in_turn}
 use Rattle.energy_account.specs.Energies.{tuning_time}
 use Rattle.law_windows.specs.ChargeLaws.{OnIsTimeInRun}

@@ -18,7 +18,7 @@ use Rattle.law_trails.specs.Obeying.{channel_of}
 use Rattle.law_trails.specs.TrailLinks.{device_in}
 use Rattle.law_trails.proofs.SentInTrails.{holds_if}
 use Rattle.law_trails.proofs.TunedInTrails.{Tuned, step_stays}
-use Rattle.air_log.proofs.Elements.{filtered}
+use Rattle.lwb_base.proofs.Elements.{filtered}
 
 module _ (s : ScenarioParts) (v : ℕ) (clock : ℕ → ℕ) (hs : List Reception) where
   later : (t u : ℕ) → t ≤ u → (r k : ℕ) → k < t → Tuned s v clock hs t r k → Tuned s v clock hs u r k

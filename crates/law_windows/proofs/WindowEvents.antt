@@ -2,7 +2,6 @@
 use Rattle.std.proofs.Common.{◌≡◌, ◌≢◌, ℕ, zero, suc, ◌<◌, ◌≤◌, inl, inr, List, [], ◌∷◌, true, Some, None, Option, is_some, Contains, AllPairs, fold, map}
 use Rattle.std.proofs.Common.{length, get_or, refl, sym, ◌∙◌, ap, subst, arith, true≢false}
 use Rattle.std.specs.Option.{IfSome}
-use Rattle.std.proofs.lemmas.List.Kept.{AllPairs-cons}
 use Rattle.lwb_base.specs.Profile.{airtime}
 use Rattle.glossy_relay.specs.FloodState.{FloodState}
 use Rattle.glossy_relay.specs.Relaying.{after_heard}
@@ -16,7 +15,8 @@ use Rattle.air_log.specs.Lawful.{Lawful, heard_by}
 use Rattle.air_log.specs.NodeEvents.{Event, Heard, Ended, sending_of, InOrder, after_all}
 use Rattle.air_log.specs.Trails.{run_end, setup_of}
 use Rattle.air_log.specs.WindowLogs.{WindowLog, Happening, HeardAt, SentAt, Closing}
-use Rattle.air_log.proofs.Elements.{Distinct, not_in_none, contains_head, contains_tail, contains_cases, map_contains, map_from, pairs_head, pairs_tail}
+use Rattle.lwb_base.proofs.Elements.{Distinct, not_in_none, contains_head, contains_tail, contains_cases, map_contains, map_from, pairs_head, pairs_tail}
+use Rattle.lwb_base.proofs.Elements.{pairs_cons}
 use Rattle.law_trails.specs.TrailLinks.{device_in}
 use Rattle.law_trails.proofs.SentInTrails.{sent_below, sent_lasts}
 use Rattle.law_trails.proofs.WalkOfRun.{known_before}
@@ -41,9 +41,6 @@ at_place : {X : Type 0} (xs : List X) (k : ℕ) (d e : X) → k < length xs → 
 at_place [] k d e less = absurd (omega arith)
 at_place (x ∷ xs) zero d e less = refl
 at_place (x ∷ xs) (suc k) d e less = at_place xs k d e (omega arith)
-
-pairs_cons : {X : Type 0} (R : X → X → Type 0) (x : X) (xs : List X) → ((y : X) → Contains xs y → R x y) → AllPairs R xs → AllPairs R (x ∷ xs)
-pairs_cons R x xs first rest = AllPairs-cons R x xs (λ k d less. first (get_or xs k d) (k, less, at_place xs k d (get_or xs k d) less)) rest
 
 module _ (s : ScenarioParts) (air : List Entry) (v : ℕ) (w : WindowLog) where
   abbrev event_of : (e : Happening) → WasThen s air v w e → Event

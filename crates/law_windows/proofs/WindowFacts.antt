@@ -1,5 +1,5 @@
 -- The laws of all windows, by the walk.
-use Rattle.air_log.proofs.Elements.{not_in_none}
+use Rattle.lwb_base.proofs.Elements.{not_in_none}
 use Rattle.law_safety.proofs.InvariantHolds.{all_rows}
 use Rattle.law_windows.specs.WindowLaws.{DeliveriesAreOfWindows, WindowsCloseByRows, WindowsCloseInTime, WindowsOpenByRows, WindowsOpenInTime}
 use Rattle.law_windows.specs.WindowLaws.{WindowsStandByPower}

@@ -17,7 +17,7 @@ use Rattle.air_log.specs.Devices.{Device, PowerOn}
 use Rattle.air_log.specs.Lawful.{heard_by}
 use Rattle.air_log.specs.Trails.{setup_of}
 use Rattle.air_log.specs.WindowLogs.{WindowLog, Happening, HeardAt, SentAt, Closing}
-use Rattle.air_log.proofs.Elements.{not_in_none}
+use Rattle.lwb_base.proofs.Elements.{not_in_none}
 use Rattle.air_log.proofs.KeptByEvents.{in_hearings}
 use Rattle.air_log.proofs.OwnSendings.{IsOwn, SendsOwn, own_heard}
 use Rattle.air_log.proofs.TrailSendings.{kept_sent}

@@ -1,6 +1,7 @@
 -- The part of each node in the floods of its windows.
 use Rattle.std.proofs.Common.{◌≡◌, ◌≢◌, ℕ, ◌+◌, ◌-◌, ◌<◌, ◌≤◌, length, inl, inr, List, ◌∷◌, ◌++◌, Bool, true, false, nat_lt, if◌then◌else◌, Option, IfSome}
 use Rattle.std.proofs.Common.{Contains, fold, map, refl, sym, ◌∙◌, ap, subst, arith}
+use Rattle.lwb_base.proofs.Options.{none_not_some}
 use Rattle.tick_clock.specs.Clocks.{due}
 use Rattle.time_reference.specs.Zeros.{point, starting}
 use Rattle.glossy_relay.specs.FloodState.{FloodState}
@@ -34,7 +35,6 @@ use Rattle.law_windows.specs.WindowParts.{SendsAt, IsSaid, IsAnswer, IsTunedBy, 
 use Rattle.law_windows.specs.WindowTimes.{IsOfSlot}
 use Rattle.law_windows.proofs.ClosedByFrame.{closed_at_end}
 use Rattle.law_windows.proofs.EventOccasions.{ComesFrom, comes_from, map_parts, same_flood, occasion_at, occasion_of}
-use Rattle.law_windows.proofs.OneWindow.{open_not}
 use Rattle.law_windows.specs.WindowRadios.{sendings_in, sendings_by, IsOpenAt, IsTunedThen}
 use Rattle.law_windows.proofs.CountedEnds.{few_early, early_few}
 use Rattle.law_windows.proofs.WindowEvents.{windows_have_events, closing_known}
@@ -69,7 +69,7 @@ module _ (s : ScenarioParts) (clocks : ℕ → ℕ → ℕ) (air : List Entry) (
         let below = (sent_below s clocks air run.heedful.trails v known (run_end s) within is.sending).1 is.there in
         record { sending = is.sending; there = below.there; node = below.node; of_slot = is.of_slot; at = is.start; packet_is = is.packet_is }
         )
-    | inr still ↦ absurd (open_not w.closed still.open_ (closed_at_end s clocks air run v known w there))
+    | inr still ↦ absurd (none_not_some w.closed still.open_ (closed_at_end s clocks air run v known w there))
   ]
 
   -- and what was sent in its slot it called for

@@ -1,6 +1,6 @@
 -- How long the radio of a node is on in each of its windows.
 use Rattle.std.proofs.Common.{◌≡◌, ℕ, suc, ◌+◌, ◌<◌, ◌≤◌, inl, inr, List, [], ◌∷◌, ◌++◌, Bool, true, false, nat_lt, nat_le, if◌then◌else◌, Some, None, Option}
-use Rattle.std.proofs.Common.{Contains, fold, refl, sym, ◌∙◌, ap, subst, arith, true≢false, lt-ltb, ltb-true, eqb-true, IfSome}
+use Rattle.std.proofs.Common.{Contains, fold, refl, sym, ◌∙◌, ap, subst, arith, lt-ltb, ltb-true, IfSome}
 use Rattle.std.specs.Prelude.{slice_index}
 use Rattle.std.proofs.lemmas.Bool.{leb-true, le-leb}
 use Rattle.glossy_relay.specs.FloodState.{FloodState}
@@ -18,11 +18,14 @@ use Rattle.air_log.specs.HearsAir.{scene_of}
 use Rattle.air_log.specs.Devices.{Device, Power, PowerOff, PowerOn, Listening, listens_to}
 use Rattle.air_log.specs.Trails.{run_end, setup_of}
 use Rattle.air_log.specs.WindowLogs.{WindowLog, Happening, HeardAt, SentAt, Closing}
-use Rattle.air_log.proofs.Elements.{contains_head, contains_tail, contains_cases}
+use Rattle.lwb_base.proofs.Elements.{contains_head, contains_tail, contains_cases}
+use Rattle.lwb_base.proofs.Options.{none_not_some}
+use Rattle.lwb_base.proofs.Truths.{one_if}
 use Rattle.law_trails.specs.Obeying.{channel_of}
 use Rattle.law_trails.specs.Phases.{Over}
 use Rattle.law_trails.specs.TrailLinks.{ListensSince, device_in}
 use Rattle.law_trails.proofs.TunedInTrails.{tuned_listens}
+use Rattle.law_trails.proofs.ObeyedOrders.{channel_is}
 use Rattle.law_safety.specs.Invariant.{IsRun}
 use Rattle.law_safety.specs.NodesInOrder.{IsOn, InOpenWindow, WindowAt}
 use Rattle.law_safety.specs.RadiosOn.{RadioFor}
@@ -35,7 +38,6 @@ use Rattle.law_windows.specs.WindowFloods.{HasFlood, after_happening, flood_at_f
 use Rattle.law_windows.specs.WindowHistory.{tick_of}
 use Rattle.law_windows.specs.WindowRadios.{sendings_in, sendings_by, IsOpenAt, IsTunedThen}
 use Rattle.law_windows.specs.WindowSteps.{HasWindows}
-use Rattle.law_windows.proofs.OneWindow.{open_not}
 use Rattle.law_windows.proofs.TunedByDevices.{listens_tuned}
 use Rattle.law_windows.proofs.WindowFloods.{flood_steps}
 use Rattle.law_windows.proofs.WindowHistory.{IsHistory, history_steps}
@@ -43,9 +45,6 @@ use Rattle.law_windows.proofs.WindowsSince.{HasEvolved, since_then}
 use Rattle.law_windows.proofs.WindowWalk.{on_in, windows_behind}
 
 -- ---- sendings are counted by the flood
-
-abbrev as_one : Bool → ℕ
-as_one b = if b then 1 else 0
 
 pub heard_sent : (f : FloodState) (p : List ℕ) → (after_heard f p).sent ≡ f.sent
 heard_sent f p = of_test (fits f p)
@@ -63,7 +62,7 @@ counted k (HeardAt t p ∷ es) f by =
     omega (arith, rest, same)
 counted k (SentAt t p ∷ es) f by =
     let rest = counted k es (record f { sent = f.sent + 1; waiting = false }) (λ e there. by e (contains_tail (SentAt t p) es e there)) in
-    let one : ◌≡◌ {A = ℕ} (if nat_le t k then 1 else 0) 1 = ap (λ (b : Bool). as_one b) (le-leb t k (by (SentAt t p) (contains_head (SentAt t p) es))) in
+    let one : ◌≡◌ {A = ℕ} (if nat_le t k then 1 else 0) 1 = ap (λ (b : Bool). one_if b) (le-leb t k (by (SentAt t p) (contains_head (SentAt t p) es))) in
     omega (arith, rest, one)
 
 -- those that are later do not count
@@ -73,7 +72,7 @@ none_later k (HeardAt t p ∷ es) later = let rest = none_later k es (λ e there
 none_later k (SentAt t p ∷ es) later =
     let rest = none_later k es (λ e there. later e (contains_tail (SentAt t p) es e there)) in
     let after = later (SentAt t p) (contains_head (SentAt t p) es) in
-    let none : ◌≡◌ {A = ℕ} (if nat_le t k then 1 else 0) 0 = ap (λ (b : Bool). as_one b) (not_by t k after) in
+    let none : ◌≡◌ {A = ℕ} (if nat_le t k then 1 else 0) 0 = ap (λ (b : Bool). one_if b) (not_by t k after) in
     omega (arith, rest, none)
   where
     not_by : (t k : ℕ) → suc k ≤ t → nat_le t k ≡ false
@@ -90,10 +89,6 @@ both_parts k (e ∷ es) ds = let rest = both_parts k es ds in omega (arith, rest
 first_unsent : (s : Setup) (b : Bool) (w : WindowLog) → (flood_at_first s b w).sent ≡ 0
 first_unsent s true w = flood_unsent s _ w.slot (said_in s w)
 first_unsent s false w = refl
-
-listened : (r : ℕ) (l : Option Listening) → listens_to r l ≡ true → channel_of l ≡ Some r
-listened r None on = absurd (true≢false (sym on))
-listened r (Some l) on = ap (λ (x : ℕ). Some x) (eqb-true l.rank r on)
 
 module _ (rows : AllRows) (s : ScenarioParts) (clocks : ℕ → ℕ → ℕ) (air : List Entry) (run : IsRun s clocks air) (v : ℕ) (known : knows s.nodes v ≡ true)
     (t : ℕ) (within : t ≤ run_end s) (w : WindowLog) (there : Contains (device_in s clocks air v t).made.windows w) (k : ℕ) (before : k < t)
@@ -139,7 +134,7 @@ module _ (rows : AllRows) (s : ScenarioParts) (clocks : ℕ → ℕ → ℕ) (ai
     is : IsOpen node slot window old.old
 
   closed_none : {A : Type 0} → AreClosed d.made.windows → A
-  closed_none closed = absurd (open_not old.old.closed open_ (closed old.old old.there))
+  closed_none closed = absurd (none_not_some old.old.closed open_ (closed old.old old.there))
 
   by_stage : (n : Node) (st : Stage) → d.power ≡ PowerOn n → n.stage ≡ st → StandAt d.made.windows n st → IsThere
   by_stage n Idle on stage stand = closed_none stand
@@ -149,7 +144,7 @@ module _ (rows : AllRows) (s : ScenarioParts) (clocks : ℕ → ℕ → ℕ) (ai
   by_stage n (InWindow j u) on stage stand =
       elim (contains_cases stand.first stand.earlier old.old (subst (λ (l : List WindowLog). Contains l old.old) stand.is old.there)) [
         | inl same ↦ record { node = n; slot = j; window = u; on = on; stage = stage; is = subst (IsOpen n j u) same stand.now }
-        | inr earlier ↦ absurd (open_not old.old.closed open_ (stand.closed old.old earlier))
+        | inr earlier ↦ absurd (none_not_some old.old.closed open_ (stand.closed old.old earlier))
       ]
 
   by_power : (p : Power) → d.power ≡ p → StandBy d.made.windows p → IsThere
@@ -194,7 +189,7 @@ module _ (rows : AllRows) (s : ScenarioParts) (clocks : ℕ → ℕ → ℕ) (ai
       lt-ltb here.window.flood.sent here.window.flood.limit (let sent = counted_so in let most = limit in omega (arith, few, sent, most)) in
       let on : listens_to (rank_at here.node) d.listening ≡ true =
       subst (λ (b : Bool). Either b (listens_to (rank_at here.node) d.listening ≡ true) (d.listening ≡ None)) less radio in
-      listens_tuned s clocks air run.heedful.trails v w.rank k known in_run (listened (rank_at here.node) d.listening on ∙ ap (λ (r : ℕ). Some r) rank)
+      listens_tuned s clocks air run.heedful.trails v w.rank k known in_run (channel_is (rank_at here.node) d.listening on ∙ ap (λ (r : ℕ). Some r) rank)
 
   pub only_then : (r : ℕ) → IsTuned (scene_of s.profile s.trace air) v r k → (r ≡ w.rank) × (sendings_by k w < s.sends)
   only_then r tuned = by_test (nat_lt here.window.flood.sent here.window.flood.limit) refl radio
@@ -216,7 +211,7 @@ module _ (rows : AllRows) (s : ScenarioParts) (clocks : ℕ → ℕ → ℕ) (ai
           → Either b (listens_to (rank_at here.node) d.listening ≡ true) (d.listening ≡ None) → (r ≡ w.rank) × (sendings_by k w < s.sends)
       by_test false is off = absurd (none_some d.listening off channel)
       by_test true is on = (
-        some_same r w.rank (sym channel ∙ listened (rank_at here.node) d.listening on ∙ ap (λ (x : ℕ). Some x) rank),
+        some_same r w.rank (sym channel ∙ channel_is (rank_at here.node) d.listening on ∙ ap (λ (x : ℕ). Some x) rank),
         (let less = ltb-true here.window.flood.sent here.window.flood.limit is in let sent = counted_so in let most = limit in omega (arith, less, sent, most)),
       )
 

@@ -21,7 +21,7 @@ use Rattle.air_log.specs.Devices.{Device, Power, PowerOff, PowerOn}
 use Rattle.air_log.specs.ScriptedDevices.{switched_on, with_new_core}
 use Rattle.air_log.specs.Lawful.{heard_by}
 use Rattle.air_log.specs.Trails.{setup_of, run_end, before_tick}
-use Rattle.air_log.proofs.Elements.{not_in_none, contains_head}
+use Rattle.lwb_base.proofs.Elements.{not_in_none, contains_head}
 use Rattle.law_trails.specs.Phases.{Phase, Lines, Hearings, End, Alarms, Start, Over, IsNextLine, device_at, next_phase}
 use Rattle.law_trails.specs.Walks.{Now, Keeps, AwaitsFrame, NoWindow, after_row}
 use Rattle.law_trails.specs.TrailLinks.{device_in}

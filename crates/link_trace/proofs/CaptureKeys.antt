@@ -9,6 +9,7 @@ use Rattle.std.specs.List.Sorted.{IsSearchInRange, IsBinarySearchResult}
 use Rattle.std.specs.Ordering.{nat_cmp, ordering_then, is_eq}
 use Rattle.std.specs.declared.cmp.Ordering.{Ordering}
 use Rattle.std.specs.declared.cmp.Ordering.TheVariants.{Less, Equal, Greater}
+use Rattle.lwb_base.proofs.Orders.{by_four}
 use Rattle.link_trace.specs.declared.lines.CaptureLine.{CaptureLine}
 use Rattle.link_trace.specs.Order.{Ascends, HasPlace, IsFirst, by_capture}
 use Rattle.link_trace.specs.Passes.{is_capture}
@@ -54,10 +55,6 @@ find_front {L} test (x ∷ xs) = by (test x) (find_front test xs)
 
 pub same_find : {L : Type 0} (test : L → Bool) (part ls : List L) → filter test part ≡ filter test ls → find test part ≡ find test ls
 same_find test part ls same = find_front test part ∙ ap front same ∙ sym (find_front test ls)
-
--- the order of a tuple goes by its first three parts, and then the last
-abbrev pub by_four : ℕ × ℕ × ℕ × ℕ → ℕ × ℕ × ℕ × ℕ → Ordering
-by_four a b = ordering_then (ordering_then (ordering_then (nat_cmp a.0 b.0) (nat_cmp a.1 b.1)) (nat_cmp a.2 b.2)) (nat_cmp a.3 b.3)
 
 one_by_one : (a b c d : Ordering) → ordering_then (ordering_then (ordering_then a b) c) d ≡ ordering_then a (ordering_then b (ordering_then c d))
 one_by_one Less b c d = refl

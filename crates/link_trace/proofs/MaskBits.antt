@@ -1,6 +1,6 @@
 -- Masks of nodes bit by bit: one more node, one node alone, both masks together, and one without the other.
 use Rattle.std.proofs.Common.{◌≡◌, ◌≢◌, ℕ, ◌+◌, ◌-◌, ◌*◌, ◌%◌, ◌^◌, ◌<◌, ◌≤◌, min, max, List, Bool, true, false, not, ◌||◌, ◌&&◌, ◌==◌, nat_lt}
-use Rattle.std.proofs.Common.{length, get_or, take, if◌then◌else◌, bit_and, bit_or, w64, Ok, Err, refl, sym, ◌∙◌, ap, arith, inl, inr}
+use Rattle.std.proofs.Common.{length, get_or, take, bit_and, bit_or, w64, Ok, Err, refl, sym, ◌∙◌, ap, arith, inl, inr}
 use Rattle.std.proofs.lemmas.Bool.{cases_lt, cases_eq, lt-ltb, le-ltb, eq-eqb, ne_eqb}
 use Rattle.std.proofs.lemmas.List.Folds.{list_any_more}
 use Rattle.std.specs.List.{list_any, AllPairs}
@@ -10,18 +10,17 @@ use Rattle.std.proofs.lemmas.List.Sorted.{searched}
 use Rattle.std.specs.List.Sorted.{IsBinarySearchResult}
 use Rattle.std.specs.Ordering.{nat_cmp}
 use Rattle.std.specs.Int.{bit_at, bit_not}
+use Rattle.lwb_base.proofs.Truths.{one_if}
+use Rattle.lwb_base.proofs.Orders.{rising}
 use Rattle.link_trace.specs.Masks.{IsMask, IsMaskUpto}
 
-abbrev bit : Bool → ℕ
-bit b = if b then 1 else 0
-
-either : (a b : Bool) → max (bit a) (bit b) ≡ bit (a || b)
+either : (a b : Bool) → max (one_if a) (one_if b) ≡ one_if (a || b)
 either true true = refl
 either true false = refl
 either false true = refl
 either false false = refl
 
-without : (a b : Bool) → min (bit a) (1 - bit b) ≡ bit (a && not b)
+without : (a b : Bool) → min (one_if a) (1 - one_if b) ≡ one_if (a && not b)
 without true true = refl
 without true false = refl
 without false true = refl
@@ -35,7 +34,7 @@ less : (n a b : Bool) → ((n && a) && not (n && b)) ≡ (n && (a && not b))
 less true a b = refl
 less false a b = refl
 
-nothing : (b : Bool) → bit (b && false) ≡ 0
+nothing : (b : Bool) → one_if (b && false) ≡ 0
 nothing true = refl
 nothing false = refl
 
@@ -47,10 +46,10 @@ module _ (nodes : List ℕ) where
   joined p q a b a_is b_is i =
       let u = get_or nodes i 0 in
       let n = nat_lt i (length nodes) in
-      bit_at_or a b i ∙ rw (a_is i, b_is i) (either (n && p u) (n && q u)) ∙ ap bit (spread n (p u) (q u))
+      bit_at_or a b i ∙ rw (a_is i, b_is i) (either (n && p u) (n && q u)) ∙ ap one_if (spread n (p u) (q u))
 
   pub same_tests : (p q : ℕ → Bool) (a : ℕ) → ((u : ℕ) → p u ≡ q u) → IsMask p nodes a → IsMask q nodes a
-  same_tests p q a same is i = is i ∙ ap (λ (b : Bool). bit (nat_lt i (length nodes) && b)) (same (get_or nodes i 0))
+  same_tests p q a same is i = is i ∙ ap (λ (b : Bool). one_if (nat_lt i (length nodes) && b)) (same (get_or nodes i 0))
 
   -- no node
   pub none : (v : ℕ) → ((k : ℕ) → k < length nodes → v ≢ get_or nodes k 0) → IsMask (λ u. v == u) nodes 0
@@ -68,7 +67,7 @@ module _ (nodes : List ℕ) where
       (λ u. sym (list_any_more (names u) ls i d inside)) (joined (λ u. list_any (names u) (take i ls)) (λ u. names u (get_or ls i d)) a b a_is b_is)
 
   module _ (few : length nodes ≤ 64) where
-    past : (p : ℕ → Bool) (i : ℕ) → 64 ≤ i → bit (nat_lt i (length nodes) && p (get_or nodes i 0)) ≡ 0
+    past : (p : ℕ → Bool) (i : ℕ) → 64 ≤ i → one_if (nat_lt i (length nodes) && p (get_or nodes i 0)) ≡ 0
     past p i far = rw (outside i far) refl
       where
         outside : (i : ℕ) → 64 ≤ i → nat_lt i (length nodes) ≡ false
@@ -82,7 +81,8 @@ module _ (nodes : List ℕ) where
         let n = nat_lt i (length nodes) in
         elim (cases_lt i 64) [
           | inl near ↦
-              bit_at_and a (bit_not w64 b) i ∙ rw (a_is i, bit_at_not w64 b i small near, b_is i) (without (n && p u) (n && q u)) ∙ ap bit (less n (p u) (q u))
+              bit_at_and a (bit_not w64 b) i ∙ rw (a_is i, bit_at_not w64 b i small near, b_is i) (without (n && p u) (n && q u))
+              ∙ ap one_if (less n (p u) (q u))
           | inr far ↦
               (let none : bit_at a i ≡ 0 = a_is i ∙ past p i far in bit_at_and a (bit_not w64 b) i ∙ omega (arith, none))
               ∙ sym (past (λ u. p u && not (q u)) i far)
@@ -106,7 +106,7 @@ module _ (nodes : List ℕ) where
           | inr after ↦ omega (arith, ascending i k 0 (omega arith) near)
         ]
 
-        no_other : (k : ℕ) → k ≢ i → bit (nat_lt k (length nodes) && (v == get_or nodes k 0)) ≡ 0
+        no_other : (k : ℕ) → k ≢ i → one_if (nat_lt k (length nodes) && (v == get_or nodes k 0)) ≡ 0
         no_other k other = elim (cases_lt k (length nodes)) [
           | inl near ↦ rw (ne_eqb v (get_or nodes k 0) (differs k other near)) (nothing (nat_lt k (length nodes)))
           | inr far ↦ rw (le-ltb k (length nodes) far) refl
@@ -114,8 +114,8 @@ module _ (nodes : List ℕ) where
 
     module _ (p : ℕ → Bool) (i mask : ℕ) (inside : i < length nodes) (is : IsMaskUpto p nodes i mask) where
       one_more_bit : (k : ℕ) (b : Bool) → p (get_or nodes i 0) ≡ b → k ≢ i
-          → bit (nat_lt k i && p (get_or nodes k 0)) ≡ bit (nat_lt k (i + 1) && p (get_or nodes k 0))
-      one_more_bit k b here other = ap (λ (c : Bool). bit (c && p (get_or nodes k 0))) (lower k other)
+          → one_if (nat_lt k i && p (get_or nodes k 0)) ≡ one_if (nat_lt k (i + 1) && p (get_or nodes k 0))
+      one_more_bit k b here other = ap (λ (c : Bool). one_if (c && p (get_or nodes k 0))) (lower k other)
         where
           lower : (k : ℕ) → k ≢ i → nat_lt k i ≡ nat_lt k (i + 1)
           lower k other = grind (arith, nat_tests)
@@ -141,12 +141,6 @@ module _ (nodes : List ℕ) where
       ]
 
 -- what a search for a node finds
-rising : (nodes : List ℕ) → AllPairs (λ a b. a < b) nodes → (i j : ℕ) → i ≤ j → j < length nodes → get_or nodes i 0 ≤ get_or nodes j 0
-rising nodes ascending i j le inside = elim (cases_lt i j) [
-  | inl before ↦ omega (arith, ascending i j 0 before inside)
-  | inr not_before ↦ let same : i ≡ j = omega arith in rw same (omega arith)
-]
-
 pub found_alone : (nodes : List ℕ) → length nodes ≤ 64 → AllPairs (λ a b. a < b) nodes → (v i : ℕ) → i < length nodes
     → IsBinarySearchResult (λ y. nat_cmp y v) nodes (Ok i) → IsMask (λ u. v == u) nodes (1 * 2 ^ i % 2 ^ 64)
 found_alone nodes few ascending v i inside found =

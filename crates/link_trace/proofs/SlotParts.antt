@@ -1,7 +1,7 @@
 -- The part of the lines between two places holds all lines of some slots, where those outside are of others.
 use Rattle.std.proofs.Common.{◌≡◌, ℕ, zero, suc, ◌+◌, ◌-◌, ◌<◌, ◌≤◌, List, [], ◌∷◌, Bool, true, false, ◌||◌, length, get_or, take, drop, cond}
 use Rattle.std.proofs.Common.{refl, sym, ◌∙◌, ◌++◌, ap, subst, arith, inl, inr, length-drop, length-append}
-use Rattle.std.proofs.lemmas.Bool.{cases_lt}
+use Rattle.std.proofs.lemmas.Bool.{cases_lt, false_from_ne_true}
 use Rattle.std.specs.List.{filter, list_any, AllWithin}
 use Rattle.std.specs.List.Sorted.{IsPartitionPoint}
 use Rattle.std.proofs.lemmas.List.{get_or-drop, get_or-take, get_or_append_left, get_or_push, length-take}
@@ -41,10 +41,6 @@ any_some {L} q (x ∷ xs) = by (q x) (any_some q xs)
 pub same_any : {L : Type 0} (q : L → Bool) (part xs : List L) → filter q part ≡ filter q xs → list_any q part ≡ list_any q xs
 same_any q part xs same = any_some q part ∙ ap some same ∙ sym (any_some q xs)
 
-fails : (b : Bool) → (b ≡ true → ⊥) → b ≡ false
-fails true never = absurd (never refl)
-fails false never = refl
-
 part_ascends : {L : Type 0} (order : L → L → Ordering) (b n : ℕ) (xs : List L) → Ascends order xs → Ascends order (take n (drop b xs))
 part_ascends order b n xs up i j d less inside =
     let ys = drop b xs in
@@ -68,8 +64,10 @@ module _ {L : Type 0} (slot_of : L → ℕ) (first last : ℕ) (order : first �
   holds_slots lines b e ordered within before after = record {
     ascends = λ by up. part_ascends by b (e - b) lines up;
     all = λ test of. part_passes test b e lines ordered within
-        (λ k d low high. fails (test (get_or lines k d)) (λ passes. let there = of (get_or lines k d) passes in omega (arith, there.0, before k d low high)))
-        (λ k d low high. fails (test (get_or lines k d)) (λ passes. let there = of (get_or lines k d) passes in omega (arith, there.1, after k d low high)));
+        (λ k d low high. false_from_ne_true (test (get_or lines k d))
+        (λ passes. let there = of (get_or lines k d) passes in omega (arith, there.0, before k d low high)))
+        (λ k d low high. false_from_ne_true (test (get_or lines k d))
+        (λ passes. let there = of (get_or lines k d) passes in omega (arith, there.1, after k d low high)));
   }
 
 -- one more start

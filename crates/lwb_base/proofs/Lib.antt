@@ -1,1 +1,8 @@
+-- kept for the crates above
+pub mod Truths
+pub mod Options
+pub mod Orders
+pub mod Lists
+pub mod Elements
+-- for this crate alone
 mod KnownPieces

@@ -14,7 +14,7 @@ use Rattle.radio_model.specs.Stations.{MediumState, IsTime, nodes_of, after, cha
 use Rattle.radio_model.proofs.OneStation.{same_nodes}
 use Rattle.radio_model.proofs.Changes.{finished_keeps, retuned_keeps}
 use Rattle.air_log.specs.declared.entry.Entry.{Entry}
-use Rattle.air_log.proofs.Elements.{map_contains, map_from, pairs_of_map}
+use Rattle.lwb_base.proofs.Elements.{map_contains, map_from, pairs_of_map}
 use Rattle.lwb_flood.specs.declared.member.Member.{Member}
 use Rattle.lwb_flood.specs.FloodWorlds.{World, IsShape, IsHeardBy, Ended, node_of, with_change, with_act, after_own, is_last, own_ended, gone, ended}
 use Rattle.lwb_flood.specs.FloodWorlds.{heard_by_all, readings_at}

@@ -7,7 +7,7 @@ use Rattle.bus_terms.specs.Flooding.{has}
 use Rattle.radio_model.specs.declared.sending.Sending.{Sending}
 use Rattle.radio_model.specs.Hearing.{Before}
 use Rattle.air_log.specs.NodeEvents.{Event, sending_of, after, after_all, Occasion, occasions, InOrder}
-use Rattle.air_log.proofs.Elements.{not_in_none, contains_head, contains_tail, contains_cases, pairs_head, pairs_tail}
+use Rattle.lwb_base.proofs.Elements.{not_in_none, contains_head, contains_tail, contains_cases, pairs_head, pairs_tail}
 
 pub after_all_append : (s : FloodState) (es fs : List Event) → after_all s (es ++ fs) ≡ after_all (after_all s es) fs
 after_all_append s [] fs = refl

@@ -5,12 +5,11 @@ use Rattle.std.specs.Prelude.{Contains}
 use Rattle.std.proofs.lemmas.Bool.{eqb-true}
 use Rattle.radio_model.specs.declared.sending.Sending.{Sending}
 use Rattle.radio_model.specs.OnAir.{Hearing}
-use Rattle.radio_model.proofs.Members.{in_filter}
+use Rattle.lwb_base.proofs.Elements.{in_filter, contains_head, contains_tail, filter_from}
 use Rattle.air_log.specs.declared.entry.Entry.{Entry}
 use Rattle.air_log.specs.declared.entry.Entry.TheVariants.{Sent, Heard as HeardOf, Tuned}
 use Rattle.air_log.specs.Entries.{hearing_in, sendings_of, IsHeard, sending_in}
 use Rattle.air_log.specs.NodeEvents.{Event, Heard, Ended, own_ends}
-use Rattle.air_log.proofs.Elements.{contains_head, contains_tail, filter_from}
 use Rattle.lwb_flood.proofs.FloodSoFar.{event_in, events_in}
 
 -- the hearings of a node stand in the log
@@ -46,7 +45,7 @@ heard_event air u y there =
     in_filter hearing_in air e.0 (record { node = u; sending = y }) e.1 (event_hearing u e.0 y e.2)
 
 -- the ended sendings of a node stand in the log
-heard_is_not : (b : Bool) (z y : Sending) → (if b then Some (Heard z) else None) ≡ Some (Ended y) → ⊥
+pub heard_is_not : (b : Bool) (z y : Sending) → (if b then Some (Heard z) else None) ≡ Some (Ended y) → ⊥
 heard_is_not true z y is = cc
 heard_is_not false z y is = cc
 

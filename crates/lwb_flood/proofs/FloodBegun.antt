@@ -11,12 +11,11 @@ use Rattle.radio_model.specs.OnAir.{Tuning}
 use Rattle.radio_model.specs.Stations.{IsMedium, started}
 use Rattle.radio_model.proofs.Changes.{started_keeps}
 use Rattle.radio_model.proofs.OneStation.{same_nodes, changed_station, other_station}
-use Rattle.radio_model.proofs.Members.{in_filter as filter_contains}
+use Rattle.lwb_base.proofs.Elements.{in_filter as filter_contains, not_in_none}
 use Rattle.air_log.specs.declared.entry.Entry.{Entry}
 use Rattle.air_log.specs.Entries.{sending_in, sendings_of, tunings_of, IsHeard, sent_entry}
 use Rattle.air_log.specs.NodeEvents.{Event, Ended, sending_of, InOrder}
 use Rattle.air_log.specs.FloodLaw.{START, first_packet, sending_at, tuning_by}
-use Rattle.air_log.proofs.Elements.{not_in_none}
 use Rattle.lwb_flood.specs.declared.member.Act.{Act}
 use Rattle.lwb_flood.specs.declared.member.Act.TheVariants.{Listens, Waits, Sends, Off}
 use Rattle.lwb_flood.specs.declared.member.Member.{Member}

@@ -18,8 +18,8 @@ use Rattle.radio_model.specs.OnAir.{Hearing}
 use Rattle.air_log.specs.Entries.{sendings_of}
 use Rattle.air_log.specs.NodeEvents.{Event, Heard, Ended, after as after_event, after_all, own_ends}
 use Rattle.air_log.specs.FloodLaw.{FloodLaw, CLOSING, first_packet, first_flood}
-use Rattle.air_log.proofs.Elements.{not_in_none, contains_head, contains_tail, contains_cases, map_contains, map_from, Distinct}
-use Rattle.radio_model.proofs.Members.{any_of, some_of}
+use Rattle.lwb_base.proofs.Elements.{not_in_none, contains_head, contains_tail, contains_cases, map_contains, map_from, Distinct, any_of, some_of}
+use Rattle.lwb_base.proofs.Truths.{same_truth}
 use Rattle.lwb_flood.specs.declared.member.Act.{Act}
 use Rattle.lwb_flood.specs.declared.member.Act.TheVariants.{Listens, Waits, Sends, Off}
 use Rattle.lwb_flood.specs.declared.member.Member.{Member}
@@ -73,14 +73,8 @@ gone_time m v is = record {
 pub closed_time : (us : List ℕ) (w : World) → IsTime w.medium CLOSING → IsTime (closed_all us w).medium CLOSING
 closed_time us w is = closed_stays (λ (z : World). IsTime z.medium CLOSING) (λ v z time. gone_time z.medium v time) us w is
 
--- one node goes off, or it is off
-same_test : (a b : Bool) → (a ≡ true → b ≡ true) → (b ≡ true → a ≡ true) → a ≡ b
-same_test true b to from = sym (to refl)
-same_test false true to from = from refl
-same_test false false to from = refl
-
 stays_is : (ms : List Member) → Distinct (map node_of ms) → (m : Member) → Contains ms m → list_any (stays m.node) ms ≡ is_off m.act
-stays_is ms distinct m there = same_test (list_any (stays m.node) ms) (is_off m.act) itself
+stays_is ms distinct m there = same_truth (list_any (stays m.node) ms) (is_off m.act) itself
     (λ off. any_of (stays m.node) ms m there (and_from (m.node == m.node) (is_off m.act) (eq-eqb m.node m.node refl) off))
   where
     itself : list_any (stays m.node) ms ≡ true → is_off m.act ≡ true
@@ -142,7 +136,7 @@ none_then : {X : Type 0} (o : Option X) (P : X → Type 0) → o ≡ None → If
 none_then o P is = subst (λ (p : Option _). IfSome p P) (sym is) tt
 
 -- the limit of a flood stays
-kept_limit : (s : FloodState) (es : List Event) → (after_all s es).limit ≡ s.limit
+pub kept_limit : (s : FloodState) (es : List Event) → (after_all s es).limit ≡ s.limit
 kept_limit s [] = refl
 kept_limit s (Heard x ∷ es) = kept_limit (after_heard s x.packet) es ∙ limit_kept (fits s x.packet) _ _
   where

@@ -17,11 +17,10 @@ use Rattle.radio_model.specs.Stations.{IsMedium, nodes_of, station_of, finished}
 use Rattle.radio_model.specs.Holding.{as_it_stands}
 use Rattle.radio_model.proofs.Changes.{finished_keeps}
 use Rattle.radio_model.proofs.OneStation.{same_nodes, changed_station, other_station}
-use Rattle.radio_model.proofs.Members.{any_of}
+use Rattle.lwb_base.proofs.Elements.{any_of, not_in_none, contains_head, Distinct}
 use Rattle.air_log.specs.Entries.{sendings_of, tunings_of, IsHeard}
 use Rattle.air_log.specs.NodeEvents.{Event, Heard, Ended, sending_of, InOrder, after_all, Occasion}
 use Rattle.air_log.specs.FloodLaw.{START, first_packet, first_flood, sending_at}
-use Rattle.air_log.proofs.Elements.{not_in_none, contains_head, Distinct}
 use Rattle.lwb_flood.specs.declared.member.Act.{Act}
 use Rattle.lwb_flood.specs.declared.member.Act.TheVariants.{Listens, Waits, Sends, Off}
 use Rattle.lwb_flood.specs.declared.member.Member.{Member}

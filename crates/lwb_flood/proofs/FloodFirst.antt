@@ -26,7 +26,7 @@ use Rattle.radio_model.proofs.OneCall.{found_member, each_after}
 use Rattle.radio_model.proofs.Places.{first_is_medium, nodes_from}
 use Rattle.air_log.specs.NodeEvents.{InOrder}
 use Rattle.air_log.specs.FloodLaw.{OPENING, START, first_packet}
-use Rattle.air_log.proofs.Elements.{not_in_none, contains_head, contains_tail, contains_cases, map_contains, map_from}
+use Rattle.lwb_base.proofs.Elements.{not_in_none, contains_head, contains_tail, contains_cases, map_contains, map_from}
 use Rattle.lwb_flood.specs.declared.member.Act.{Act}
 use Rattle.lwb_flood.specs.declared.member.Act.TheVariants.{Listens, Waits}
 use Rattle.lwb_flood.specs.declared.member.Member.{Member}

@@ -11,7 +11,7 @@ use Rattle.radio_model.specs.OnAir.{Hearing, Tuning}
 use Rattle.radio_model.specs.Hearing.{Scene, Hears}
 use Rattle.radio_model.specs.Stations.{IsMedium, retuned}
 use Rattle.radio_model.specs.Holding.{Agree, as_it_stands}
-use Rattle.radio_model.proofs.Members.{in_filter}
+use Rattle.lwb_base.proofs.Elements.{in_filter}
 use Rattle.radio_model.proofs.OneStation.{same_nodes, changed_station, other_station}
 use Rattle.radio_model.proofs.Changes.{retuned_keeps}
 use Rattle.radio_model.proofs.Settled.{settled}

@@ -25,12 +25,13 @@ use Rattle.lwb_flood.specs.FloodWorlds.{World, act_by, hearing_by, heard}
 use Rattle.lwb_flood.proofs.EventOrder.{after_all_append}
 use Rattle.lwb_flood.proofs.EventsInLog.{heard_event}
 use Rattle.lwb_flood.proofs.FloodReplies.{fitting, ignored, left_as, taken_as, relays, keeps}
-use Rattle.lwb_flood.proofs.FloodSoFar.{events_in, running, tuned_by, sending_by, packet_with, InStep, HasCause, Stands, IsAnswered, IsMember, Runs, IsDue}
+use Rattle.lwb_flood.proofs.FloodSoFar.{events_in, running, tuned_by, sending_by, InStep, HasCause, Stands, IsAnswered, IsMember, Runs, IsDue}
 use Rattle.lwb_flood.proofs.FloodSoFar.{IsFloodSoFar}
 use Rattle.lwb_flood.proofs.HearingKept.{heard_in_range, stands_on}
 use Rattle.lwb_flood.proofs.HearingLogged.{ends_more, listens, unmoved}
 use Rattle.lwb_flood.proofs.WorldLists.{events_heard_own, occasion_more, occasion_kept, occasion_cases, in_order_push}
 use Rattle.lwb_flood.proofs.HearingLogged as HearingLogged
+use Rattle.lwb_flood.specs.TwoNodes.{packet_of}
 
 module _ (f : FloodParts) (clocks : ℕ → ℕ → ℕ) (is : HasClocks f clocks) (v : ℕ) (x : Sending) (todo : List Hearing) (leaving : List ℕ) (w : World)
     (so : IsFloodSoFar f clocks (record { node = v; sending = x } ∷ todo) leaving w) (early : w.medium.now < CLOSING) (over : Runs w x → ⊥) where
@@ -212,7 +213,7 @@ module _ (f : FloodParts) (clocks : ℕ → ℕ → ℕ) (is : HasClocks f clock
       counter_now : counter_of x.packet ≡ step_now.step
       counter_now = ap counter_of step_now.is
 
-      packet_is : packet ≡ packet_with f.start (step_now.step + 1)
+      packet_is : packet ≡ packet_of f.start (step_now.step + 1)
       packet_is = ap relay_of step_now.is
 
       lasted : x.end ≡ x.start + 32768

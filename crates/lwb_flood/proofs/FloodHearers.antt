@@ -4,14 +4,14 @@ use Rattle.std.proofs.Common.{Some, inl, inr, refl, sym, ◌∙◌, ap, subst, a
 use Rattle.std.specs.Prelude.{Contains, AllPairs, All}
 use Rattle.std.specs.List.{slice_get}
 use Rattle.std.proofs.lemmas.Bool.{cond-true, cond-false, ne_eqb}
-use Rattle.std.proofs.lemmas.List.{length-map, map_more}
+use Rattle.std.proofs.lemmas.List.{length-map, map_more, get_or_default}
 use Rattle.glossy_relay.specs.FloodState.{FloodState}
 use Rattle.glossy_relay.specs.Relaying.{after_heard, reply_to}
 use Rattle.glossy_relay.specs.declared.flood.Reply.{Reply}
 use Rattle.radio_model.specs.declared.sending.Sending.{Sending}
 use Rattle.radio_model.specs.Stations.{nodes_of}
 use Rattle.std.proofs.lemmas.Option.{slice_get_within, get_or_from_slice_get}
-use Rattle.air_log.proofs.Elements.{contains_cases, contains_head, contains_tail, not_in_none, map_contains, pairs_head, pairs_tail, Distinct}
+use Rattle.lwb_base.proofs.Elements.{contains_cases, contains_head, contains_tail, not_in_none, map_contains, pairs_head, pairs_tail, Distinct}
 use Rattle.lwb_flood.specs.declared.member.Act.{Act}
 use Rattle.lwb_flood.specs.declared.member.Member.{Member}
 use Rattle.lwb_flood.specs.FloodWorlds.{World, IsShape, node_of, with_change, hearing_by, act_by, heard, heard_by_all, readings_at, is_last}
@@ -68,11 +68,6 @@ hearing_is clock x m flood reply act flood_is reply_is act_is =
     ∙ ap (λ (a : Act). record { node = m.node; flood = after_heard m.flood x.packet; act = a })
     (act_is ∙ ap (λ (r : Reply). act_by clock x.end r m.act) reply_is)
 
-same_at : (ms : List Member) (k : ℕ) (d e : Member) → k < length ms → get_or ms k d ≡ get_or ms k e
-same_at [] k d e below = absurd (omega arith)
-same_at (m ∷ ms) zero d e below = refl
-same_at (m ∷ ms) (suc k) d e below = same_at ms k d e (omega arith)
-
 pub heard_at : (clock : ℕ → ℕ) (x : Sending) (ms : List Member) (i : ℕ) (m : Member) (flood : FloodState) (reply : Reply) (act : Act) → Ascend ms
     → i < length ms → m ≡ get_or ms i m
     → flood ≡ after_heard m.flood x.packet → reply ≡ reply_to m.flood x.packet → act ≡ act_by clock x.end reply m.act
@@ -80,7 +75,7 @@ pub heard_at : (clock : ℕ → ℕ) (x : Sending) (ms : List Member) (i : ℕ) 
     (hearing_by clock x) ms
 heard_at clock x ms i m flood reply act ascend below at flood_is reply_is act_is d =
     set_is_change (hearing_by clock x) ms ascend (get_or ms i d).node i m (record { node = m.node; flood = flood; act = act }) below at
-    (λ e. ap node_of (same_at ms i e d below)) (hearing_is clock x m flood reply act flood_is reply_is act_is)
+    (λ e. ap node_of (get_or_default ms i e d below)) (hearing_is clock x m flood reply act flood_is reply_is act_is)
 
 -- one more hears
 pub heard_push : (clocks : ℕ → ℕ → ℕ) (x : Sending) (vs : List ℕ) (v : ℕ) (w : World)

@@ -4,17 +4,16 @@ use Rattle.std.proofs.Common.{Some, None, inl, inr, refl, sym, ◌∙◌, ap, su
 use Rattle.std.specs.Prelude.{Contains, All, IfSome}
 use Rattle.std.proofs.lemmas.Bool.{cond-true, cond-false, cond_both, eqb-true}
 use Rattle.std.proofs.lemmas.List.Elements.{filter_map-append}
-use Rattle.std.proofs.lemmas.List.{length-append, append-nil}
+use Rattle.std.proofs.lemmas.List.{length-append, append-nil, get_or_default}
 use Rattle.lwb_base.specs.Profile.{one}
 use Rattle.glossy_relay.specs.FloodState.{FloodState}
-use Rattle.glossy_relay.specs.Relaying.{fits, after_heard, counter_of, first_of}
 use Rattle.scenario_text.specs.FloodParts.{FloodParts}
 use Rattle.bus_terms.specs.FloodOfText.{ids}
 use Rattle.radio_model.specs.declared.sending.Sending.{Sending}
 use Rattle.radio_model.specs.Stations.{nodes_of}
 use Rattle.air_log.specs.FloodLaw.{CLOSING, first_flood, sending_at}
-use Rattle.air_log.specs.NodeEvents.{Event, Heard, Ended, after, after_all, own_end, own_ends}
-use Rattle.air_log.proofs.Elements.{Distinct}
+use Rattle.air_log.specs.NodeEvents.{Event, Ended, own_end, own_ends}
+use Rattle.lwb_base.proofs.Elements.{Distinct}
 use Rattle.lwb_flood.specs.declared.member.Act.{Act}
 use Rattle.lwb_flood.specs.declared.member.Act.TheVariants.{Listens, Waits, Sends, Off}
 use Rattle.lwb_flood.specs.declared.member.Member.{Member}
@@ -22,7 +21,7 @@ use Rattle.lwb_flood.specs.FloodLog.{HasClocks}
 use Rattle.lwb_flood.specs.FloodWorlds.{World, IsShape, node_of, first_world, moment_of, NotAfter, IsNext, begun, own_ended, gone, ended, heard, heard_by_all}
 use Rattle.lwb_flood.specs.FloodWorlds.{is_last, after_own, CanStep, Stepped, Ended as EndedTo, IsHeardBy}
 use Rattle.lwb_flood.proofs.FloodBegun.{begun_keeps}
-use Rattle.lwb_flood.proofs.FloodClosing.{IsClosing, starts_early, ends_early}
+use Rattle.lwb_flood.proofs.FloodClosing.{IsClosing, starts_early, ends_early, kept_limit}
 use Rattle.lwb_flood.proofs.FloodEnded.{own_ended_keeps}
 use Rattle.lwb_flood.proofs.FloodFirst.{first_keeps}
 use Rattle.lwb_flood.proofs.FloodGone.{gone_keeps}
@@ -32,7 +31,6 @@ use Rattle.lwb_flood.proofs.FloodMeasure.{started, remaining, begun_less, ended_
 use Rattle.lwb_flood.proofs.FloodOpening.{at_first, opened_is, sound_nodes, first_shape}
 use Rattle.lwb_flood.proofs.FloodShapes.{begun_shape, own_ended_shape, gone_shape, heard_shape}
 use Rattle.lwb_flood.proofs.FloodSoFar.{IsFloodSoFar, IsMember, IsWaiting, IsSending, running, scene, events_in}
-use Rattle.lwb_flood.proofs.FloodSteps.{same_at}
 use Rattle.lwb_flood.proofs.NodeGone.{ended_over}
 use Rattle.lwb_flood.proofs.NodesAndStations.{one_member, old_lasts}
 use Rattle.lwb_flood.proofs.SendingBegun.{begun_time}
@@ -40,16 +38,6 @@ use Rattle.lwb_flood.proofs.SendingOver.{heard_at, own_node, own_waits, own_runs
 use Rattle.lwb_flood.proofs.TunedWindows.{sent_among}
 use Rattle.lwb_flood.proofs.WorldLists.{changed_there, each_changed}
 use Rattle.lwb_flood.proofs.FloodClocks.{heard_by_same}
-
--- a flood keeps its limit, and counts what it has sent
-heard_limit : (s : FloodState) (p : List ℕ) → (after_heard s p).limit ≡ s.limit
-heard_limit s p = cond_both (fits s p) (record s { waiting = Rattle.std.proofs.Common.nat_lt (counter_of p) 11; first = first_of s.first p }) s
-    (λ (f : FloodState). f.limit ≡ s.limit) (λ _. refl) (λ _. refl)
-
-limit_among : (s : FloodState) (es : List Event) → (after_all s es).limit ≡ s.limit
-limit_among s [] = refl
-limit_among s (Heard x ∷ es) = limit_among (after s (Heard x)) es ∙ heard_limit s x.packet
-limit_among s (Ended x ∷ es) = limit_among (after s (Ended x)) es
 
 first_is : (f : FloodParts) (v : ℕ) → ((first_flood f v).limit ≡ f.sends) × ((first_flood f v).sent ≡ 0)
 first_is f v = cond_both (nat_eq f.start v) _ _ (λ (s : FloodState). (s.limit ≡ f.sends) × (s.sent ≡ 0)) (λ _. (refl, refl)) (λ _. (refl, refl))
@@ -86,7 +74,7 @@ module _ (f : FloodParts) (clocks : ℕ → ℕ → ℕ) (has : HasClocks f cloc
     counted =
         let first = first_is f m.node in (
           omega (arith, ap (λ (s : FloodState). s.sent) member.flood, sent_among (first_flood f m.node) member.past, first.1),
-          ap (λ (s : FloodState). s.limit) member.flood ∙ limit_among (first_flood f m.node) member.past ∙ first.0,
+          ap (λ (s : FloodState). s.limit) member.flood ∙ kept_limit (first_flood f m.node) member.past ∙ first.0,
         )
 
     begun_so_far : started w.air m.node ≡ length (own_ends (member.past ++ running m.act))
@@ -140,7 +128,7 @@ module _ (f : FloodParts) (clocks : ℕ → ℕ → ℕ) (has : HasClocks f cloc
         held = (scene f w, is.so.holds, refl);
         waits = λ k d below same.
             let n : Member = get_or w.members k d in
-            let in_it : Contains w.members n = (k, below, same_at w.members k n d below) in
+            let in_it : Contains w.members n = (k, below, get_or_default w.members k n d below) in
             let one : n ≡ m = one_member f clocks has [] [] w medium is.so n m in_it there (same ∙ node) in
             ap (λ (z : Member). z.flood.waiting) one ∙ own_waits f clocks has w medium is.so m there x act next;
         early = omega (arith, early_end);
@@ -205,11 +193,11 @@ module _ (f : FloodParts) (clocks : ℕ → ℕ → ℕ) (has : HasClocks f cloc
 
             only : (u : ℕ) → Contains (if is_last x.node w.members then x.node ∷ [] else []) u → u ≡ m.node
             only u = cond_both (is_last x.node w.members) (x.node ∷ []) [] (λ (l : List ℕ). Contains l u → u ≡ m.node)
-                (λ _ in_it. elim (Rattle.air_log.proofs.Elements.contains_cases x.node [] u in_it) [
+                (λ _ in_it. elim (Rattle.lwb_base.proofs.Elements.contains_cases x.node [] u in_it) [
                   | inl same ↦ sym same ∙ node
-                  | inr none ↦ absurd (Rattle.air_log.proofs.Elements.not_in_none u none)
+                  | inr none ↦ absurd (Rattle.lwb_base.proofs.Elements.not_in_none u none)
                 ])
-                (λ _ in_it. absurd (Rattle.air_log.proofs.Elements.not_in_none u in_it))
+                (λ _ in_it. absurd (Rattle.lwb_base.proofs.Elements.not_in_none u in_it))
 
         left_off : IsFloodSoFar f clocks (map (heard_at x) vs) [] (ended x w) × IsShape (ended x w) × ((ended x w).medium.now < CLOSING)
         left_off = by_last (is_last x.node w.members) refl

@@ -10,7 +10,7 @@ use Rattle.glossy_relay.specs.Relaying.{fits, after_heard, first_of, counter_of}
 use Rattle.radio_model.specs.declared.sending.Sending.{Sending}
 use Rattle.air_log.specs.declared.entry.Entry.{Entry}
 use Rattle.air_log.specs.NodeEvents.{Event, Heard, Ended, own_end, own_ends}
-use Rattle.air_log.proofs.Elements.{not_in_none, contains_head, contains_tail, contains_cases}
+use Rattle.lwb_base.proofs.Elements.{not_in_none, contains_head, contains_tail, contains_cases}
 use Rattle.lwb_flood.specs.declared.member.Act.TheVariants.{Sends, Off}
 use Rattle.lwb_flood.specs.declared.member.Member.{Member}
 use Rattle.lwb_flood.specs.FloodWorlds.{World, changed_at, with_change, with_act, after_own, hearing_by, tuned_entry, begun, own_ended, gone, ended, heard}

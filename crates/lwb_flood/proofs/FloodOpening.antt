@@ -18,7 +18,7 @@ use Rattle.radio_model.proofs.Changes.{retuned_keeps}
 use Rattle.radio_model.proofs.OneStation.{same_nodes}
 use Rattle.radio_model.proofs.TunedStations.{sends_still}
 use Rattle.air_log.specs.FloodLaw.{OPENING}
-use Rattle.air_log.proofs.Elements.{not_in_none, contains_cases, map_from, pairs_of_map}
+use Rattle.lwb_base.proofs.Elements.{not_in_none, contains_cases, map_from, pairs_of_map}
 use Rattle.lwb_flood.specs.FloodWorlds.{opened, first_member, first_world, IsShape, node_of as member_node}
 
 -- nobody sends yet

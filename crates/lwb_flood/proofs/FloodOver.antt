@@ -5,6 +5,7 @@ use Rattle.std.specs.Prelude.{Contains, AllPairs}
 use Rattle.std.specs.List.{cons_option}
 use Rattle.std.proofs.lemmas.Bool.{cond-true}
 use Rattle.std.proofs.lemmas.List.{append-nil}
+use Rattle.std.proofs.lemmas.Option.{same_Some}
 use Rattle.lwb_base.specs.Profile.{one}
 use Rattle.link_trace.specs.Masks.{AreNodes}
 use Rattle.tick_clock.specs.Clocks.{due}
@@ -17,7 +18,7 @@ use Rattle.radio_model.specs.Hearing.{Scene, Hears}
 use Rattle.radio_model.specs.Stations.{nodes_of, station_of, node_of as station_node}
 use Rattle.radio_model.specs.Holding.{lasting, lasting_at}
 use Rattle.radio_model.specs.declared.station.Tuned.{Tuned as TunedTo}
-use Rattle.radio_model.proofs.Members.{in_filter}
+use Rattle.lwb_base.proofs.Elements.{in_filter, not_in_none, contains_head, contains_tail, map_contains, map_from, filter_from}
 use Rattle.radio_model.proofs.OneCall.{found_member}
 use Rattle.air_log.specs.declared.entry.Entry.{Entry}
 use Rattle.air_log.specs.declared.entry.Entry.TheVariants.{Sent, Heard as HeardOf, Tuned}
@@ -25,17 +26,16 @@ use Rattle.air_log.specs.Entries.{sending_in, hearing_in, tuning_in, sendings_of
 use Rattle.air_log.specs.HearsAir.{HearsAir}
 use Rattle.air_log.specs.NodeEvents.{Event, Heard, Ended, InOrder, occasions}
 use Rattle.air_log.specs.FloodLaw.{FloodLaw, first_flood, AreEventsOf, IsRelay, START, first_packet, sending_at, Lasts, tuning_by}
-use Rattle.air_log.proofs.Elements.{not_in_none, contains_head, contains_tail, map_contains, map_from, filter_from}
 use Rattle.lwb_flood.specs.declared.member.Act.{Act}
 use Rattle.lwb_flood.specs.declared.member.Act.TheVariants.{Off}
 use Rattle.lwb_flood.specs.declared.member.Member.{Member}
 use Rattle.lwb_flood.specs.FloodLog.{HasClocks}
 use Rattle.lwb_flood.specs.FloodWorlds.{World, node_of}
 use Rattle.lwb_flood.proofs.ActsTold.{waits_off, sends_off}
-use Rattle.lwb_flood.proofs.EventsInLog.{ended_event, heard_event}
+use Rattle.lwb_flood.proofs.EventsInLog.{ended_event, heard_event, heard_is_not}
 use Rattle.lwb_flood.proofs.FloodOpening.{sound_nodes}
 use Rattle.lwb_flood.proofs.FloodSoFar.{scene, standing, event_in, events_in, running, tuned_by, IsGone, Stands, Runs, IsSettled, IsFloodSoFar}
-use Rattle.lwb_flood.proofs.LogEntries.{known_there, some_same}
+use Rattle.lwb_flood.proofs.LogEntries.{known_there}
 
 -- the events of a node and the entries of the log
 heard_of : (e : Entry) (v : ℕ) (x : Sending) → hearing_in e ≡ Some (record { node = v; sending = x }) → event_in v e ≡ Some (Heard x)
@@ -45,13 +45,13 @@ heard_of (HeardOf h) v x is =
       node = h.node;
       sending = record { rank = h.rank; node = h.from; start = h.start; end = h.end; packet = h.packet };
     } in a ≡ record { node = v; sending = x }) =
-    some_same _ _ is in
+    same_Some _ _ is in
     cond-true (h.node == v) _ _ (eq-eqb h.node v (ap (λ (a : Hearing). a.node) same)) ∙ ap (λ (a : Hearing). Some (Heard a.sending)) same
 heard_of (Tuned t) v x is = absurd (cc)
 
 ended_of : (e : Entry) (x : Sending) → sending_in e ≡ Some x → event_in x.node e ≡ Some (Ended x)
 ended_of (Sent s) x is =
-    let same : (let a : Sending = record { rank = s.rank; node = s.node; start = s.start; end = s.end; packet = s.packet } in a ≡ x) = some_same _ _ is in
+    let same : (let a : Sending = record { rank = s.rank; node = s.node; start = s.start; end = s.end; packet = s.packet } in a ≡ x) = same_Some _ _ is in
     cond-true (s.node == x.node) _ _ (eq-eqb s.node x.node (ap (λ (a : Sending). a.node) same)) ∙ ap (λ (a : Sending). Some (Ended a)) same
 ended_of (HeardOf h) x is = absurd (cc)
 ended_of (Tuned t) x is = absurd (cc)
@@ -60,14 +60,11 @@ node_if : (n v : ℕ) (b : Bool) (z x : Sending) → (b ≡ true → n ≡ v) �
 node_if n v true z x at own is = let same : z ≡ x = cc in ap (λ (a : Sending). a.node) (sym same) ∙ own ∙ at refl
 node_if n v false z x at own is = absurd (cc)
 
-not_ended : (b : Bool) (z x : Sending) → (if b then Some (Heard z) else None) ≡ Some (Ended x) → ⊥
-not_ended true z x is = cc
-not_ended false z x is = cc
-
 ended_node : (e : Entry) (v : ℕ) (x : Sending) → event_in v e ≡ Some (Ended x) → x.node ≡ v
 ended_node (Sent s) v x is = node_if s.node v (s.node == v)
     (record { rank = s.rank; node = s.node; start = s.start; end = s.end; packet = s.packet }) x (λ same. eqb-true s.node v same) refl is
-ended_node (HeardOf h) v x is = absurd (not_ended (h.node == v) (record { rank = h.rank; node = h.from; start = h.start; end = h.end; packet = h.packet }) x is)
+ended_node (HeardOf h) v x is =
+    absurd (heard_is_not (h.node == v) (record { rank = h.rank; node = h.from; start = h.start; end = h.end; packet = h.packet }) x is)
 ended_node (Tuned t) v x is = absurd (cc)
 
 -- no tuning lasts
@@ -98,7 +95,7 @@ module _ (f : FloodParts) (clocks : ℕ → ℕ → ℕ) (has : HasClocks f cloc
       let m = map_from node_of w.members st.node
       (subst (λ (l : List ℕ). Contains l st.node) (so.stations ∙ sym so.nodes) (map_contains station_node w.medium.stations st there)) in
       let each = so.each m.0 m.1 in
-      let same : each.station ≡ st = some_same each.station st
+      let same : each.station ≡ st = same_Some each.station st
       (sym each.found ∙ ap (station_of w.medium) m.2 ∙ found_member w.medium.stations st ascending there) in
       ap (λ (s : Station). s.tuned) (sym same) ∙ each.tuned ∙ ap tuned_by (off m.0 m.1)
     where

@@ -21,11 +21,12 @@ use Rattle.air_log.specs.Entries.{sendings_of, tunings_of, IsHeard}
 use Rattle.air_log.specs.HearsAir.{scene_of}
 use Rattle.air_log.specs.NodeEvents.{Event, Heard, Ended, sending_of, InOrder, after_all, occasions}
 use Rattle.air_log.specs.FloodLaw.{OPENING, START, CLOSING, first_packet, first_flood, sending_at, Lasts, tuning_by}
-use Rattle.air_log.proofs.Elements.{Distinct}
+use Rattle.lwb_base.proofs.Elements.{Distinct}
 use Rattle.lwb_flood.specs.declared.member.Act.{Act}
 use Rattle.lwb_flood.specs.declared.member.Act.TheVariants.{Listens, Waits, Sends, Off}
 use Rattle.lwb_flood.specs.declared.member.Member.{Member}
 use Rattle.lwb_flood.specs.FloodWorlds.{World, node_of}
+use Rattle.lwb_flood.specs.TwoNodes.{packet_of}
 
 abbrev pub scene : FloodParts → World → Scene
 scene f w = scene_of one f.trace w.air
@@ -63,14 +64,11 @@ sending_by (Waits t packet) = None
 sending_by (Sends x) = Some x
 sending_by Off = None
 
-abbrev pub packet_with : ℕ → ℕ → List ℕ
-packet_with start k = 2 ∷ 1 ∷ k ∷ start ∷ 1 ∷ 0 ∷ 0 ∷ 0 ∷ []
-
 -- a packet of the flood that starts in its step, but for a tick for each relay
 pub record InStep (f : FloodParts) (t : ℕ) (packet : List ℕ) : Type 0 where
   pub step : ℕ
   pub small : step ≤ 11
-  pub is : packet ≡ packet_with f.start step
+  pub is : packet ≡ packet_of f.start step
   pub near : Near t (START + step * 45056) step
 
 -- why a node sends it at that tick: it starts the flood, or its flood answered a hearing with the packet

@@ -1,10 +1,10 @@
 -- The next step of a flood's world, as the code takes it.
-use Rattle.std.proofs.Common.{◌≡◌, ℕ, zero, suc, ◌<◌, List, [], ◌∷◌, length, get_or, refl, sym, ◌∙◌, ap, subst, arith}
+use Rattle.std.proofs.Common.{◌≡◌, ℕ, ◌<◌, List, length, get_or, sym, ◌∙◌, ap, subst, arith}
 use Rattle.std.specs.Prelude.{Contains}
 use Rattle.link_trace.specs.Passes.{Lines}
 use Rattle.radio_model.specs.declared.sending.Sending.{Sending}
 use Rattle.radio_model.specs.Stations.{nodes_of}
-use Rattle.air_log.proofs.Elements.{map_contains}
+use Rattle.lwb_base.proofs.Elements.{map_contains}
 use Rattle.lwb_flood.specs.declared.member.Act.TheVariants.{Sends}
 use Rattle.lwb_flood.specs.declared.member.Member.{Member}
 use Rattle.lwb_flood.specs.FloodWorlds.{World, IsShape, node_of, CanStep, CanEnd}
@@ -25,8 +25,3 @@ module _ (inside old : World) (shape : IsShape inside) (view : inside ≡ old) (
 
   pub node_at : Contains (nodes_of old.medium) m.node
   node_at = subst (λ (l : List ℕ). Contains l m.node) (shape.nodes ∙ ap (λ (w : World). nodes_of w.medium) view) (map_contains node_of inside.members m there)
-
-pub same_at : (ms : List Member) (k : ℕ) (d e : Member) → k < length ms → get_or ms k d ≡ get_or ms k e
-same_at [] k d e below = absurd (omega arith)
-same_at (m ∷ ms) zero d e below = refl
-same_at (m ∷ ms) (suc k) d e below = same_at ms k d e (omega arith)

@@ -7,11 +7,10 @@ use Rattle.radio_model.specs.declared.sending.Sending.{Sending}
 use Rattle.radio_model.specs.OnAir.{Hearing, Tuning}
 use Rattle.radio_model.specs.Hearing.{Scene, Hears}
 use Rattle.radio_model.specs.Holding.{as_it_stands}
-use Rattle.radio_model.proofs.Members.{in_filter}
+use Rattle.lwb_base.proofs.Elements.{in_filter, contains_head, contains_tail, contains_cases}
 use Rattle.air_log.specs.Entries.{hearing_in, sendings_of, tunings_of, IsHeard, heard_entry}
 use Rattle.air_log.specs.NodeEvents.{Event, Occasion, occasions, own_ends}
 use Rattle.air_log.specs.FloodLaw.{START, CLOSING, first_packet, first_flood, tuning_by, sending_at}
-use Rattle.air_log.proofs.Elements.{contains_head, contains_tail, contains_cases}
 use Rattle.lwb_flood.specs.declared.member.Act.{Act}
 use Rattle.lwb_flood.specs.declared.member.Act.TheVariants.{Listens, Waits, Sends, Off}
 use Rattle.lwb_flood.specs.declared.member.Member.{Member}

@@ -15,7 +15,7 @@ use Rattle.radio_model.specs.Hearing.{Hears}
 use Rattle.air_log.specs.Entries.{sendings_of, hearings_of, tunings_of, IsHeard}
 use Rattle.air_log.specs.NodeEvents.{Event, Heard, Occasion, occasions, own_end, own_ends}
 use Rattle.air_log.specs.FloodLaw.{OPENING, CLOSING, tuning_by}
-use Rattle.air_log.proofs.Elements.{contains_head}
+use Rattle.lwb_base.proofs.Elements.{contains_head}
 use Rattle.lwb_flood.specs.declared.member.Act.{Act}
 use Rattle.lwb_flood.specs.declared.member.Act.TheVariants.{Listens, Waits, Sends, Off}
 use Rattle.lwb_flood.specs.declared.member.Member.{Member}

@@ -3,6 +3,8 @@ pub mod NodeClocks
 pub mod RuleInRun
 pub mod Slots
 pub mod WholeFlood
+pub mod LogEntries
+pub mod SendingTimes
 -- for this crate alone
 mod ActsTold
 mod ClosingLoop
@@ -32,7 +34,6 @@ mod FloodReplies
 mod FloodShapes
 mod FloodSoFar
 mod FloodSteps
-mod LogEntries
 mod LogOutcome
 mod LogReading
 mod MemberPlaces
@@ -42,7 +43,6 @@ mod NextSteps
 mod NodesAndStations
 mod SendingCauses
 mod SendingCounts
-mod SendingTimes
 mod Stations
 mod StepsOnAir
 mod StepHearings

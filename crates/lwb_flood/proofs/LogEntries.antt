@@ -4,6 +4,7 @@ use Rattle.std.proofs.Common.{eq-eqb, eqb-true}
 use Rattle.std.specs.Prelude.{Contains, ◌≢◌, AllPairs}
 use Rattle.std.proofs.lemmas.Bool.{or_left, or_right, eqb-true}
 use Rattle.std.proofs.lemmas.List.{length-set}
+use Rattle.std.proofs.lemmas.Option.{same_Some}
 use Rattle.glossy_relay.specs.Relaying.{counter_of}
 use Rattle.scenario_text.specs.FloodParts.{FloodParts, knows}
 use Rattle.scenario_text.specs.declared.lines.NodeLine.{NodeLine}
@@ -12,16 +13,14 @@ use Rattle.bus_terms.specs.FloodOfText.{ids}
 use Rattle.air_log.specs.declared.entry.Entry.{Entry}
 use Rattle.air_log.specs.declared.entry.Entry.TheVariants.{Sent, Heard as HeardOf, Tuned}
 use Rattle.radio_model.specs.declared.sending.Sending.{Sending}
-use Rattle.air_log.specs.Entries.{sendings_of, hearings_of, sending_in, node_of}
+use Rattle.air_log.specs.Entries.{sendings_of, hearings_of, sending_in}
 use Rattle.air_log.specs.NodeEvents.{Heard}
 use Rattle.air_log.specs.FloodLaw.{FloodLaw, first_flood}
-use Rattle.air_log.proofs.Elements.{not_in_none, contains_cases, filter_from, filter_distinct, map_from, pairs_head, pairs_tail, Distinct, map_contains}
+use Rattle.air_log.proofs.LoggedEntries.{sending_node}
+use Rattle.lwb_base.proofs.Elements.{not_in_none, contains_cases, filter_from, filter_distinct, map_from, pairs_head, pairs_tail, Distinct, map_contains}
+use Rattle.lwb_base.proofs.Elements.{some_of}
 use Rattle.glossy_relay.proofs.CountedPackets.{counter_set, fitting_long, relayed_parts}
-use Rattle.radio_model.proofs.Members.{some_of}
 use Rattle.lwb_flood.proofs.SendingTimes.{occasion_event}
-
-pub some_same : {X : Type 0} (x y : X) → Some x ≡ Some y → x ≡ y
-some_same x y is = cc
 
 -- a sending tells its entry
 entry_of : (x : Sending) → Entry
@@ -29,24 +28,12 @@ entry_of x = Sent (record { rank = x.rank; node = x.node; start = x.start; end =
 
 entry_from : (e : Entry) (x : Sending) → sending_in e ≡ Some x → e ≡ entry_of x
 unfolding entry_of
-entry_from (Sent s) x is = ap entry_of (some_same (record { rank = s.rank; node = s.node; start = s.start; end = s.end; packet = s.packet }) x is)
+entry_from (Sent s) x is = ap entry_of (same_Some (record { rank = s.rank; node = s.node; start = s.start; end = s.end; packet = s.packet }) x is)
 entry_from (HeardOf h) x is = absurd (cc)
 entry_from (Tuned t) x is = absurd (cc)
 
 pub sendings_distinct : (air : List Entry) → AllPairs (λ d e. d ≢ e) air → Distinct (sendings_of air)
 sendings_distinct air once = filter_distinct sending_in (λ d e x at_d at_e. entry_from d x at_d ∙ sym (entry_from e x at_e)) air once
-
--- the node of a sending is that of its entry
-sender_of : (e : Entry) (x : Sending) → sending_in e ≡ Some x → node_of e ≡ x.node
-sender_of (Sent s) x is = ap (λ (y : Sending). y.node) (some_same (record {
-  rank = s.rank;
-  node = s.node;
-  start = s.start;
-  end = s.end;
-  packet = s.packet;
-}) x is)
-sender_of (HeardOf h) x is = absurd (cc)
-sender_of (Tuned t) x is = absurd (cc)
 
 -- the ids of nodes
 pub ids_known : (nodes : List NodeLine) (v : ℕ) → has (ids nodes) v ≡ knows nodes v
@@ -73,7 +60,7 @@ module _ (f : FloodParts) (clocks : ℕ → ℕ → ℕ) (air : List Entry) (law
   pub sender_known : (x : Sending) → Contains (sendings_of air) x → knows f.nodes x.node ≡ true
   sender_known x there =
       let e = filter_from sending_in air x there in
-      subst (λ (v : ℕ). knows f.nodes v ≡ true) (sender_of e.0 x e.2) (law.known e.0 e.1)
+      subst (λ (v : ℕ). knows f.nodes v ≡ true) (sending_node e.0 x e.2) (law.known e.0 e.1)
 
   -- what was heard was sent
   pub heard_was_sent : (v : ℕ) (x : Sending) → Contains (hearings_of air) (record { node = v; sending = x }) → Contains (sendings_of air) x

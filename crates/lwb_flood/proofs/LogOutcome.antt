@@ -20,7 +20,7 @@ use Rattle.air_log.specs.FloodLaw.{FloodLaw}
 use Rattle.lwb_flood.specs.FloodRun.{Run, HearsIn, takes_part, counter, begins, packet}
 use Rattle.lwb_flood.specs.FloodBySteps.{IsFloodBySteps}
 use Rattle.lwb_flood.specs.FloodLog.{HasClocks, run_of, HasSent, HasHeard, HeardFirst, IsAcceptance, accepting}
-use Rattle.air_log.proofs.Elements.{filter_same}
+use Rattle.lwb_base.proofs.Elements.{filter_same}
 use Rattle.lwb_flood.proofs.FloodLogRun.{Tuned, here_of, start_begins, log_times, log_run}
 use Rattle.lwb_flood.proofs.LogEntries.{known_of, ids_distinct, sendings_distinct, heard_was_sent, lasting}
 use Rattle.lwb_flood.proofs.SendingCounts.{count}

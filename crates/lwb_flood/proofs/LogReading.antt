@@ -17,13 +17,11 @@ use Rattle.scenario_text.specs.FloodParts.{FloodParts}
 use Rattle.scenario_text.specs.declared.lines.NodeLine.{NodeLine}
 use Rattle.bus_terms.specs.Flooding.{Setting, moment, sendings, steps}
 use Rattle.bus_terms.specs.FloodOfText.{ids}
-use Rattle.air_log.proofs.Elements.{not_in_none}
+use Rattle.lwb_base.proofs.Elements.{not_in_none}
+use Rattle.lwb_base.proofs.Truths.{one_if}
 use Rattle.lwb_flood.specs.FloodLog.{IsAcceptance, accepting}
 use Rattle.lwb_flood.specs.declared.flood_outcome.FirstHearing.{FirstHearing}
 use Rattle.lwb_flood.specs.LogReading.{EndsFirst, IsFirst, AreFirst, kept_of, hearing_of, earlier, with_earlier, step_of}
-
-abbrev pub one_if : Bool → ℕ
-one_if b = if b then 1 else 0
 
 -- one entry more
 entry_at : (air : List Entry) (i : ℕ) → i < length air → (e : Entry) × (slice_get air i ≡ Some e) × (take (i + 1) air ≡ take i air ++ e ∷ [])

@@ -1,8 +1,9 @@
 -- The node that is the next to do something.
-use Rattle.std.proofs.Common.{◌≡◌, ◌<◌, ◌+◌, ℕ, zero, suc, List, [], ◌∷◌, length, get_or, Bool, true, false, not, ◌&&◌, ◌||◌, ◌==◌, nat_lt, Option, Some, None}
+use Rattle.std.proofs.Common.{◌≡◌, ◌<◌, ◌+◌, ℕ, List, length, get_or, Bool, true, false, not, ◌&&◌, ◌==◌, nat_lt, Option, Some, None}
 use Rattle.std.proofs.Common.{inl, inr, refl, sym, ◌∙◌, ap, subst, arith}
 use Rattle.std.specs.Prelude.{IfSome}
-use Rattle.std.proofs.lemmas.Bool.{cases_lt, cond_both, or_cases, and_parts, ltb-true, eqb-true, ltb-false, eq-eqb}
+use Rattle.std.proofs.lemmas.Bool.{cases_lt, cond_both, or_cases, and_parts, ltb-true, eqb-true, ltb-false, eq-eqb, or_parts}
+use Rattle.std.proofs.lemmas.List.{get_or_default}
 use Rattle.lwb_flood.specs.declared.member.Member.{Member}
 use Rattle.lwb_flood.specs.FloodWorlds.{moment_of, NotAfter, comes_before, sooner, IsNext}
 
@@ -35,17 +36,13 @@ starts_after true y is up = refl
 starts_after false true is up = sym is
 starts_after false false is up = up
 
-rest_false : (x y : Bool) → (x || y) ≡ false → (x ≡ false) × (y ≡ false)
-rest_false true y is = cc
-rest_false false y is = (refl, is)
-
 and_false : (x y : Bool) → (x && y) ≡ false → x ≡ true → y ≡ false
 and_false true y is up = is
 and_false false y is up = cc
 
 not_before_after : (a b : ℕ × Bool) → comes_before a b ≡ false → NotAfter b a
 not_before_after a b is =
-    let both = rest_false (nat_lt a.0 b.0) _ is in
+    let both = or_parts (nat_lt a.0 b.0) _ is in
     let above = ltb-false a.0 b.0 both.0 in
     elim (cases_lt b.0 a.0) [
       | inl less ↦ inl less
@@ -97,16 +94,11 @@ first_more ms i (Some n) (Some m) at is =
 pub is_next : (ms : List Member) (n : ℕ × ℕ × Bool) → IsFirst ms (length ms) (Some n) → (d : Member) → IsNext ms (get_or ms n.0 d)
 is_next ms n is d = record { moment = (n.1, n.2); own = is.1 d; first = λ k e less. is.2 k e less }
 
-same_at : (ms : List Member) (k : ℕ) (d e : Member) → k < length ms → get_or ms k d ≡ get_or ms k e
-same_at [] k d e below = absurd (omega arith)
-same_at (m ∷ ms) zero d e below = refl
-same_at (m ∷ ms) (suc k) d e below = same_at ms k d e (omega arith)
-
 pub first_with : (ms : List Member) (i : ℕ) (m : Member) (next result : Option (ℕ × ℕ × Bool)) → i < length ms → m ≡ get_or ms i m → IsFirst ms i next
     → result ≡ sooner next i (moment_of m.act) → IsFirst ms (i + 1) result
 first_with ms i m next result below at is same =
     subst (IsFirst ms (i + 1)) (sym same)
-    (first_more ms i next (moment_of m.act) (λ d. ap (λ (n : Member). moment_of n.act) (same_at ms i d m below ∙ sym at)) is)
+    (first_more ms i next (moment_of m.act) (λ d. ap (λ (n : Member). moment_of n.act) (get_or_default ms i d m below ∙ sym at)) is)
 
 pub next_is : (ms ys : List Member) (i : ℕ) (next : Option (ℕ × ℕ × Bool)) (n : ℕ × ℕ × Bool) → ys ≡ ms → i ≡ length ys → IsFirst ys i next
     → next ≡ Some n → (n.0 < length ms) × ((d : Member) → IsNext ms (get_or ms n.0 d))

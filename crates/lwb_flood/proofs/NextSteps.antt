@@ -11,8 +11,9 @@ use Rattle.bus_terms.specs.Flooding.{Setting, Moment, has, hears, first_heard, n
 use Rattle.radio_model.specs.declared.sending.Sending.{Sending}
 use Rattle.air_log.specs.NodeEvents.{Event, Heard, Ended, sending_of, after, InOrder}
 use Rattle.lwb_flood.specs.FloodRun.{counter, Run, FloodRun, sending_at, initiates, takes_part, packet, begins, HearsIn}
-use Rattle.air_log.proofs.Elements.{not_in_none, contains_head, contains_tail, contains_cases}
-use Rattle.bus_terms.proofs.Options.{inspect, sends_parts, not_both}
+use Rattle.lwb_base.proofs.Elements.{not_in_none, contains_head, contains_tail, contains_cases}
+use Rattle.lwb_base.proofs.Options.{not_both}
+use Rattle.bus_terms.proofs.Options.{inspect, sends_parts}
 use Rattle.glossy_relay.proofs.CountedPackets.{counter_set, relayed_parts, fitting_long}
 use Rattle.lwb_flood.proofs.EventOrder.{after_all_append, order_head}
 use Rattle.lwb_flood.proofs.SendingTimes.{counter_is, same_origin, occasion_event, same_sending}

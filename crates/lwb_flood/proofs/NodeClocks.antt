@@ -1,5 +1,6 @@
 -- The clocks of nodes keep the drift law, and what is said of a log over them.
 use Rattle.std.proofs.Common.{◌≡◌, ℕ, ◌≤◌, List, [], ◌∷◌, Bool, true, false, ◌||◌, ◌==◌, if◌then◌else◌, length, sym, subst, arith}
+use Rattle.std.proofs.lemmas.Bool.{false≢true}
 use Rattle.tick_clock.specs.Clocks.{IsClock}
 use Rattle.scenario_text.specs.FloodParts.{FloodParts, IsSound, knows}
 use Rattle.scenario_text.specs.declared.lines.NodeLine.{NodeLine}
@@ -10,14 +11,11 @@ use Rattle.scenario_clocks.specs.StatedClocks.{stated_clock}
 use Rattle.scenario_clocks.proofs.StatedDrift.{stated_drift}
 use Rattle.lwb_flood.specs.FloodLog.{HasClocks}
 
-no_node : false ≡ true → ⊥
-no_node is = cc
-
 -- clocks that stand in a list
 pub listed_drift : {C : Type 0} (R : C → ℕ → ℕ) → ((c : C) → IsClock (R c)) → (ns : List NodeLine) (cs : List C) → length cs ≡ length ns → (v : ℕ)
     → knows ns v ≡ true
     → IsClock (clocks_by R ns cs v)
-listed_drift R law [] cs long v known = absurd (no_node known)
+listed_drift R law [] cs long v known = absurd (false≢true known)
 listed_drift R law (n ∷ ns) [] long v known = absurd (omega (arith, long))
 listed_drift {C} R law (n ∷ ns) (c ∷ cs) long v known = by_test (n.node == v) known (λ later. listed_drift R law ns cs (omega (arith, long)) v later)
   where

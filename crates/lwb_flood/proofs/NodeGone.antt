@@ -18,7 +18,7 @@ use Rattle.radio_model.proofs.AfterTuning.{holds_after_tuning}
 use Rattle.air_log.specs.Entries.{sendings_of, tunings_of, IsHeard}
 use Rattle.air_log.specs.NodeEvents.{own_ends}
 use Rattle.air_log.specs.FloodLaw.{OPENING, CLOSING}
-use Rattle.air_log.proofs.Elements.{map_contains, map_from, Distinct}
+use Rattle.lwb_base.proofs.Elements.{map_contains, map_from, Distinct}
 use Rattle.lwb_flood.specs.declared.member.Act.{Act}
 use Rattle.lwb_flood.specs.declared.member.Act.TheVariants.{Listens, Waits, Sends, Off}
 use Rattle.lwb_flood.specs.declared.member.Member.{Member}

@@ -1,13 +1,14 @@
 -- The nodes of a world and the stations of its medium, and how long sendings of a flood last.
 use Rattle.std.proofs.Common.{◌≡◌, ℕ, ◌+◌, ◌*◌, List, Some, sym, ◌∙◌, ap, subst, arith, length}
 use Rattle.std.specs.Prelude.{Contains}
+use Rattle.std.proofs.lemmas.Option.{same_Some}
 use Rattle.scenario_text.specs.FloodParts.{FloodParts}
 use Rattle.bus_terms.specs.FloodOfText.{ids}
 use Rattle.radio_model.specs.declared.sending.Sending.{Sending}
 use Rattle.radio_model.specs.OnAir.{Hearing}
 use Rattle.air_log.specs.Entries.{sendings_of}
 use Rattle.air_log.specs.FloodLaw.{Lasts}
-use Rattle.air_log.proofs.Elements.{map_contains, map_from, Distinct}
+use Rattle.lwb_base.proofs.Elements.{map_contains, map_from, Distinct}
 use Rattle.lwb_flood.specs.declared.member.Member.{Member}
 use Rattle.lwb_flood.specs.FloodLog.{HasClocks}
 use Rattle.lwb_flood.specs.FloodWorlds.{World, node_of}
@@ -16,7 +17,7 @@ use Rattle.radio_model.specs.Stations.{IsMedium, nodes_of, station_of}
 use Rattle.radio_model.specs.Stations as stations
 use Rattle.radio_model.proofs.OneCall.{found_member}
 use Rattle.lwb_flood.proofs.FloodSoFar.{sending_by, InStep, IsFloodSoFar}
-use Rattle.lwb_flood.proofs.LogEntries.{ids_distinct, some_same}
+use Rattle.lwb_flood.proofs.LogEntries.{ids_distinct}
 use Rattle.lwb_flood.proofs.WorldLists.{one_of_mark}
 
 -- packets of a flood have eight bytes
@@ -45,7 +46,7 @@ module _ (f : FloodParts) (clocks : ℕ → ℕ → ℕ) (has : HasClocks f cloc
       → Contains w.medium.stations st × (st.node ≡ n.node)
   station_there n there st is =
       let s = map_from stations.node_of w.medium.stations n.node (of_medium n there) in
-      let same : s.0 ≡ st = some_same s.0 st (sym (found_member w.medium.stations s.0 medium.nodes.ascending s.1) ∙ ap (station_of w.medium) s.2 ∙ is) in (
+      let same : s.0 ≡ st = same_Some s.0 st (sym (found_member w.medium.stations s.0 medium.nodes.ascending s.1) ∙ ap (station_of w.medium) s.2 ∙ is) in (
         subst (λ (x : Station). Contains w.medium.stations x) same s.1,
         ap stations.node_of (sym same) ∙ s.2,
       )
@@ -56,7 +57,7 @@ module _ (f : FloodParts) (clocks : ℕ → ℕ → ℕ) (has : HasClocks f cloc
       let n = map_from node_of w.members st.node
       (subst (λ (l : List ℕ). Contains l st.node) (so.stations ∙ sym so.nodes) (map_contains stations.node_of w.medium.stations st there)) in
       let is = so.each n.0 n.1 in
-      let same : is.station ≡ st = some_same is.station st
+      let same : is.station ≡ st = same_Some is.station st
       (sym is.found ∙ ap (station_of w.medium) n.2 ∙ found_member w.medium.stations st medium.nodes.ascending there) in
       (n.0, n.1, n.2, ap (λ (s : Station). s.sending) (sym same) ∙ is.sends)
 

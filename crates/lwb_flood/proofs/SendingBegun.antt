@@ -6,6 +6,7 @@ use Rattle.std.specs.Option.{IfSome}
 use Rattle.std.proofs.lemmas.Bool.{cases_eq, false≢true}
 use Rattle.std.proofs.lemmas.List.{append-nil}
 use Rattle.std.proofs.lemmas.List.Elements.{Contains-push, Contains-push_cases, Contains-append_left, All-contains}
+use Rattle.std.proofs.lemmas.Option.{same_Some}
 use Rattle.lwb_base.specs.Profile.{Numbers, one}
 use Rattle.tick_clock.specs.Clocks.{due}
 use Rattle.scenario_text.specs.FloodParts.{FloodParts}
@@ -32,7 +33,6 @@ use Rattle.lwb_flood.proofs.WorldLists.{each_changed, changed_there, same_there,
 use Rattle.air_log.proofs.LoggedEntries.{sendings_sent, hearings_sent, tunings_sent}
 use Rattle.lwb_flood.proofs.FloodSoFar.{scene, standing, events_in, running, tuned_by, sending_by, IsWaiting, IsSending, Stands, IsMember, Runs, IsSettled}
 use Rattle.lwb_flood.proofs.FloodSoFar.{IsSent, IsFloodSoFar}
-use Rattle.lwb_flood.proofs.LogEntries.{some_same}
 use Rattle.lwb_flood.proofs.ActsTold.{waits_differ, sends_by, same_sends}
 use Rattle.lwb_flood.proofs.SendingCauses.{cause_kept}
 use Rattle.lwb_flood.proofs.NodesAndStations.{eight_in_step, lasting_in_step, one_member, member_of, of_medium, station_there, old_lasts}
@@ -71,7 +71,7 @@ module _ (f : FloodParts) (clocks : ℕ → ℕ → ℕ) (has : HasClocks f cloc
 
   pub not_before : (n : Member) → Contains w.members n → IfSome (moment_of n.act) (λ l. NotAfter (t, true) l)
   not_before n in_it =
-      let moment : next.moment ≡ (t, true) = some_same next.moment (t, true) (sym next.own ∙ ap moment_of act) in
+      let moment : next.moment ≡ (t, true) = same_Some next.moment (t, true) (sym next.own ∙ ap moment_of act) in
       subst (λ (k : ℕ × Bool). IfSome (moment_of n.act) (λ l. NotAfter k l)) moment
       (All-contains (λ (n : Member). IfSome (moment_of n.act) (λ l. NotAfter next.moment l)) w.members n next.first in_it)
 

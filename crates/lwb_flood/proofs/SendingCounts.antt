@@ -1,5 +1,5 @@
 -- How many sendings there are.
-use Rattle.std.proofs.Common.{◌≡◌, ℕ, zero, suc, ◌+◌, ◌≤◌, List, [], ◌∷◌, Bool, true, false, ◌&&◌, if◌then◌else◌, inl, inr, Option, Some, None, is_some, refl}
+use Rattle.std.proofs.Common.{◌≡◌, ℕ, zero, suc, ◌+◌, ◌≤◌, List, [], ◌∷◌, Bool, true, false, ◌&&◌, inl, inr, Option, Some, None, is_some, refl}
 use Rattle.std.proofs.Common.{sym, ◌∙◌, ap, subst, arith, length, ◌==◌, nat_lt, sum_by, eq-eqb}
 use Rattle.std.specs.Prelude.{Contains}
 use Rattle.std.proofs.lemmas.Bool.{cases_order, cases_Bool, cases_eq, or_cases, or_parts, and_parts, and_from, eqb-true, ne_eqb, lt-ltb, ltb-true, le-ltb}
@@ -8,14 +8,13 @@ use Rattle.std.proofs.lemmas.List.Sums.{sum_by-cons}
 use Rattle.bus_terms.specs.Flooding.{Setting, moment, has}
 use Rattle.radio_model.specs.declared.sending.Sending.{Sending}
 use Rattle.lwb_flood.specs.FloodRun.{counter, Run, FloodRun, packet}
-use Rattle.air_log.proofs.Elements.{not_in_none, contains_head, contains_tail, contains_cases, Distinct}
-use Rattle.bus_terms.proofs.Options.{inspect, not_both}
+use Rattle.lwb_base.proofs.Elements.{not_in_none, contains_head, contains_tail, contains_cases, Distinct}
+use Rattle.lwb_base.proofs.Options.{not_both}
+use Rattle.lwb_base.proofs.Truths.{one_if}
+use Rattle.bus_terms.proofs.Options.{inspect}
 use Rattle.lwb_flood.proofs.SendingTimes.{timed, counter_is}
 use Rattle.lwb_flood.proofs.StepsOnAir.{IsAt}
 use Rattle.lwb_flood.proofs.WholeFlood.{at_step}
-
-abbrev pub one_if : Bool → ℕ
-one_if b = if b then 1 else 0
 
 abbrev number : {X : Type 0} → (X → Bool) → List X → ℕ
 number p [] = 0

@@ -5,6 +5,7 @@ use Rattle.std.specs.Prelude.{Contains}
 use Rattle.std.specs.Option.{IfSome}
 use Rattle.std.proofs.lemmas.Bool.{cases_eq}
 use Rattle.std.proofs.lemmas.List.Elements.{All-contains}
+use Rattle.std.proofs.lemmas.Option.{same_Some}
 use Rattle.lwb_base.specs.Profile.{Numbers, airtime}
 use Rattle.scenario_text.specs.FloodParts.{FloodParts}
 use Rattle.radio_model.specs.declared.sending.Sending.{Sending}
@@ -17,7 +18,7 @@ use Rattle.radio_model.proofs.NothingBefore.{by_waiting, by_ending}
 use Rattle.radio_model.proofs.AfterEnding.{holds_after_ending}
 use Rattle.radio_model.proofs.Settled.{settled}
 use Rattle.air_log.specs.Entries.{sendings_of}
-use Rattle.air_log.proofs.Elements.{not_in_none, map_contains, map_from, Distinct}
+use Rattle.lwb_base.proofs.Elements.{not_in_none, map_contains, map_from, Distinct}
 use Rattle.lwb_flood.specs.declared.member.Act.{Act}
 use Rattle.lwb_flood.specs.declared.member.Act.TheVariants.{Sends}
 use Rattle.lwb_flood.specs.declared.member.Member.{Member}
@@ -25,7 +26,7 @@ use Rattle.lwb_flood.specs.FloodLog.{HasClocks}
 use Rattle.lwb_flood.specs.FloodWorlds.{World, moment_of, NotAfter, IsNext, after_own, is_last, own_ended}
 use Rattle.lwb_flood.proofs.ActsTold.{same_sends, sends_by, listens_differ}
 use Rattle.lwb_flood.proofs.FloodSoFar.{scene, standing, sending_by, IsSending, Stands, IsMember, Runs, IsSettled, IsSent, IsDue, IsFloodSoFar}
-use Rattle.lwb_flood.proofs.LogEntries.{known_of, some_same, known_there}
+use Rattle.lwb_flood.proofs.LogEntries.{known_of, known_there}
 use Rattle.lwb_flood.proofs.NodesAndStations.{one_member, member_of, old_lasts}
 use Rattle.lwb_flood.proofs.WorldLists.{each_changed, same_there}
 
@@ -67,7 +68,7 @@ module _ (f : FloodParts) (clocks : ℕ → ℕ → ℕ) (has : HasClocks f cloc
   -- what others do next comes no earlier
   pub not_before : (n : Member) → Contains w.members n → IfSome (moment_of n.act) (λ l. NotAfter (x.end, false) l)
   not_before n in_it =
-      let moment : next.moment ≡ (x.end, false) = some_same next.moment (x.end, false) (sym next.own ∙ ap moment_of act) in
+      let moment : next.moment ≡ (x.end, false) = same_Some next.moment (x.end, false) (sym next.own ∙ ap moment_of act) in
       subst (λ (k : ℕ × Bool). IfSome (moment_of n.act) (λ l. NotAfter k l)) moment
       (All-contains (λ (n : Member). IfSome (moment_of n.act) (λ l. NotAfter next.moment l)) w.members n next.first in_it)
 

@@ -9,9 +9,10 @@ use Rattle.glossy_relay.specs.Relaying.{is_spelling}
 use Rattle.tick_clock.specs.Clocks.{Near}
 use Rattle.radio_model.specs.declared.sending.Sending.{Sending}
 use Rattle.air_log.specs.NodeEvents.{Event, Heard, Ended, sending_of, after, Occasion, occasions}
+use Rattle.air_log.proofs.SameSendings.{same_sending as equal_sendings}
 use Rattle.lwb_flood.specs.FloodRun.{counter, Run, HasTimes, initiates, takes_part, packet, begins, InTime}
 use Rattle.radio_model.specs.Hearing.{Meets}
-use Rattle.air_log.proofs.Elements.{not_in_none, contains_head, contains_tail, contains_cases}
+use Rattle.lwb_base.proofs.Elements.{not_in_none, contains_head, contains_tail, contains_cases}
 use Rattle.glossy_relay.proofs.CountedPackets.{counter_set, body_set, set_same, long_spelling, fitting_long, relayed_parts}
 use Rattle.lwb_flood.proofs.StepTimes.{chained, in_order, meet, within}
 
@@ -23,14 +24,6 @@ occasion_event s (e ∷ es) c there =
       | inl is ↦ subst (λ (x : Event). Contains (e ∷ es) x) (ap (λ (o : Occasion). o.event) is) (contains_head e es)
       | inr later ↦ contains_tail e es c.event (occasion_event (after s e) es c later)
     ]
-
-pub equal_sendings : (x y : Sending) → x.rank ≡ y.rank → x.node ≡ y.node → x.start ≡ y.start → x.end ≡ y.end → x.packet ≡ y.packet → x ≡ y
-equal_sendings x y rank node start end packet =
-    subst (λ (q : List ℕ). x ≡ record { rank = y.rank; node = y.node; start = y.start; end = y.end; packet = q }) packet
-    (subst (λ (q : ℕ). x ≡ record { rank = y.rank; node = y.node; start = y.start; end = q; packet = x.packet }) end
-    (subst (λ (q : ℕ). x ≡ record { rank = y.rank; node = y.node; start = q; end = x.end; packet = x.packet }) start
-    (subst (λ (q : ℕ). x ≡ record { rank = y.rank; node = q; start = x.start; end = x.end; packet = x.packet }) node
-    (subst (λ (q : ℕ). x ≡ record { rank = q; node = x.node; start = x.start; end = x.end; packet = x.packet }) rank refl))))
 
 -- the steps of a run
 pub record Timed (r : Run) (x : Sending) : Type 0 where

@@ -5,6 +5,8 @@ use Rattle.std.specs.Prelude.{Contains, slice_index, ◌⊎◌}
 use Rattle.std.specs.Option.{option_and_then}
 use Rattle.std.proofs.lemmas.Bool.{cases_eq, cond-true}
 use Rattle.std.proofs.lemmas.List.Elements.{Contains-append_left, Contains-append_right}
+use Rattle.std.proofs.lemmas.Option.{same_Some}
+use Rattle.lwb_base.proofs.Options.{not_both}
 use Rattle.glossy_relay.specs.FloodState.{FloodState}
 use Rattle.bus_terms.specs.Flooding.{Setting, Moment, has, offer, candidates, named, pick}
 use Rattle.tick_clock.specs.Clocks.{Near}
@@ -12,7 +14,7 @@ use Rattle.radio_model.specs.declared.sending.Sending.{Sending}
 use Rattle.radio_model.specs.Hearing.{Before}
 use Rattle.air_log.specs.NodeEvents.{Event, Heard, sending_of, after_all}
 use Rattle.lwb_flood.specs.FloodRun.{counter, Run, FloodRun, initiates, takes_part, packet, begins, Rival, Silent, Alone, Captured, HearsIn}
-use Rattle.bus_terms.proofs.Options.{inspect, some_injective, only_when, only_from, in_filter, from_filter, sends_parts, not_both, named_parts}
+use Rattle.bus_terms.proofs.Options.{inspect, only_when, only_from, in_filter, from_filter, sends_parts, named_parts}
 use Rattle.lwb_flood.proofs.StepTimes.{close}
 use Rattle.lwb_flood.proofs.SendingTimes.{timed, in_time, counter_is, same_origin, over, meets, one_step, not_over, event_sent}
 use Rattle.lwb_flood.proofs.EventOrder.{earliest}
@@ -151,7 +153,7 @@ module _ (r : Run) (Tuned : ℕ → Sending → Type 0) (f : FloodRun r Tuned) (
       nothing none x is node = not_both (offer_to v u) o none (is_offer x is node)
 
       differs : (p : ℕ) → offer_to v u ≡ Some p → (p ≡ o → ⊥) → (x : Sending) → Offered r k v o x → x.node ≡ u → ⊥
-      differs p is_p other x is node = other (some_injective p o (sym is_p ∙ is_offer x is node))
+      differs p is_p other x is node = other (same_Some p o (sym is_p ∙ is_offer x is node))
 
       found : offer_to v u ≡ Some o → (x : Sending) × Offered r k v o x × (x.node ≡ u)
       found is =

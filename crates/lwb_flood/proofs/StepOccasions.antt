@@ -4,6 +4,7 @@ use Rattle.std.proofs.Common.{arith, ◌==◌}
 use Rattle.std.specs.Prelude.{Contains, slice_set}
 use Rattle.std.proofs.lemmas.Bool.{cases_lt, and_parts, or_cases, not-true, lt-ltb, ltb-true, eqb-true, both_ways}
 use Rattle.std.proofs.lemmas.List.Elements.{Contains-append_cases, Contains-append_right}
+use Rattle.std.proofs.lemmas.Option.{same_Some}
 use Rattle.glossy_relay.specs.FloodState.{FloodState}
 use Rattle.glossy_relay.specs.Relaying.{fits, reply_to, counter_of}
 use Rattle.glossy_relay.specs.declared.flood.Reply.TheVariants.{Relay}
@@ -11,8 +12,9 @@ use Rattle.bus_terms.specs.Flooding.{Setting, Moment, has, pick, agrees, may_hea
 use Rattle.radio_model.specs.declared.sending.Sending.{Sending}
 use Rattle.air_log.specs.NodeEvents.{Event, Heard, Ended, sending_of, after, after_all, Occasion, occasions, InOrder}
 use Rattle.lwb_flood.specs.FloodRun.{counter, Run, FloodRun, initiates, takes_part, packet, begins, HearsIn}
-use Rattle.air_log.proofs.Elements.{not_in_none, contains_head, contains_tail, contains_cases}
-use Rattle.bus_terms.proofs.Options.{some_injective, heard_parts, none_is}
+use Rattle.lwb_base.proofs.Elements.{not_in_none, contains_head, contains_tail, contains_cases}
+use Rattle.lwb_base.proofs.Options.{none_is}
+use Rattle.bus_terms.proofs.Options.{heard_parts}
 use Rattle.lwb_flood.proofs.EventOrder.{occasions_append, in_order_rest, order_head, occasion_of}
 use Rattle.lwb_flood.proofs.FittingPackets.{fits_is, wanted}
 use Rattle.lwb_flood.proofs.SendingTimes.{over, meets, event_sent, occasion_event, same_sending}
@@ -54,9 +56,6 @@ hears_from s m k v o b here quiet less is want = rw (here, quiet, lt-ltb (m.time
 pub relay_of : (w : FloodState) (p : List ℕ) → fits w p ≡ true → counter_of p < 11 → reply_to w p ≡ Relay (slice_set p 2 (counter_of p + 1))
 relay_of w p fitting less = rw (fitting, lt-ltb (counter_of p) 11 less) refl
 
-relay_same : (p q : List ℕ) → Relay p ≡ Relay q → p ≡ q
-relay_same p q is = cc
-
 heard_same : (x y : Sending) → Heard x ≡ Heard y → x ≡ y
 heard_same x y is = ap sending_of is
 
@@ -83,7 +82,7 @@ module _ (r : Run) (Tuned : ℕ → Sending → Type 0) (f : FloodRun r Tuned) (
   heard_once v x y h g at_x at_y =
       let p = origin_at r Tuned f k few m at x h.sent at_x in
       let q = origin_at r Tuned f k few m at y g.sent at_y in
-      let same : p.0 ≡ q.0 = some_injective p.0 q.0
+      let same : p.0 ≡ q.0 = same_Some p.0 q.0
       (sym (picked r Tuned f k few m at v x p.0 h at_x p.1 p.2) ∙ picked r Tuned f k few m at v y q.0 g at_y q.1 q.2) in
       let packets : x.packet ≡ y.packet = p.2 ∙ ap (λ (i : ℕ). packet r i k) same ∙ sym q.2 in
       let passes_x : s.passes k x.node v ≡ true = subst (λ (i : ℕ). s.passes i x.node v ≡ true) at_x h.passes in

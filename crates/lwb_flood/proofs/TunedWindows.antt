@@ -10,7 +10,7 @@ use Rattle.radio_model.specs.declared.sending.Sending.{Sending}
 use Rattle.air_log.specs.NodeEvents.{Event, Heard, Ended, after, after_all, own_end, own_ends}
 use Rattle.lwb_flood.specs.FloodRun.{Run, begins, TunedByCount}
 use Rattle.lwb_flood.specs.Windows.{off_at, IsWindow}
-use Rattle.air_log.proofs.Elements.{contains_head, contains_tail}
+use Rattle.lwb_base.proofs.Elements.{contains_head, contains_tail}
 
 -- the end at a place is that of an own sending, or the other if the place is past all of them
 data EndAt (es : List Event) (i other : ℕ) : Type 0 where

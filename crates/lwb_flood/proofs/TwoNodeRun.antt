@@ -9,13 +9,15 @@ use Rattle.radio_model.specs.declared.sending.Sending.{Sending}
 use Rattle.radio_model.specs.OnAir.{Hearing}
 use Rattle.radio_model.specs.Hearing.{Before}
 use Rattle.air_log.specs.NodeEvents.{Event, Heard, Ended, sending_of, after_all, Occasion, InOrder}
+use Rattle.air_log.proofs.EventKinds.{ended_not_heard, heard_not_ended}
+use Rattle.air_log.proofs.SameSendings.{same_sending as equal_sendings}
 use Rattle.lwb_flood.specs.FloodRun.{counter, sending_at, FloodRun, initiates, takes_part, begins, Rival, Silent, HearsIn, Relayed, TunedByCount}
 use Rattle.lwb_flood.specs.TwoNodes.{packet_of, first_sending, second_sending, two_nodes, two_tuned}
-use Rattle.air_log.proofs.Elements.{contains_head, contains_tail, one_of, one_of_two}
+use Rattle.lwb_base.proofs.Elements.{contains_head, contains_tail, one_of, one_of_two}
 use Rattle.lwb_flood.specs.Windows.{IsWindow}
-use Rattle.lwb_flood.proofs.SendingTimes.{equal_sendings}
 use Rattle.lwb_flood.proofs.TunedWindows.{tuned_in_window}
 use Rattle.glossy_relay.proofs.Spellings.{data_again}
+use Rattle.glossy_relay.proofs.CountedPackets.{relay_same}
 
 abbrev Tuned : ℕ → Sending → Type 0
 Tuned v x = two_tuned v x ≡ true
@@ -81,15 +83,6 @@ hears_only v x here h =
     (λ h. sent (λ x. HearsIn two_nodes Tuned 2 x → Contains two_nodes.hearings (record { node = 2; sending = x }))
     (λ g. contains_head (record { node = 2; sending = first_sending }) []) (λ g. absurd (own_unheard 2 second_sending g.sent refl g.silent)) x h.sent h)
     v here h
-
-ended_not_heard : (x y : Sending) → Ended x ≡ Heard y → ⊥
-ended_not_heard x y is = cc
-
-heard_not_ended : (x y : Sending) → Heard x ≡ Ended y → ⊥
-heard_not_ended x y is = cc
-
-relay_same : (p q : List ℕ) → Relay p ≡ Relay q → p ≡ q
-relay_same p q is = cc
 
 by_one : (x : Sending) → Relayed two_nodes 1 x → ⊥
 by_one x is = ended_not_heard first_sending is.heard

@@ -5,6 +5,7 @@ use Rattle.std.specs.Prelude.{Contains}
 use Rattle.std.proofs.lemmas.Bool.{true≢false, cond-true}
 use Rattle.std.proofs.lemmas.List.{append-nil}
 use Rattle.std.proofs.lemmas.List.Elements.{Contains-append_right}
+use Rattle.std.proofs.lemmas.Option.{same_Some}
 use Rattle.lwb_packets.specs.declared.kind.Kind.{Kind}
 use Rattle.glossy_relay.specs.FloodState.{FloodState}
 use Rattle.glossy_relay.specs.Relaying.{fits, counter_of, accepted_of}
@@ -13,8 +14,7 @@ use Rattle.radio_model.specs.declared.sending.Sending.{Sending}
 use Rattle.air_log.specs.NodeEvents.{Event, Heard, sending_of, after_all}
 use Rattle.lwb_flood.specs.FloodRun.{counter, Run, FloodRun, sending_at, initiates, takes_part, packet, begins}
 use Rattle.lwb_flood.specs.FloodBySteps.{SendsOnAir, HearsOnAir, ended, IsFloodBySteps}
-use Rattle.air_log.proofs.Elements.{not_in_none, contains_head}
-use Rattle.bus_terms.proofs.Options.{some_injective}
+use Rattle.lwb_base.proofs.Elements.{not_in_none, contains_head}
 use Rattle.glossy_relay.proofs.CountedPackets.{counter_set}
 use Rattle.bus_terms.proofs.FirstHearings.{first_hearing, kept_hearing, heard_in_time}
 use Rattle.lwb_flood.proofs.NextSteps.{step_on}
@@ -25,7 +25,7 @@ use Rattle.lwb_flood.proofs.StepOccasions.{heard_event, heard_once, parts_of, he
 use Rattle.lwb_flood.proofs.StepsOnAir.{SentIn, Turn, IsAt}
 
 begun_parts : (b : Bool) (v o : ℕ) → (if b then Some v else None) ≡ Some o → (b ≡ true) × (v ≡ o)
-begun_parts true v o is = (refl, some_injective v o is)
+begun_parts true v o is = (refl, same_Some v o is)
 begun_parts false v o is = absurd (cc)
 
 begun_station : (kind : Kind) (limit slot : ℕ) (b : Bool) (message : List ℕ) (spelled : ℕ × ℕ → List ℕ) (v : ℕ)

@@ -12,7 +12,7 @@ use Rattle.radio_model.specs.declared.sending.Sending.{Sending}
 use Rattle.air_log.specs.declared.entry.Entry.{Entry}
 use Rattle.air_log.specs.Entries.{sending_in, hearing_in, tuning_in, sendings_of, hearings_of, tunings_of, sent_entry, heard_entry}
 use Rattle.air_log.specs.NodeEvents.{Event, Heard, Ended, sending_of, InOrder, after_all, Occasion, occasions}
-use Rattle.air_log.proofs.Elements.{not_in_none, contains_cases, map_contains, map_from, Distinct}
+use Rattle.lwb_base.proofs.Elements.{not_in_none, contains_cases, map_contains, map_from, Distinct}
 use Rattle.lwb_flood.specs.declared.member.Member.{Member}
 use Rattle.lwb_flood.specs.FloodWorlds.{node_of, changed_at, with_change, tuned_entry}
 use Rattle.lwb_flood.proofs.EventOrder.{occasions_append}

@@ -65,7 +65,7 @@ with_ranges a (x ∷ xs) this all =
     (λ more. rw parts.0 (with_ranges a xs this parts.1)))
 
 -- nothing that a request leaves was accepted later
-abbrev Early : ℕ → Entry → Type 0
+abbrev pub Early : ℕ → Entry → Type 0
 Early frame e = e.accepted ≤ frame
 
 with_early : (frame : ℕ) (e : Entry) (es : List Entry) → Early frame e → All (Early frame) es → All (Early frame) (with_entry e es)

@@ -1,6 +1,6 @@
 -- Acknowledgements as a list in the order of its codes, and one that is put in its place.
-use Rattle.std.proofs.Common.{◌≡◌, ◌∙◌, ◌+◌, ◌<◌, ◌≤◌, List, [], ◌∷◌, Bool, true, ◌==◌, nat_lt, if◌then◌else◌, length, refl, ap, arith}
-use Rattle.std.proofs.lemmas.Bool.{and_parts, cond_both, ltb-true}
+use Rattle.std.proofs.Common.{◌≡◌, ◌∙◌, ◌<◌, List, [], ◌∷◌, Bool, true, ◌==◌, nat_lt, if◌then◌else◌, length, refl, ap, arith}
+use Rattle.std.proofs.lemmas.Bool.{and_parts, ltb-true}
 use Rattle.stream_table.specs.CodeOrder.{Above, Ascends, placed, finds_room}
 use Rattle.stream_table.proofs.CodeOrder.{above_more, room_found}
 use Rattle.lwb_base.specs.Messages.{Ask, code_of}
@@ -27,14 +27,3 @@ placed_is a (x ∷ xs) =
 pub put_is : (a : Ask) (xs after : List Ask) → length xs < 4
     → after ≡ (if finds_room code_of 4 xs (code_of a) then placed code_of a xs else xs) → after ≡ with_ack a xs
 put_is a xs after room is = is ∙ ap (λ (b : Bool). if b then placed code_of a xs else xs) (room_found code_of 4 (code_of a) xs room) ∙ placed_is a xs
-
--- and has one more at most
-pub with_few : (a : Ask) (xs : List Ask) → length (with_ack a xs) ≤ length xs + 1
-with_few a [] = omega arith
-with_few a (x ∷ xs) =
-    let rest = with_few a xs in
-    cond_both (code_of a == code_of x) (a ∷ xs) (if nat_lt (code_of a) (code_of x) then a ∷ x ∷ xs else x ∷ with_ack a xs)
-    (λ (l : List Ask). length l ≤ length (x ∷ xs) + 1)
-    (λ same. omega arith)
-    (λ other. cond_both (nat_lt (code_of a) (code_of x)) (a ∷ x ∷ xs) (x ∷ with_ack a xs) (λ (l : List Ask). length l ≤ length (x ∷ xs) + 1)
-    (λ less. omega arith) (λ more. omega arith))

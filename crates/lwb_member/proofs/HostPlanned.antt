@@ -18,7 +18,9 @@ use Rattle.bus_rules.specs.Tuning.{hosts, rank_of, with_due}
 use Rattle.bus_rules.specs.Plans.{last_slot}
 use Rattle.bus_rules.specs.Cores.{Core, Setup}
 use Rattle.bus_rules.specs.Slots.{planned, host_closes}
+use Rattle.bus_rules.proofs.Grants.{gap_stays}
 use Rattle.lwb_member.specs.Planning.{IsEarly}
+use Rattle.lwb_member.proofs.Answering.{Early}
 
 -- the fields of a plan, by the results of its parts
 module _ (p : Numbers) (node boot rank frame : ℕ) (kept : List Ask) (t first own after : Table) (s streams : Streams) (acks : List Ask) (host contend gap : ℕ)
@@ -84,21 +86,11 @@ fits_in seconds frame es = nat_le (total seconds frame es) 40
 gap_bounds : (seconds frame : ℕ) (es : List Entry) → (1 ≤ gap_of seconds frame es) × (gap_of seconds frame es ≤ 4)
 gap_bounds seconds frame es = one_of (fits_in seconds (frame + 4) es) (fits_in seconds (frame + 3) es) (fits_in seconds (frame + 2) es)
 
-gap_stays : (owes : Entry → ℕ) (gap : ℕ) (t : Table) → (grants_for owes gap t).gap ≡ gap
-gap_stays owes gap t =
-    cond_both (nat_le (sum_by owes t.entries) 40) (granted_by owes gap t.place t.entries)
-    (granted_by (share_in (given owes t)) gap (last_code (given owes t) + 1) t.entries) (λ (g : Grants). g.gap ≡ gap)
-    (λ fit. refl) (λ turns. refl)
-
 pub gap_in_range : (seconds frame : ℕ) (t : Table) → (1 ≤ (plan_round seconds frame t).gap) × ((plan_round seconds frame t).gap ≤ 4)
 unfolding plan_round
 gap_in_range seconds frame t =
     let gap = gap_of seconds frame t.entries in
     subst (λ (g : ℕ). (1 ≤ g) × (g ≤ 4)) (sym (gap_stays (owed_to seconds (frame + gap)) gap t)) (gap_bounds seconds frame t.entries)
-
--- what is granted changes no frame
-abbrev Early : ℕ → Entry → Type 0
-Early frame e = e.accepted ≤ frame
 
 shares_early : (frame : ℕ) (share : Entry → ℕ) (es : List Entry) → All (Early frame) es → All (Early frame) (map (grant share) es)
 shares_early frame share es all = All-map (Early frame) (grant share) es all

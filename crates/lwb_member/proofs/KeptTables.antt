@@ -1,5 +1,5 @@
 -- The frames in which the streams of a table were accepted stay, whatever a window's closing does to the table.
-use Rattle.std.proofs.Common.{ℕ, ◌+◌, ◌≤◌, List, [], ◌∷◌, Option, Some, None, Bool, true, false, nat_lt, if◌then◌else◌}
+use Rattle.std.proofs.Common.{ℕ, ◌+◌, List, [], ◌∷◌, Option, Some, None, Bool, true, false, nat_lt, if◌then◌else◌}
 use Rattle.std.proofs.lemmas.Bool.{cond_both}
 use Rattle.std.proofs.lemmas.List.Elements.{All-cons, All-head, All-tail, All-map}
 use Rattle.std.specs.Prelude.{All, filter_map}
@@ -11,9 +11,7 @@ use Rattle.bus_rules.specs.Tables.{Entry, Table, has_code, seen, missed}
 use Rattle.bus_rules.specs.Cores.{Core}
 use Rattle.bus_rules.specs.Slots.{hosts_now, owner_heard, slot_heard}
 use Rattle.lwb_member.specs.Planning.{IsEarly}
-
-abbrev Early : ℕ → Entry → Type 0
-Early frame e = e.accepted ≤ frame
+use Rattle.lwb_member.proofs.Answering.{Early}
 
 put : (frame : ℕ) (o : Option Entry) (es : List Entry) → IfSome o (Early frame) → All (Early frame) es → All (Early frame) (cons_option o es)
 put frame None es this all = all

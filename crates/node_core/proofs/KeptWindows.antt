@@ -6,6 +6,7 @@ use Rattle.lwb_base.specs.Profile.{Numbers}
 use Rattle.lwb_packets.specs.declared.kind.Kind.{Kind}
 use Rattle.glossy_relay.specs.FloodState.{FloodState}
 use Rattle.glossy_relay.specs.Relaying.{fits, is_spelling, slot_of, carries, after_heard, first_of, counter_of, accepted_of}
+use Rattle.glossy_relay.proofs.CountedPackets.{begun_here}
 use Rattle.bus_rules.specs.Cores.{Core}
 use Rattle.lwb_member.specs.Said.{message_of}
 use Rattle.node_core.specs.Windows.{Window}
@@ -54,11 +55,6 @@ hearing_stands p rank now j c w q early is =
     }
 
 -- a host that says the schedules of its round itself goes on doing so
-begun_here : (f : FloodState) (p : List ℕ) → (after_heard f p).initiated ≡ f.initiated
-begun_here f p =
-    cond_both (fits f p) (record f { waiting = nat_lt (counter_of p) 11; first = first_of f.first p }) f (λ (g : FloodState). g.initiated ≡ f.initiated)
-    (λ is. refl) (λ is. refl)
-
 pub hearing_hosted : (p : Numbers) (rank now frame j : ℕ) (c : Core) (w : Window) (q : List ℕ) → HostsIn frame c (InWindow j w)
     → HostsIn frame c (InWindow j (hearing p rank now w q))
 hearing_hosted p rank now frame j c w q hosted =

@@ -1,6 +1,7 @@
 -- kept for the crates above
 pub mod KeptBoots
 pub mod NamedDeliveries
+pub mod WindowKinds
 -- for this crate alone
 pub mod KeptWindows
 pub mod PassedWindows

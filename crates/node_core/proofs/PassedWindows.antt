@@ -1,6 +1,5 @@
 -- The closing of a window in which nothing was accepted.
 use Rattle.std.proofs.Common.{◌≡◌, ℕ, List, Option, Some, None, false, is_some, option_map, option_and_then, refl, ◌∙◌, ap}
-use Rattle.lwb_base.specs.Profile.{Numbers}
 use Rattle.glossy_relay.specs.Relaying.{accepted_of}
 use Rattle.bus_rules.specs.Cores.{Setup}
 use Rattle.bus_rules.specs.Tuning.{rank_of}
@@ -9,14 +8,11 @@ use Rattle.lwb_member.specs.Said.{message_of}
 use Rattle.node_core.specs.Nodes.{Node}
 use Rattle.node_core.specs.Windows.{Window}
 use Rattle.node_core.specs.Rows.{Stepped, goes_on, zero_by, window_closes}
+use Rattle.node_core.proofs.WindowKinds.{zero_stays}
 
 said_none : (a : Option (List ℕ × ℕ)) → is_some a ≡ false → option_and_then (λ (x : List ℕ × ℕ). message_of x.0) a ≡ None
 said_none None is = refl
 said_none (Some x) is = cc
-
-zero_stays : (p : Numbers) (z : ℕ) (reference : Option ℕ) → zero_by p z reference None ≡ z
-zero_stays p z None = refl
-zero_stays p z (Some r) = refl
 
 -- the node of such a window, before it goes on
 abbrev pub passed : Setup → Node → Window → Node

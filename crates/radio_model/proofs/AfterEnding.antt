@@ -11,7 +11,7 @@ use Rattle.radio_model.specs.Hearing.{Scene}
 use Rattle.radio_model.specs.Stations.{MediumState, IsMedium, station_of, sending_of, on_air, finished, with_ended, after, changed_at, Ends}
 use Rattle.radio_model.specs.Holding.{Holds, IsOrderly, IsOwn, InTurn, longest, shortest}
 use Rattle.radio_model.specs.declared.station.Station.{Station}
-use Rattle.radio_model.proofs.Members.{not_in_none, in_head, in_tail, in_either}
+use Rattle.lwb_base.proofs.Elements.{not_in_none, contains_head, contains_tail, contains_cases}
 use Rattle.radio_model.proofs.Changes.{finished_keeps}
 use Rattle.radio_model.proofs.Tunings.{Tells, tells_later}
 use Rattle.radio_model.proofs.Scenes.{Lit}
@@ -31,7 +31,7 @@ air_less b (Some x) = append-nil (keep_last b.capacity (b.items ++ x ∷ []))
 in_drop : (k : ℕ) (ys : List Sending) (y : Sending) → Contains (drop k ys) y → Contains ys y
 in_drop zero ys y there = there
 in_drop (suc k) [] y there = absurd (not_in_none y there)
-in_drop (suc k) (z ∷ ys) y there = in_tail ys z y (in_drop k ys y there)
+in_drop (suc k) (z ∷ ys) y there = contains_tail z ys y (in_drop k ys y there)
 
 turn_from : (from : ℕ) (ys : List Sending) → InTurn from ys → InTurn 0 ys
 turn_from from [] turn = tt
@@ -49,11 +49,11 @@ module _ (s : ℕ) where
 
   -- all of them but the last so many ended so many least lengths before the last
   ends_after : (from : ℕ) (ys : List Sending) (x : Sending) → InTurn from (ys ++ x ∷ []) → Lasting (ys ++ x ∷ []) → from + (length ys + 1) * s ≤ x.end
-  ends_after from [] x turn lasting = let one = lasting x (in_head [] x) in let first = turn.0 in omega arith
+  ends_after from [] x turn lasting = let one = lasting x (contains_head x []) in let first = turn.0 in omega arith
   ends_after from (y ∷ ys) x turn lasting =
-      let one = lasting y (in_head (ys ++ x ∷ []) y) in
+      let one = lasting y (contains_head y (ys ++ x ∷ [])) in
       let first = turn.0 in
-      omega (arith, ends_after y.end ys x turn.1 (λ z there. lasting z (in_tail (ys ++ x ∷ []) y z there)))
+      omega (arith, ends_after y.end ys x turn.1 (λ z there. lasting z (contains_tail y (ys ++ x ∷ []) z there)))
 
   pub kept_or_over : (k from : ℕ) (ys : List Sending) (x y : Sending) → InTurn from (ys ++ x ∷ []) → Lasting (ys ++ x ∷ []) → Contains (ys ++ x ∷ []) y
       → k ≤ length ys
@@ -61,14 +61,14 @@ module _ (s : ℕ) where
   kept_or_over zero from ys x y turn lasting there few = inl there
   kept_or_over (suc k) from [] x y turn lasting there few = absurd (omega arith)
   kept_or_over (suc k) from (z ∷ ys) x y turn lasting there few =
-      elim (in_either (ys ++ x ∷ []) z y there) [
+      elim (contains_cases z (ys ++ x ∷ []) y there) [
         | inl is ↦
             inr (subst (λ (w : Sending). w.end + (length (z ∷ ys) + 1 - suc k) * s ≤ x.end) is
-            (let all = ends_after z.end ys x turn.1 (λ w in_it. lasting w (in_tail (ys ++ x ∷ []) z w in_it)) in
+            (let all = ends_after z.end ys x turn.1 (λ w in_it. lasting w (contains_tail z (ys ++ x ∷ []) w in_it)) in
             let fewer : (length (z ∷ ys) + 1 - suc k) * s ≤ (length ys + 1) * s = mul-le-mul_right s (omega arith) in
             omega arith))
         | inr rest ↦
-            elim (kept_or_over k z.end ys x y turn.1 (λ w in_it. lasting w (in_tail (ys ++ x ∷ []) z w in_it)) rest (omega arith)) [
+            elim (kept_or_over k z.end ys x y turn.1 (λ w in_it. lasting w (contains_tail z (ys ++ x ∷ []) w in_it)) rest (omega arith)) [
               | inl kept ↦ inl kept
               | inr over ↦ inr (subst (λ (n : ℕ). y.end + n * s ≤ x.end) (omega arith) over)
             ]
@@ -123,7 +123,7 @@ module _ (p : Numbers) (now t : ℕ) (st : Station) (room : st.ended.capacity �
       elim (Contains-append_cases st.ended.items (x ∷ []) y
       (in_drop (length (st.ended.items ++ x ∷ []) - st.ended.capacity) (st.ended.items ++ x ∷ []) y there)) [
         | inl old ↦ let by = is.over y old in omega arith
-        | inr new ↦ elim (in_either [] x y new) [
+        | inr new ↦ elim (contains_cases x [] y new) [
           | inl at ↦ omega (arith, ap (λ (z : Sending). z.end) at, ends x same)
           | inr none ↦ absurd (not_in_none y none)
         ]

@@ -10,7 +10,7 @@ use Rattle.radio_model.specs.Stations.{MediumState, IsMedium, nodes_of, node_of,
 use Rattle.radio_model.specs.Holding.{Holds, IsKept, IsOrderly, IsOwn, InTurn, begun, after_starting}
 use Rattle.radio_model.specs.declared.station.Tuned.{Tuned}
 use Rattle.radio_model.specs.declared.station.Station.{Station}
-use Rattle.radio_model.proofs.Members.{in_option, of_option, from_map, in_head, in_tail}
+use Rattle.lwb_base.proofs.Elements.{in_option, of_option, map_from, contains_head, contains_tail}
 use Rattle.radio_model.proofs.Changes.{started_keeps}
 use Rattle.radio_model.proofs.Tunings.{Tells, tells_later}
 use Rattle.radio_model.proofs.Scenes.{Lit}
@@ -26,7 +26,8 @@ with_next ys (Some x) n = sym (append-nil (ys ++ x ∷ []))
 pub in_turn_push : (from : ℕ) (ys : List Sending) (x : Sending) → InTurn from ys → from ≤ x.start → ((y : Sending) → Contains ys y → y.end ≤ x.start)
     → InTurn from (ys ++ x ∷ [])
 in_turn_push from [] x turn first over = (first, tt)
-in_turn_push from (y ∷ ys) x turn first over = (turn.0, in_turn_push y.end ys x turn.1 (over y (in_head ys y)) (λ z there. over z (in_tail ys y z there)))
+in_turn_push from (y ∷ ys) x turn first over =
+    (turn.0, in_turn_push y.end ys x turn.1 (over y (contains_head y ys)) (λ z there. over z (contains_tail y ys z there)))
 
 module _ (p : Numbers) (t : ℕ) (packet : List ℕ) (short : 3 ≤ length packet) (long : length packet ≤ 125) where
   abbrev next : Station → Option Sending
@@ -102,7 +103,7 @@ module _ (m : MediumState) (is : IsMedium m) (a : Scene) (h : Holds m a) (v : �
 
   known_new : (y : Sending) → new ≡ Some y → IsKept (after t v change m) y
   known_new y same =
-      let w = from_map node_of m.stations v member in
+      let w = map_from node_of m.stations v member in
       record {
         station = changed_at v change w.0;
         there = is_there m is change (started_keeps m.numbers t packet) v t w.0 w.1;

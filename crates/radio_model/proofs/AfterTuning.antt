@@ -8,16 +8,13 @@ use Rattle.radio_model.specs.Hearing.{Scene}
 use Rattle.radio_model.specs.Stations.{MediumState, IsMedium, station_of, on_air, is_tuned_to, retuned, tuned_in, tuned_out, after}
 use Rattle.radio_model.specs.Holding.{Holds, IsOrderly, IsOrder, InTurn, closed, tuned_of, after_tuning}
 use Rattle.radio_model.specs.declared.station.Station.{Station}
-use Rattle.radio_model.proofs.Members.{in_option}
+use Rattle.lwb_base.proofs.Elements.{in_option}
 use Rattle.radio_model.proofs.Changes.{retuned_keeps}
 use Rattle.radio_model.proofs.Tunings.{Tells, tells_later}
 use Rattle.radio_model.proofs.Scenes.{Lit, with_tuning, lit_other, closed_is}
 use Rattle.radio_model.proofs.Retuned.{told_after, order_later, tells_same}
 use Rattle.radio_model.proofs.OneCall.{found_member, tells_by, right_by, past_lit, each_after, ascend_after, kept_on, kept_back}
-
-pub same_air : (rank : Option ℕ) (t : ℕ) (st : Station) → on_air (retuned rank t st) ≡ on_air st
-same_air None t st = refl
-same_air (Some r) t st = cond_both (is_tuned_to st.tuned r) st (tuned_in r t (tuned_out t st)) (λ (s : Station). on_air s ≡ on_air st) (λ _. refl) (λ _. refl)
+use Rattle.radio_model.proofs.Marked.{retuned_on_air}
 
 same_ended : (rank : Option ℕ) (t : ℕ) (st : Station) → (retuned rank t st).ended.items ≡ st.ended.items
 same_ended None t st = refl
@@ -73,15 +70,15 @@ module _ (m : MediumState) (is : IsMedium m) (a : Scene) (h : Holds m a) (v : �
   holds_after_tuning = record {
     numbers = h.numbers;
     orderly = each_after m is change (retuned_keeps rank t) v t (IsOrderly m.numbers t)
-        (λ st there node. orderly_later m.numbers m.now t st (change st) later (h.orderly st there) ((retuned_keeps rank t).node st) (same_air rank t st)
+        (λ st there node. orderly_later m.numbers m.now t st (change st) later (h.orderly st there) ((retuned_keeps rank t).node st) (retuned_on_air rank t st)
         (same_ended rank t st) (here st there node).1)
         (λ st there other. orderly_later m.numbers m.now t st st later (h.orderly st there) refl refl refl (elsewhere st there other).1);
     known =
         λ y there. elim (h.known y there) [
-          | inl kept ↦ inl (kept_on m is change (retuned_keeps rank t) v t (same_air rank t) y kept)
+          | inl kept ↦ inl (kept_on m is change (retuned_keeps rank t) v t (retuned_on_air rank t) y kept)
           | inr old ↦ inr (omega arith)
         ];
-    sent = λ y kept. h.sent y (kept_back m is change (retuned_keeps rank t) v t (same_air rank t) y kept);
+    sent = λ y kept. h.sent y (kept_back m is change (retuned_keeps rank t) v t (retuned_on_air rank t) y kept);
     past = λ k there. elim (Contains-append_cases a.tunings (option_to_list ending) k there) [
       | inl ended ↦ let by = h.past k ended in omega arith
       | inr new ↦ omega (arith, (closed_is v rank t (tuned_of (station_of m v)) k (in_option ending k new)).end)

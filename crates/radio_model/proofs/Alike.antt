@@ -14,7 +14,7 @@ use Rattle.radio_model.specs.declared.rivals.Rival.{Rival}
 use Rattle.radio_model.specs.declared.sending.Sending.{Sending}
 use Rattle.radio_model.specs.declared.station.Station.{Station}
 use Rattle.radio_model.proofs.Crowds.{harmless_come}
-use Rattle.radio_model.proofs.Members.{some_of, from_filter}
+use Rattle.lwb_base.proofs.Elements.{some_of, filter_from}
 use Rattle.radio_model.proofs.RivalFacts.{rival, of_test, meets_true, same_from}
 
 pub origin_from : (a b : Origin) → is_same a b ≡ true → a ≡ b
@@ -59,7 +59,7 @@ module _ (p : Numbers) (x : Sending) (st : Station) (mk : Mark) (origin : Origin
   none_differs lines v =
       false_from_ne_true (list_any (differs lines v) (rivals_in p x st)) (λ some.
       let r = some_of (differs lines v) (rivals_in p x st) some in
-      let y = from_filter (rival_to p x st) (on_air st) r.0 r.1 in
+      let y = filter_from (rival_to p x st) (on_air st) r.0 r.1 in
       let parts = and_parts (reaches lines v r.0) (not r.0.same) r.2 in
       both_ways r.0.same (not-true r.0.same parts.1) (one_packet y.0 r.0 y.1 y.2).0)
 
@@ -67,7 +67,7 @@ module _ (p : Numbers) (x : Sending) (st : Station) (mk : Mark) (origin : Origin
   none_spoils lines v =
       false_from_ne_true (list_any (spoils lines v) (rivals_in p x st)) (λ some.
       let r = some_of (spoils lines v) (rivals_in p x st) some in
-      let y = from_filter (rival_to p x st) (on_air st) r.0 r.1 in
+      let y = filter_from (rival_to p x st) (on_air st) r.0 r.1 in
       let parts = and_parts (reaches lines v r.0 && r.0.same) (not r.0.in_time) r.2 in
       both_ways r.0.in_time (not-true r.0.in_time parts.1) (one_packet y.0 r.0 y.1 y.2).1)
 

@@ -10,13 +10,14 @@ use Rattle.radio_model.proofs.Tunings.{Goes}
 use Rattle.radio_model.specs.Stations.{MediumState, fresh, stations_from, first_state, on_air, covers}
 use Rattle.radio_model.specs.Holding.{Holds, IsOrderly, as_it_stands, nothing_yet}
 use Rattle.radio_model.specs.declared.station.Station.{Station}
-use Rattle.radio_model.proofs.Members.{in_either, not_in_none}
+use Rattle.lwb_base.proofs.Elements.{contains_cases, not_in_none}
 use Rattle.radio_model.proofs.Places.{first_is_medium}
 use Rattle.radio_model.proofs.Scenes.{stands}
 
 is_fresh : (k : ℕ) (vs : List ℕ) (st : Station) → Contains (stations_from k vs) st → (v : ℕ) × (i : ℕ) × (fresh v i ≡ st)
 is_fresh k [] st there = absurd (not_in_none st there)
-is_fresh k (v ∷ vs) st there = elim (in_either (stations_from (k + 1) vs) (fresh v k) st there) [ inl is ↦ (v, k, is) | inr rest ↦ is_fresh (k + 1) vs st rest ]
+is_fresh k (v ∷ vs) st there =
+    elim (contains_cases (fresh v k) (stations_from (k + 1) vs) st there) [ inl is ↦ (v, k, is) | inr rest ↦ is_fresh (k + 1) vs st rest ]
 
 module _ (p : Numbers) (nodes : List ℕ) (profile : IsProfile p) (are : AreNodes nodes) (lines : Lines) where
   abbrev m : MediumState

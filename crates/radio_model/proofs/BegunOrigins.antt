@@ -2,7 +2,7 @@
 use Rattle.std.proofs.Common.{◌≡◌, ℕ, ◌+◌, ◌<◌, ◌≤◌, List, [], ◌∷◌, ◌++◌, length, set, get_or, true, ◌&&◌, nat_lt, Option, Some, None, option_to_list, refl}
 use Rattle.std.proofs.Common.{sym, ◌∙◌, ap, subst, arith, inl, inr, is_some, is_none, append-nil}
 use Rattle.std.proofs.lemmas.Bool.{cases_eq, and_parts, ltb-true, false≢true}
-use Rattle.std.proofs.lemmas.List.{length-set, get_or-set_same, get_or-set_other}
+use Rattle.std.proofs.lemmas.List.{length-set, get_or-set_same, get_or-set_other, get_or_default}
 use Rattle.std.proofs.lemmas.Slice.Eq.{bytes_eq-Decides}
 use Rattle.std.specs.Str.{bytes_eq}
 use Rattle.lwb_base.specs.Profile.{Numbers, airtime}
@@ -16,7 +16,6 @@ use Rattle.radio_model.specs.declared.sending.Sending.{Sending}
 use Rattle.radio_model.specs.declared.station.Station.{Station}
 use Rattle.radio_model.specs.declared.station.Tuned.{Tuned}
 use Rattle.radio_model.proofs.Marked.{mark_pushed, marks_changed, marks_stay}
-use Rattle.radio_model.proofs.Members.{same_default}
 use Rattle.radio_model.proofs.Origins.{pushed_is_newest, newest_pushed, stands_then, alike_kept}
 
 -- another sending begins
@@ -41,7 +40,7 @@ module _ (now t end : ℕ) (sts : List Station) (mks : List Mark) (i : ℕ) (old
       (record {
         below = s.below;
         station = s.there;
-        mark = same_default mks h.place (get_or mks h.place no_mark) no_mark (omega (arith, s.below, one_each));
+        mark = get_or_default mks h.place (get_or mks h.place no_mark) no_mark (omega (arith, s.below, one_each));
       }) s.is).1
 
   sent_on : (o : Origin) → HasSent sts o → HasSent (set sts i new) o
@@ -85,7 +84,7 @@ module _ (now t end : ℕ) (sts : List Station) (mks : List Mark) (i : ℕ) (old
   -- its station has sent nothing at t
   fresh_start : HasSent sts (record { place = i; start = t }) → ⊥
   fresh_start h =
-      let own : h.station ≡ old = sym h.there ∙ same_default sts i h.station old below ∙ sym at in
+      let own : h.station ≡ old = sym h.there ∙ get_or_default sts i h.station old below ∙ sym at in
       let newest : IsNewest old.ended.items h.newest = subst (λ (l : List Sending). IsNewest l h.newest) silent (subst (λ (s : Station). IsNewest (on_air
       s) h.newest) own h.is) in
       let before = (aged.over newest.place h.newest (omega (arith, newest.last))).0 in

@@ -16,7 +16,7 @@ use Rattle.radio_model.specs.declared.rivals.Rival.{Rival}
 use Rattle.radio_model.specs.declared.sending.Sending.{Sending}
 use Rattle.radio_model.specs.declared.station.Station.{Station}
 use Rattle.radio_model.proofs.Alike.{origin_from}
-use Rattle.radio_model.proofs.Members.{some_of, from_filter}
+use Rattle.lwb_base.proofs.Elements.{some_of, filter_from}
 use Rattle.radio_model.proofs.RivalFacts.{rival, of_test, meets_true, same_from}
 
 module _ (p : Numbers) (x : Sending) (st : Station) (mk : Mark) (origin : Origin) (opens delta : ℕ) (is : IsMark (on_air st) mk) (alike : IsAlike
@@ -73,7 +73,7 @@ module _ (p : Numbers) (x : Sending) (st : Station) (mk : Mark) (origin : Origin
 
   known : (r : Rival) → Contains (rivals_in p x st) r → Known r
   known r there =
-      let y = from_filter (rival_to p x st) (on_air st) r there in
+      let y = filter_from (rival_to p x st) (on_air st) r there in
       let test = of_test p x ((y.0.rank == x.rank) && overlaps x y.0) (rival p x st y.0) r y.2 in
       let met = meets_true x y.0 (and_parts (y.0.rank == x.rank) (overlaps x y.0) test.0).1 in
       let newest = is_newest y.0 y.1 met in

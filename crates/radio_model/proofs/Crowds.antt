@@ -15,7 +15,7 @@ use Rattle.radio_model.specs.declared.sending.Sending.{Sending}
 use Rattle.radio_model.specs.declared.station.Station.{Station}
 use Rattle.radio_model.specs.declared.brought.Brought.{Brought}
 use Rattle.radio_model.specs.declared.rivals.Rival.{Rival}
-use Rattle.radio_model.proofs.Members.{some_of, from_filter}
+use Rattle.lwb_base.proofs.Elements.{some_of, filter_from}
 
 alone : (a : Bool) → a ≡ (a || false)
 alone true = refl
@@ -115,6 +115,6 @@ module _ (lines : Lines) (p : Numbers) (x : Sending) (st : Station) (v named : �
   other_sends other =
       false_from_ne_true (list_any (comes_from lines v named) (rivals_in p x st)) (λ some.
       let r = some_of (comes_from lines v named) (rivals_in p x st) some in
-      let y = from_filter (rival_to p x st) (on_air st) r.0 r.1 in
+      let y = filter_from (rival_to p x st) (on_air st) r.0 r.1 in
       let parts = and_parts (repeats lines v r.0) (r.0.node == named) r.2 in
       other (sym (of_sender ((y.0.rank == x.rank) && overlaps x y.0) _ r.0 y.2) ∙ eqb-true r.0.node named parts.1))

@@ -1,9 +1,10 @@
 -- What comes early by its mark brings the packet of x out of time, and nothing else.
-use Rattle.std.proofs.Common.{◌≡◌, ℕ, ◌+◌, ◌-◌, ◌<◌, ◌≤◌, List, length, get_or, Bool, true, false, not, ◌&&◌, ◌||◌, ◌==◌}
-use Rattle.std.proofs.Common.{nat_lt, nat_le, Some, None, refl, sym, ◌∙◌, ap, arith, inl, inr, ◌⊎◌, Contains}
-use Rattle.std.proofs.lemmas.Bool.{cases_lt, and_parts, and_from, or_cases, or_left, or_right, eqb-true, eq-eqb}
-use Rattle.std.proofs.lemmas.Bool.{ltb-true, leb-true, le-leb, both_ways, cond-true, false_from_ne_true, not-true}
+use Rattle.std.proofs.Common.{◌≡◌, ℕ, ◌+◌, ◌-◌, ◌<◌, ◌≤◌, List, length, get_or, true, false, not, ◌&&◌, ◌||◌, ◌==◌}
+use Rattle.std.proofs.Common.{nat_lt, nat_le, Some, None, sym, ◌∙◌, ap, arith, inl, inr, ◌⊎◌, Contains}
+use Rattle.std.proofs.lemmas.Bool.{cases_lt, and_parts, and_from, or_cases, or_left, or_right, eqb-true, eq-eqb, ltb-true, leb-true, le-leb, both_ways}
+use Rattle.std.proofs.lemmas.Bool.{cond-true, false_from_ne_true, not-true}
 use Rattle.std.specs.List.{list_any}
+use Rattle.std.proofs.lemmas.List.{get_or_default}
 use Rattle.lwb_base.specs.Profile.{Numbers}
 use Rattle.link_trace.specs.Masks.{IsMask}
 use Rattle.link_trace.specs.Passes.{Lines}
@@ -19,13 +20,9 @@ use Rattle.radio_model.specs.declared.rivals.Rival.{Rival}
 use Rattle.radio_model.specs.declared.sending.Sending.{Sending}
 use Rattle.radio_model.specs.declared.station.Station.{Station}
 use Rattle.radio_model.proofs.Alike.{origin_from}
-use Rattle.radio_model.proofs.Members.{some_of, any_of, from_filter, in_filter, same_default}
+use Rattle.lwb_base.proofs.Elements.{some_of, any_of, filter_from, in_filter}
+use Rattle.lwb_base.proofs.Truths.{same_truth}
 use Rattle.radio_model.proofs.RivalFacts.{rival, of_test, meets_true, meets_from, same_from, before_true}
-
-equal : (a b : Bool) → (a ≡ true → b ≡ true) → (b ≡ true → a ≡ true) → a ≡ b
-equal true b there back = sym (there refl)
-equal false true there back = back refl
-equal false false there back = refl
 
 module _ (p : Numbers) (x : Sending) (st : Station) (mk : Mark) (origin : Origin) (opens : ℕ) (is : IsMark (on_air st) mk) (alike : IsAlike
     (on_air st) st.node mk origin x) (starts : IsFrameStart p.frame x.start opens)
@@ -131,7 +128,7 @@ module _ (p : Numbers) (x : Sending) (st : Station) (mk : Mark) (origin : Origin
 
   known : (r : Rival) → Contains (rivals_in p x st) r → Known r
   known r there =
-      let y = from_filter (rival_to p x st) (on_air st) r there in
+      let y = filter_from (rival_to p x st) (on_air st) r there in
       let test = of_test p x ((y.0.rank == x.rank) && overlaps x y.0) (rival p x st y.0) r y.2 in
       let met = meets_true x y.0 (and_parts (y.0.rank == x.rank) (overlaps x y.0) test.0).1 in
       let s = same_as y.0 (is_newest y.0 y.1 met) in
@@ -147,7 +144,7 @@ module _ (p : Numbers) (x : Sending) (st : Station) (mk : Mark) (origin : Origin
       let ys = on_air st in
       let some : 0 < length ys = is.some (let later = runs in omega arith) in
       let k : ℕ = length ys - 1 in
-      (get_or ys k x, record { place = k; last = omega arith; there = same_default ys k (get_or ys k x) x (omega arith) })
+      (get_or ys k x, record { place = k; last = omega arith; there = get_or_default ys k (get_or ys k x) x (omega arith) })
 
   one_there : Contains (rivals_in p x st) (rival p x st newest_one.0)
   one_there =
@@ -170,7 +167,7 @@ module _ (p : Numbers) (x : Sending) (st : Station) (mk : Mark) (origin : Origin
 
   reaching : (lines : Lines) (v : ℕ) → passes_at lines (key_of p x) st.node v ≡ list_any (spoils lines v) (rivals_in p x st)
   reaching lines v =
-      equal (passes_at lines (key_of p x) st.node v) (list_any (spoils lines v) (rivals_in p x st))
+      same_truth (passes_at lines (key_of p x) st.node v) (list_any (spoils lines v) (rivals_in p x st))
       (λ passes.
       let r = rival p x st newest_one.0 in
       let k = known r one_there in

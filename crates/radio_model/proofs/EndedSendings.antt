@@ -15,7 +15,7 @@ use Rattle.radio_model.specs.Ages.{IsAged, ByEnd}
 use Rattle.radio_model.specs.Meetings.{rival_to}
 use Rattle.radio_model.specs.declared.sending.Sending.{Sending}
 use Rattle.radio_model.specs.declared.station.Station.{Station}
-use Rattle.radio_model.proofs.Members.{any_of}
+use Rattle.lwb_base.proofs.Elements.{any_of}
 
 pub none_kept : {X Y : Type 0} (f : X → Option Y) (xs : List X) → All (λ (x : X). f x ≡ None) xs → filter_map f xs ≡ []
 none_kept f [] all = refl

@@ -5,6 +5,7 @@ use Rattle.std.proofs.lemmas.Bool.{cases_eq, lt-ltb, both_ways, false_from_ne_tr
 use Rattle.std.proofs.lemmas.Nat.Bits.{bit_at_or, bit_at_and, bit_at-lt}
 use Rattle.std.specs.Int.{bit_at}
 use Rattle.std.specs.List.{list_any}
+use Rattle.std.proofs.lemmas.List.{get_or_default}
 use Rattle.lwb_base.specs.Profile.{Numbers}
 use Rattle.link_trace.specs.Masks.{IsMask}
 use Rattle.link_trace.specs.Passes.{Lines, passes}
@@ -19,7 +20,7 @@ use Rattle.radio_model.specs.declared.rivals.Key.{Key}
 use Rattle.radio_model.specs.declared.rivals.Rival.{Rival}
 use Rattle.radio_model.specs.declared.sending.Sending.{Sending}
 use Rattle.radio_model.specs.declared.station.Station.{Station}
-use Rattle.radio_model.proofs.Members.{any_of, some_of, in_flat, from_flat, same_default}
+use Rattle.lwb_base.proofs.Elements.{any_of, some_of, in_flat, from_flat}
 use Rattle.radio_model.proofs.Close.{close_same, close_harmless}
 use Rattle.radio_model.proofs.RestOfPlaces.{InOrder, bit_cases}
 
@@ -125,7 +126,7 @@ module _ (lines : Lines) (nodes : List ℕ) (p : Numbers) (x : Sending) (sts : L
 
     tells_one : (i : ℕ) (d : Station) → i < length nodes → Tells lines nodes (rivals_in p x (get_or sts k d)) i (both_crowds a b)
     tells_one i d inside =
-        subst (λ (s : Station). Tells lines nodes (rivals_in p x s) i (both_crowds a b)) (at ∙ same_default sts k st d below) (record {
+        subst (λ (s : Station). Tells lines nodes (rivals_in p x s) i (both_crowds a b)) (at ∙ get_or_default sts k st d below) (record {
           mixed = λ none. if_unset nodes (λ v. list_any (differs lines v) (rivals_in p x st)) b.mixed is.mixed i inside (neither_bit a.mixed b.mixed i none).1;
           spoiled = λ none. if_unset nodes (λ v. list_any (spoils lines v) (rivals_in p x st)) b.spoiled is.spoiled i inside
               (neither_bit a.spoiled b.spoiled i none).1;
@@ -190,8 +191,8 @@ module _ (lines : Lines) (nodes : List ℕ) (p : Numbers) (x : Sending) (sts : L
       let is = marks.each k d no_mark below in
       let stands = alike k st mk (record {
         below = below;
-        station = same_default sts k st d below;
-        mark = same_default mks k mk no_mark (omega (arith, below, marks.one_each));
+        station = get_or_default sts k st d below;
+        mark = get_or_default mks k mk no_mark (omega (arith, below, marks.one_each));
       }) in
       let at = placed k d below in
       let place = in_order k d below in

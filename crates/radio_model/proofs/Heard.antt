@@ -1,8 +1,8 @@
 -- Whom the medium names hears, and who hears it names.
 use Rattle.std.proofs.Common.{◌≡◌, ℕ, ◌+◌, ◌*◌, ◌/◌, ◌<◌, ◌≤◌, ◌↔◌, ◌⊎◌, inl, inr, List, length, Bool, true, false, not, ◌&&◌, ◌||◌}
 use Rattle.std.proofs.Common.{◌==◌, if◌then◌else◌, Option, Some, None, refl, sym, ◌∙◌, ap, subst, arith, eq-eqb, Contains}
-use Rattle.std.proofs.lemmas.Bool.{and_parts, and_from, or_cases, or_left, or_right, eqb-true, cases_Bool}
-use Rattle.std.proofs.lemmas.Bool.{both_ways, not-true, not_from_false, false_from_ne_true, false≢true}
+use Rattle.std.proofs.lemmas.Bool.{and_parts, and_from, or_cases, or_left, or_right, eqb-true, cases_Bool, both_ways, not-true, not_from_false}
+use Rattle.std.proofs.lemmas.Bool.{false_from_ne_true, false≢true}
 use Rattle.std.proofs.Math.Nat.{mul-le-mul_right}
 use Rattle.std.specs.List.{list_any}
 use Rattle.lwb_base.specs.Profile.{Numbers, IsProfile}
@@ -15,7 +15,7 @@ use Rattle.radio_model.specs.Holding.{Holds, IsKept, IsOwn, as_it_stands, longes
 use Rattle.radio_model.specs.declared.rivals.Key.{Key}
 use Rattle.radio_model.specs.declared.rivals.Rival.{Rival}
 use Rattle.radio_model.specs.declared.station.Station.{Station}
-use Rattle.radio_model.proofs.Members.{in_map, from_map, in_filter, from_filter, any_of, some_of}
+use Rattle.lwb_base.proofs.Elements.{map_contains, map_from, in_filter, filter_from, any_of, some_of}
 use Rattle.radio_model.proofs.Places.{one_station}
 use Rattle.radio_model.proofs.RivalFacts.{meets_true, meets_from, same_true, same_from, before_true, before_from, rival, in_rivals, from_rivals, Comes}
 
@@ -275,12 +275,12 @@ module _ (m : MediumState) (is : IsMedium m) (a : Scene) (h : Holds m a) (u : �
   pub hearers_are : (w : ℕ) → Contains (hearers_to p a.lines u x m.stations) (w, u) ↔ (Contains (nodes_of m) w × Hears scene w x)
   hearers_are w = (
     λ there.
-        let s = from_filter (heard_by a.lines u x key rs) m.stations (w, u) there in
+        let s = filter_from (heard_by a.lines u x key rs) m.stations (w, u) there in
         let both = of_heard (is_heard a.lines u x key rs s.0) s.0.node (w, u) s.2 in
         let node : s.0.node ≡ w = sym (ap (λ (q : ℕ × ℕ). q.0) both.1) in
-        (subst (Contains (nodes_of m)) node (in_map node_of m.stations s.0 s.1), subst (λ (n : ℕ). Hears scene n x) node (heard_hears s.0 s.1 both.0)),
+        (subst (Contains (nodes_of m)) node (map_contains node_of m.stations s.0 s.1), subst (λ (n : ℕ). Hears scene n x) node (heard_hears s.0 s.1 both.0)),
     λ is_one.
-        let s = from_map node_of m.stations w is_one.0 in
+        let s = map_from node_of m.stations w is_one.0 in
         let so : is_heard a.lines u x key rs s.0 ≡ true = hears_heard s.0 s.1 (subst (λ (n : ℕ). Hears scene n x) (sym s.2) is_one.1) in
         in_filter (heard_by a.lines u x key rs) m.stations s.0 (w, u) s.1
         (ap (λ (b : Bool). let some : Option (ℕ × ℕ) = if b then Some (s.0.node, u) else None in some) so

@@ -5,7 +5,7 @@ use Rattle.std.proofs.lemmas.List.Elements.{Contains-get_or}
 use Rattle.std.specs.List.{cons_option}
 use Rattle.radio_model.specs.Stations.{node_of}
 use Rattle.radio_model.specs.declared.station.Station.{Station}
-use Rattle.radio_model.proofs.Members.{in_map, from_filter, pairs_cons, pairs_tail, pairs_head}
+use Rattle.lwb_base.proofs.Elements.{map_contains, filter_from, pairs_cons, pairs_tail, pairs_head}
 
 module _ (test : Station → Bool) (u : ℕ) where
   abbrev pair : Station → Option (ℕ × ℕ)
@@ -18,7 +18,7 @@ module _ (test : Station → Bool) (u : ℕ) where
   pub one_sender : (sts : List Station) → All (λ (q : ℕ × ℕ). q.1 ≡ u) (filter_map pair sts)
   one_sender sts k d below =
       let q = get_or (filter_map pair sts) k d in
-      let s = from_filter pair sts q (Contains-get_or (filter_map pair sts) k d below) in
+      let s = filter_from pair sts q (Contains-get_or (filter_map pair sts) k d below) in
       ap (λ (z : ℕ × ℕ). z.1) (of_pair (test s.0) s.0.node q s.2)
 
   pub by_hearer : (sts : List Station) → AllPairs (λ a b. a < b) (map node_of sts) → AllPairs (λ (q r : ℕ × ℕ). q.0 < r.0) (filter_map pair sts)
@@ -30,7 +30,7 @@ module _ (test : Station → Bool) (u : ℕ) where
           → AllPairs (λ (q r : ℕ × ℕ). q.0 < r.0) (cons_option {X = ℕ × ℕ} (if b then Some (st.node, u) else None) (filter_map pair sts))
       next false rest = rest
       next true rest = pairs_cons (λ (q r : ℕ × ℕ). q.0 < r.0) (st.node, u) (filter_map pair sts) (λ q there.
-          let s = from_filter pair sts q there in
+          let s = filter_from pair sts q there in
           let is = of_pair (test s.0) s.0.node q s.2 in
           subst (λ (n : ℕ). st.node < n) (sym (ap (λ (z : ℕ × ℕ). z.0) is))
-          (pairs_head (λ a b. a < b) st.node (map node_of sts) ascend s.0.node (in_map node_of sts s.0 s.1))) rest
+          (pairs_head (λ a b. a < b) st.node (map node_of sts) ascend s.0.node (map_contains node_of sts s.0 s.1))) rest

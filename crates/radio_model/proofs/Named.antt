@@ -7,7 +7,7 @@ use Rattle.radio_model.specs.Hearing.{Scene, Hears}
 use Rattle.radio_model.specs.Stations.{MediumState, IsMedium, node_of, nodes_of, station_of, sending_of, Ends}
 use Rattle.radio_model.specs.Meetings.{hearers_to, is_heard, key_of, rivals_to}
 use Rattle.radio_model.specs.Holding.{Holds, as_it_stands}
-use Rattle.radio_model.proofs.Members.{from_map, of_option}
+use Rattle.lwb_base.proofs.Elements.{map_from, of_option}
 use Rattle.radio_model.proofs.OneCall.{found_member}
 use Rattle.radio_model.proofs.Heard.{hearers_are}
 use Rattle.radio_model.proofs.HearersInOrder.{one_sender, by_hearer}
@@ -35,7 +35,7 @@ module _ (m : MediumState) (is : IsMedium m) (u t : ℕ) (ends : Ends m u t) (li
   pub names_who_hears : Contains (nodes_of m) u → m.now ≤ t → (a : Scene) (x : Sending) → Holds m a → a.lines ≡ lines → sending_of (station_of m u) ≡ Some x
       → (v : ℕ) → Contains heard (v, u) ↔ (Contains (nodes_of m) v × Hears (as_it_stands m t a) v x)
   names_who_hears member later a x h same runs v =
-      let s = from_map node_of m.stations u member in
+      let s = map_from node_of m.stations u member in
       let found : station_of m u ≡ Some s.0 = ap (station_of m) (sym s.2) ∙ found_member m.stations s.0 is.nodes.ascending s.1 in
       let sends : s.0.sending ≡ Some x = sym (ap sending_of found) ∙ runs in
       let until : x.end ≡ t = ap (λ (y : Sending). y.end) (some_same x ends.sending (sending_of (station_of m u)) runs ends.runs) ∙ ends.until in

@@ -11,7 +11,7 @@ use Rattle.radio_model.specs.Stations.{MediumState, node_of, nodes_of, is_of, st
 use Rattle.radio_model.specs.Holding.{Agree, Holds, lasting_at, as_it_stands, closed, tuned_of, begun, after_tuning, after_starting}
 use Rattle.radio_model.specs.declared.station.Tuned.{Tuned}
 use Rattle.radio_model.specs.declared.station.Station.{Station}
-use Rattle.radio_model.proofs.Members.{in_option, in_head, in_tail, in_map, from_map}
+use Rattle.lwb_base.proofs.Elements.{in_option, contains_head, contains_tail, map_contains, map_from}
 use Rattle.radio_model.proofs.OneStation.{node_stays}
 use Rattle.radio_model.proofs.Changes.{retuned_keeps}
 use Rattle.radio_model.proofs.Tunings.{Goes, Tells}
@@ -107,10 +107,10 @@ found_is [] v st = λ is. none is
 found_is (x ∷ xs) v st =
     cond_both (x.node == v) (Some x) (find (is_of v) xs) (λ (o : Option Station). o ≡ Some st → Contains (x ∷ xs) st × (st.node ≡ v))
     (λ same is. here (eqb-true x.node v same) is)
-    (λ _ is. let rest = found_is xs v st is in (in_tail xs x st rest.0, rest.1))
+    (λ _ is. let rest = found_is xs v st is in (contains_tail x xs st rest.0, rest.1))
   where
     here : x.node ≡ v → (let o : Option Station = Some x in o ≡ Some st) → Contains (x ∷ xs) st × (st.node ≡ v)
-    here node is = let same : x ≡ st = cc in subst (λ (s : Station). Contains (x ∷ xs) s × (s.node ≡ v)) same (in_head xs x, node)
+    here node is = let same : x ≡ st = cc in subst (λ (s : Station). Contains (x ∷ xs) s × (s.node ≡ v)) same (contains_head x xs, node)
 
 module _ (m : MediumState) (ascend : AllPairs (λ a b. a < b) (nodes_of m)) (a : Scene) (h : Holds m a) (v : ℕ) (rank : Option ℕ) (t : ℕ) (later : m.now ≤ t)
   where
@@ -153,7 +153,7 @@ module _ (m : MediumState) (ascend : AllPairs (λ a b. a < b) (nodes_of m)) (a :
             | inl ended ↦ lit_stands behind scene t u c k (subst (λ (n : ℕ). Lit scene n c k) l.node ended)
             | inr goes ↦ lasts_stands behind scene t u c k early (record {
               station = changed_at v change l.station;
-              there = in_map (changed_at v change) m.stations l.station l.there;
+              there = map_contains (changed_at v change) m.stations l.station l.there;
               node = node_stays change v (retuned_keeps rank t).node l.station ∙ l.node;
               goes = goes;
             })
@@ -185,7 +185,7 @@ module _ (m : MediumState) (ascend : AllPairs (λ a b. a < b) (nodes_of m)) (a :
                 was w.0 u c k w.1 node early (inl (subst (λ (n : ℕ). Lit scene n c k) (sym node) lit))
           ]
           | inr l ↦
-              let w = from_map (changed_at v change) m.stations l.station l.there in
+              let w = map_from (changed_at v change) m.stations l.station l.there in
               let node : w.0.node ≡ u = sym (node_stays change v (retuned_keeps rank t).node w.0) ∙ ap node_of w.2 ∙ l.node in
               was w.0 u c k w.1 node early (inr (subst (λ (s : Station). Goes s.tuned c k) (sym w.2) l.goes))
         ]

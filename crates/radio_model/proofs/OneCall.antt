@@ -6,7 +6,7 @@ use Rattle.radio_model.specs.Hearing.{Scene}
 use Rattle.radio_model.specs.Stations.{MediumState, IsMedium, node_of, is_of, on_air, covers, changed_at, after}
 use Rattle.radio_model.specs.Holding.{Holds, IsKept, TunedFrom, as_it_stands}
 use Rattle.radio_model.specs.declared.station.Station.{Station}
-use Rattle.radio_model.proofs.Members.{in_map, from_map}
+use Rattle.lwb_base.proofs.Elements.{map_contains, map_from}
 use Rattle.radio_model.proofs.Places.{found, Keeps, still_medium}
 use Rattle.radio_model.proofs.Tunings.{Tells}
 use Rattle.radio_model.proofs.Scenes.{Lit, stands}
@@ -56,10 +56,10 @@ module _ (m : MediumState) (is : IsMedium m) (f : Station → Station) (keeps : 
 
   -- each station was one before
   pub was : (st : Station) → Contains changed.stations st → (s : Station) × Contains m.stations s × (changed_at v f s ≡ st)
-  was st there = from_map (changed_at v f) m.stations st there
+  was st there = map_from (changed_at v f) m.stations st there
 
   pub is_there : (st : Station) → Contains m.stations st → Contains changed.stations (changed_at v f st)
-  is_there st there = in_map (changed_at v f) m.stations st there
+  is_there st there = map_contains (changed_at v f) m.stations st there
 
   -- what is true of the changed one and of all others is true of each
   pub each_after : (P : Station → Type 0) → ((st : Station) → Contains m.stations st → st.node ≡ v → P (f st))

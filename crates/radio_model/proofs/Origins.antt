@@ -2,7 +2,7 @@
 use Rattle.std.proofs.Common.{◌≡◌, ◌≢◌, ℕ, ◌+◌, ◌-◌, ◌<◌, ◌≤◌, ◌⊎◌, List, [], ◌∷◌, ◌++◌, length, drop, set, get_or, Option, Some, None, option_to_list, refl}
 use Rattle.std.proofs.Common.{sym, ◌∙◌, ap, subst, arith, inl, inr, length-append, append-nil}
 use Rattle.std.proofs.lemmas.Bool.{cases_eq}
-use Rattle.std.proofs.lemmas.List.{get_or-drop, length-drop, length-set, get_or-set_same, get_or-set_other}
+use Rattle.std.proofs.lemmas.List.{get_or-drop, length-drop, length-set, get_or-set_same, get_or-set_other, get_or_default}
 use Rattle.std.proofs.Math.Seq.{get_or-append_seam}
 use Rattle.radio_model.specs.Stations.{on_air, finished, stations_from}
 use Rattle.radio_model.specs.Marks.{IsNewest, Stands, HasSent, AreAlike, AreAlikeTo}
@@ -11,7 +11,6 @@ use Rattle.radio_model.specs.declared.mark.Origin.{Origin}
 use Rattle.radio_model.specs.declared.sending.Sending.{Sending}
 use Rattle.radio_model.specs.declared.station.Station.{Station}
 use Rattle.radio_model.proofs.Marked.{silent_from}
-use Rattle.radio_model.proofs.Members.{same_default}
 
 -- the newest of a list with one more, and of a list whose oldest are forgotten
 module _ (ys : List Sending) where
@@ -100,7 +99,7 @@ module _ (now t : ℕ) (sts : List Station) (mks : List Mark) (i : ℕ) (old new
   sent_still o h =
       elim (cases_eq o.place i) [
         | inl here ↦
-            let own : h.station ≡ old = sym h.there ∙ ap (λ (n : ℕ). get_or sts n h.station) here ∙ same_default sts i h.station old below ∙ sym at in
+            let own : h.station ≡ old = sym h.there ∙ ap (λ (n : ℕ). get_or sts n h.station) here ∙ get_or_default sts i h.station old below ∙ sym at in
             record {
               station = new;
               below = omega (arith, h.below, length-set sts i new);

@@ -1,14 +1,11 @@
 -- What a mask of nodes tells of one of them.
-use Rattle.std.proofs.Common.{◌≡◌, ℕ, List, Bool, true, false}
-use Rattle.std.proofs.Common.{◌&&◌, ◌==◌, get_or, length, if◌then◌else◌, refl, ◌∙◌, ap}
+use Rattle.std.proofs.Common.{◌≡◌, ℕ, List, Bool}
+use Rattle.std.proofs.Common.{◌&&◌, ◌==◌, get_or, length, if◌then◌else◌, ◌∙◌, ap}
 use Rattle.std.proofs.lemmas.Bool.{lt-ltb}
 use Rattle.std.specs.Int.{bit_at}
+use Rattle.lwb_base.proofs.Truths.{of_bit}
 use Rattle.link_trace.specs.Masks.{IsMask}
 use Rattle.radio_model.specs.Meetings.{IsPlaced}
-
-of_bit : (b : Bool) → ((if b then 1 else 0) == 1) ≡ b
-of_bit true = refl
-of_bit false = refl
 
 pub bit_tells : (nodes : List ℕ) (test : ℕ → Bool) (mask place node : ℕ) → IsMask test nodes mask → IsPlaced nodes place node
     → (bit_at mask place == 1) ≡ test node

@@ -1,8 +1,8 @@
 -- What is looked at to decide a reception is what the rule of hearing asks.
 use Rattle.std.proofs.Common.{◌≡◌, ℕ, ◌+◌, ◌≤◌, ◌⊎◌, inl, inr, List, Bool, true, false, not, ◌&&◌, ◌||◌, ◌==◌}
 use Rattle.std.proofs.Common.{Option, Some, None, refl, sym, ◌∙◌, ap, subst, eq-eqb, Contains}
-use Rattle.std.proofs.lemmas.Bool.{and_parts, and_from, or_cases, or_left, or_right, eqb-true, cases_Bool}
-use Rattle.std.proofs.lemmas.Bool.{both_ways, not-true, not_from_false, false_from_ne_true, false≢true}
+use Rattle.std.proofs.lemmas.Bool.{and_parts, and_from, or_cases, or_left, or_right, eqb-true, cases_Bool, both_ways, not-true, not_from_false}
+use Rattle.std.proofs.lemmas.Bool.{false_from_ne_true, false≢true}
 use Rattle.std.specs.List.{list_any}
 use Rattle.std.specs.Str.{bytes_eq}
 use Rattle.lwb_base.specs.Profile.{Numbers}
@@ -11,7 +11,7 @@ use Rattle.radio_model.specs.OnAir.{Sending}
 use Rattle.radio_model.specs.Hearing.{Scene, Hears, Rival, Before, TunedThrough, frame_of, slot_of, counter_of}
 use Rattle.radio_model.specs.Meetings.{comes_in_time}
 use Rattle.radio_model.specs.Stations.{overlaps}
-use Rattle.radio_model.proofs.Members.{any_of, some_of}
+use Rattle.lwb_base.proofs.Elements.{any_of, some_of}
 use Rattle.radio_model.proofs.RivalFacts.{meets_true, meets_from, same_true, same_from, before_true, before_from}
 use Rattle.radio_model.specs.Receptions.{AreNear, transmits, arrives, meets_on, repeats, differs, spoils, repeats_from, is_captured, comes_through}
 

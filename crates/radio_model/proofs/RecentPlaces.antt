@@ -1,7 +1,7 @@
 -- Whose sendings can matter, through the changes of a medium.
 use Rattle.std.proofs.Common.{◌≡◌, ◌≢◌, ℕ, ◌+◌, ◌<◌, ◌≤◌, inl, inr, List, length, set, get_or, true, false, ◌&&◌, nat_lt}
 use Rattle.std.proofs.Common.{nat_le, Option, Some, None, is_some, refl, sym, ◌∙◌, ap, subst, arith}
-use Rattle.std.proofs.lemmas.Bool.{cases_lt, cases_eq, le-leb, lt-ltb, le-ltb, or_left, cond-true, cond-false, cond_both}
+use Rattle.std.proofs.lemmas.Bool.{cases_lt, cases_eq, le-leb, lt-ltb, le-ltb, or_left, cond-true, cond-false}
 use Rattle.std.proofs.lemmas.List.{length-map, length-set, get_or-set_same, get_or-set_other}
 use Rattle.std.proofs.lemmas.List.Elements.{Contains-append_right, All-contains}
 use Rattle.std.proofs.lemmas.Nat.Bits.{bit_at-zero}
@@ -9,7 +9,7 @@ use Rattle.std.proofs.Math.Nat.{le-max_left, le-max_right}
 use Rattle.std.specs.Int.{bit_at}
 use Rattle.lwb_base.specs.Profile.{Numbers, airtime}
 use Rattle.radio_model.specs.Stations.{on_air, begins_on, node_of, started, first_sending, next_sending}
-use Rattle.radio_model.specs.Stations.{stations_from, retuned, tuned_in, tuned_out, is_tuned_to}
+use Rattle.radio_model.specs.Stations.{stations_from}
 use Rattle.radio_model.specs.Marks.{AreMarks, no_mark, next_mark, next_marks}
 use Rattle.radio_model.specs.Recent.{AreRecent, AreAmong, IsNext, no_recent}
 use Rattle.radio_model.specs.declared.mark.Mark.{Mark}
@@ -19,7 +19,7 @@ use Rattle.radio_model.specs.declared.recent.Recent.{Recent}
 use Rattle.radio_model.specs.declared.sending.Sending.{Sending}
 use Rattle.radio_model.specs.declared.station.Station.{Station}
 use Rattle.radio_model.proofs.Marked.{no_rivals_aside}
-use Rattle.radio_model.proofs.Members.{of_option}
+use Rattle.lwb_base.proofs.Elements.{of_option}
 use Rattle.radio_model.proofs.BegunOrigins.{can_start, can't_start}
 use Rattle.radio_model.proofs.Places.{nodes_from}
 
@@ -53,11 +53,6 @@ recent_stay now t sts mks r i old new below at back later are = record {
   within = λ k one. omega (arith, are.within k one, length-set sts i new);
   latest = λ k e inside. are.latest k e (omega (arith, inside, length-set sts i new));
 }
-
-pub retuned_sending : (rank : Option ℕ) (t : ℕ) (st : Station) → (retuned rank t st).sending ≡ st.sending
-retuned_sending None t st = refl
-retuned_sending (Some r) t st = cond_both (is_tuned_to st.tuned r) st (tuned_in r t (tuned_out t st)) (λ (s : Station). s.sending
-    ≡ st.sending) (λ _. refl) (λ _. refl)
 
 -- another sending begins
 module _ (now t : ℕ) (sts : List Station) (mks : List Mark) (r s : Recent) (i : ℕ) (new : Station) (x : Sending) (mk : Mark) (below : i < length sts)

@@ -11,7 +11,7 @@ use Rattle.radio_model.specs.Stations.{on_air, overlaps}
 use Rattle.radio_model.specs.Meetings.{key_of, comes_in_time, rival_to, rivals_in, rivals_to}
 use Rattle.radio_model.specs.declared.station.Station.{Station}
 use Rattle.radio_model.specs.declared.rivals.Rival.{Rival}
-use Rattle.radio_model.proofs.Members.{in_filter, from_filter, in_flat, from_flat}
+use Rattle.lwb_base.proofs.Elements.{in_filter, filter_from, in_flat, from_flat}
 
 pub meets_true : (x y : Sending) → overlaps x y ≡ true → Meets x y
 meets_true x y is = let both = and_parts (nat_lt x.start y.end) (nat_lt y.start x.end) is in
@@ -79,7 +79,7 @@ module _ (p : Numbers) (x : Sending) where
   pub from_rivals : (sts : List Station) (r : Rival) → Contains (rivals_to p x sts) r → Comes sts r
   from_rivals sts r there =
       let w = from_flat (rivals_in p x) sts r there in
-      let y = from_filter (rival_to p x w.0) (on_air w.0) r w.2 in
+      let y = filter_from (rival_to p x w.0) (on_air w.0) r w.2 in
       let both = of_test ((y.0.rank == x.rank) && overlaps x y.0) (rival w.0 y.0) r y.2 in
       let two = and_parts (y.0.rank == x.rank) (overlaps x y.0) both.0 in
       record { station = w.0; there = w.1; sending = y.0; kept = y.1; rank = eqb-true y.0.rank x.rank two.0; meets = meets_true x y.0 two.1; is = both.1 }

@@ -8,20 +8,7 @@ use Rattle.radio_model.specs.Meetings.{rival_to, rivals_in, rivals_to}
 use Rattle.radio_model.specs.declared.sending.Sending.{Sending}
 use Rattle.radio_model.specs.declared.station.Station.{Station}
 use Rattle.radio_model.specs.declared.rivals.Rival.{Rival}
-
-pub one_kept : {X Y : Type 0} (f : X → Option Y) (x : X) → filter_map f (x ∷ []) ≡ option_to_list (f x)
-one_kept {X} {Y} f x = of_one (f x)
-  where
-    of_one : (o : Option Y) → filter_map (λ (z : Option Y). z) (o ∷ []) ≡ option_to_list o
-    of_one None = refl
-    of_one (Some y) = refl
-
-pub filter_map_more : {X Y : Type 0} (f : X → Option Y) (xs : List X) (i : ℕ) (x : X) → i < length xs → x ≡ get_or xs i x
-    → filter_map f (take (i + 1) xs) ≡ filter_map f (take i xs) ++ option_to_list (f x)
-filter_map_more f xs i x below at =
-    ap (filter_map f) (take_more xs i x below ∙ ap (λ (y : _). take i xs ++ y ∷ []) (sym at))
-    ∙ filter_map-append f (take i xs) (x ∷ [])
-    ∙ ap (λ (l : List _). filter_map f (take i xs) ++ l) (one_kept f x)
+pub use Rattle.lwb_base.proofs.Lists.{one_kept, filter_map_more}
 
 -- what a list of stations brings, with one more station
 pub rivals_more : (p : Numbers) (x : Sending) (sts : List Station) (i : ℕ) (st : Station) → i < length sts → st ≡ get_or sts i st

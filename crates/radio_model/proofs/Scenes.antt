@@ -9,7 +9,7 @@ use Rattle.radio_model.specs.Stations.{MediumState, node_of, is_tuned_to}
 use Rattle.radio_model.specs.Holding.{lasting, lasting_at, as_it_stands, closed}
 use Rattle.radio_model.specs.declared.station.Tuned.{Tuned}
 use Rattle.radio_model.specs.declared.station.Station.{Station}
-use Rattle.radio_model.proofs.Members.{in_filter, from_filter, in_option, of_option}
+use Rattle.lwb_base.proofs.Elements.{in_filter, filter_from, in_option, of_option}
 use Rattle.radio_model.proofs.Places.{one_station}
 use Rattle.radio_model.proofs.Tunings.{Goes, Closes}
 
@@ -46,7 +46,7 @@ lit_or_lasts m a t v c k is =
     elim (Contains-append_cases a.tunings (filter_map (lasting_at t) m.stations) is.tuning is.there) [
       | inl ended ↦ inl (record { tuning = is.tuning; there = ended; node = is.node; rank = is.rank; since = is.since; until = is.until })
       | inr lasts ↦
-          let w = from_filter (lasting_at t) m.stations is.tuning lasts in
+          let w = filter_from (lasting_at t) m.stations is.tuning lasts in
           let l = lasts_as w.0.node w.0.tuned t is.tuning w.2 in
           let since = is.since in
           inr (record {

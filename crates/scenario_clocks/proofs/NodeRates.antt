@@ -2,7 +2,7 @@
 use Rattle.std.proofs.Common.{◌≡◌, ℕ, ℤ, zero, suc, ◌+◌, ◌<◌, ◌≤◌, ◌^◌, List, [], ◌∷◌, ◌++◌, Bool, true, false, ◌==◌, if◌then◌else◌, Option, Some, None}
 use Rattle.std.proofs.Common.{option_map, map, filter, length, get_or, set, drop, replicate, refl, sym, ◌∙◌, ap, subst, arith, All, ◌||◌}
 use Rattle.std.specs.Prelude.{◌≢◌}
-use Rattle.std.proofs.lemmas.Bool.{cond_both, cond-true, cond-false, eqb-true, eqb-false, le-ltb, lt-leb}
+use Rattle.std.proofs.lemmas.Bool.{cond_both, cond-true, cond-false, eqb-true, eqb-false, le-ltb, lt-leb, false≢true}
 use Rattle.std.proofs.lemmas.List.{length-set, get_or-set_same, get_or-set_other, map-append, append-nil, length-replicate}
 use Rattle.std.proofs.lemmas.List.Elements.{filter-append, recursion_from_All, All-from_recursion}
 use Rattle.std.proofs.lemmas.Iterator.Adapters.{position_from-zero}
@@ -143,11 +143,8 @@ pub ids_in_range : (rates : List RateLine) (ns : List NodeLine) (cs : List Segme
 ids_in_range rates ns cs are = All-from_recursion IsId ns (ids_by_recursion rates ns cs are)
 
 -- and so has a node that is one of them
-no_node : false ≡ true → ⊥
-no_node is = cc
-
 known_by_recursion : (ns : List NodeLine) (v : ℕ) → AllByRecursion IsId ns → knows ns v ≡ true → (1 ≤ v) × (v ≤ 200)
-known_by_recursion [] v ids known = absurd (no_node known)
+known_by_recursion [] v ids known = absurd (false≢true known)
 known_by_recursion (n ∷ ns) v ids known = by_test (n.node == v) refl known (λ later. known_by_recursion ns v ids.1 later)
   where
     by_test : (b : Bool) → (n.node == v) ≡ b → (b || knows ns v) ≡ true → (knows ns v ≡ true → (1 ≤ v) × (v ≤ 200)) → (1 ≤ v) × (v ≤ 200)

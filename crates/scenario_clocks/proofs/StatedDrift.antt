@@ -1,6 +1,6 @@
 -- The clocks that a text states keep the drift law.
 use Rattle.std.proofs.Common.{◌≡◌, ℕ, ◌≤◌, List, [], ◌∷◌, Bool, true, false, ◌||◌, ◌==◌, if◌then◌else◌, map, filter}
-use Rattle.std.proofs.lemmas.Bool.{cond_both}
+use Rattle.std.proofs.lemmas.Bool.{cond_both, false≢true}
 use Rattle.std.proofs.lemmas.List.Elements.{recursion_from_All}
 use Rattle.std.specs.Int.RustNames.{unsigned_abs}
 use Rattle.std.specs.List.{AllByRecursion}
@@ -16,9 +16,6 @@ use Rattle.scenario_text.proofs.SoundScenarios.{sound}
 use Rattle.scenario_clocks.specs.NodeRates.{CanState}
 use Rattle.scenario_clocks.specs.StatedClocks.{entry_of, rates_of, stated_by, scenario_clock}
 
-no_node : false ≡ true → ⊥
-no_node is = cc
-
 tame_rates : (v : ℕ) (rs : List RateLine) → AllByRecursion (λ r. unsigned_abs r.ppm ≤ 20) rs → AreTame (rates_of rs v)
 tame_rates v [] all = tt
 tame_rates v (r ∷ rs) all =
@@ -27,7 +24,7 @@ tame_rates v (r ∷ rs) all =
 
 drift_by_recursion : (ns : List NodeLine) (rs : List RateLine) → AllByRecursion (λ n. n.offset ≤ 256000) ns → AllByRecursion (λ r. unsigned_abs r.ppm ≤ 20) rs
     → (v : ℕ) → knows ns v ≡ true → IsClock (stated_by ns rs v)
-drift_by_recursion [] rs offsets small v known = absurd (no_node known)
+drift_by_recursion [] rs offsets small v known = absurd (false≢true known)
 drift_by_recursion (n ∷ ns) rs offsets small v known = by_test (n.node == v) known (λ later. drift_by_recursion ns rs offsets.1 small v later)
   where
     by_test : (b : Bool) → (b || knows ns v) ≡ true → (knows ns v ≡ true → IsClock (stated_by ns rs v))

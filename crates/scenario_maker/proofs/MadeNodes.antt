@@ -7,9 +7,9 @@ use Rattle.std.proofs.lemmas.List.Folds.{list_any_at}
 use Rattle.std.proofs.lemmas.List.FromFn.{length-map-range_with_len, get_or-map-range_with_len}
 use Rattle.std.specs.Int.RustNames.{unsigned_abs}
 use Rattle.std.specs.List.{AllPairs}
-use Rattle.std.specs.Ordering.{nat_cmp}
 use Rattle.std.specs.Prelude.{pos, ◌-ℤ◌}
 use Rattle.std.specs.declared.cmp.Ordering.TheVariants.{Less}
+use Rattle.lwb_base.proofs.Orders.{compares_less}
 use Rattle.link_trace.specs.Order.{Ascends}
 use Rattle.rand_pcg.specs.Lcg.{Lcg}
 use Rattle.scenario_text.specs.FloodParts.{knows}
@@ -47,8 +47,5 @@ rate_lines g n s is =
       millionths = small_rate (word g (2 * (i - 1) + 1));
     }))
 
-below : (i j : ℕ) → i < j → nat_cmp i j ≡ Less
-below i j less = grind arith
-
 pub rates_ascend : (g : Lcg) (n : ℕ) → Ascends by_rate (map (rate_line g) (all_nodes n))
-rates_ascend g n = pairs_range (λ a b. by_rate a b ≡ Less) (rate_line g) 1 n (λ i j less. rw (below i j less) refl)
+rates_ascend g n = pairs_range (λ a b. by_rate a b ≡ Less) (rate_line g) 1 n (λ i j less. rw (compares_less i j less) refl)

@@ -14,6 +14,7 @@ use Rattle.scenario_text.specs.ScenarioParts.{ScenarioParts}
 use Rattle.scenario_text.specs.declared.script.Act.TheVariants.{Off}
 use Rattle.scenario_text.specs.declared.script.ScriptLine.{ScriptLine}
 use Rattle.scenario_text.proofs.OrderedExample.{no_more_boots_than_lines}
+use Rattle.scenario_text.proofs.BootsTold.{turned_over}
 use Rattle.scenario_maker.specs.Made.{all_nodes, later_nodes, on_line, stream_line, off_lines, puts, put_line, put_lines, frame_lines, script}
 use Rattle.scenario_maker.proofs.Ranges.{all_range, all_flat, pairs_append, pairs_flat, few_flat}
 
@@ -144,10 +145,6 @@ boots_stay v t [] all = refl
 boots_stay v t (l ∷ ls) all =
     boots_stay v (if l.node == v then turned_by l.act t else t) ls (λ k d inside. all (suc k) d (omega (arith, inside))) ∙ all 0 l (omega arith) v t
 
-turned_both : (v : ℕ) (t : Bool × ℕ) (xs ys : List ScriptLine) → turned v t (xs ++ ys) ≡ turned v (turned v t xs) ys
-turned_both v t [] ys = refl
-turned_both v t (x ∷ xs) ys = turned_both v (if x.node == v then turned_by x.act t else t) xs ys
-
 same_count : (b : Bool) (s t : Bool × ℕ) → s.1 ≡ t.1 → (if b then s else t).1 ≡ t.1
 same_count true s t same = same
 same_count false s t same = refl
@@ -167,7 +164,7 @@ few_boots g n frames v few =
     let streams = map (stream_line g) (later_nodes n) in
     let rest = flat_map (frame_lines n frames) (range_with_len 0 frames) in
     let whole : (ons ++ streams) ++ rest ≡ ons ++ (streams ++ rest) = append_assoc ons streams rest in
-    let cut = ap (λ (ls : List ScriptLine). (turned v (false, 0) ls).1) whole ∙ ap (λ (t : Bool × ℕ). t.1) (turned_both v (false, 0) ons (streams ++ rest)) in
+    let cut = ap (λ (ls : List ScriptLine). (turned v (false, 0) ls).1) whole ∙ ap (λ (t : Bool × ℕ). t.1) (turned_over v (false, 0) ons (streams ++ rest)) in
     omega (
       arith,
       cut,

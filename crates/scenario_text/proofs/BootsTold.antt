@@ -9,6 +9,10 @@ use Rattle.scenario_text.specs.ScenarioFacts.{turned_by, turned}
 use Rattle.scenario_text.specs.declared.script.ScriptLine.{ScriptLine}
 use Rattle.scenario_text.proofs.BootsCounted.{never_less}
 
+-- whether a node is on, and how often it booted
+abbrev pub Boots : Type 0
+Boots = Bool × ℕ
+
 either_way : {A : Type 0} (l : List A) (d : A) (i : ℕ) → ((k : ℕ) → k < 201 → get_or l k d ≡ d) → length l ≡ 201 → get_or l i d ≡ d
 either_way l d i within long = elim (cases_lt i 201) [ inl below ↦ within i below | inr past ↦ get_or_past l i d (omega (arith, long, past)) ]
 
@@ -24,9 +28,9 @@ pub turned_more : (v : ℕ) (t : Bool × ℕ) (xs : List ScriptLine) (x : Script
 turned_more v t [] x = refl
 turned_more v t (y ∷ xs) x = turned_more v (if y.node == v then turned_by y.act t else t) xs x
 
-turned_on : (v : ℕ) (t : Bool × ℕ) (xs ys : List ScriptLine) → turned v t (xs ++ ys) ≡ turned v (turned v t xs) ys
-turned_on v t [] ys = refl
-turned_on v t (x ∷ xs) ys = turned_on v (if x.node == v then turned_by x.act t else t) xs ys
+pub turned_over : (v : ℕ) (t : Bool × ℕ) (xs ys : List ScriptLine) → turned v t (xs ++ ys) ≡ turned v (turned v t xs) ys
+turned_over v t [] ys = refl
+turned_over v t (x ∷ xs) ys = turned_over v (if x.node == v then turned_by x.act t else t) xs ys
 
 pub told_more : (v : ℕ) (script : List ScriptLine) (i : ℕ) (x : ScriptLine) (old new : Bool × ℕ) → i < length script → x ≡ get_or script i x
     → old ≡ turned v (false, 0) (take i script) → new ≡ (if x.node == v then turned_by x.act old else old)
@@ -48,7 +52,7 @@ too_many script i x old below at is many few =
     let whole : script ≡ take (i + 1) script ++ drop (i + 1) script = sym (take-append-drop (i + 1) script) in
     let less = never_less v (turned v (false, 0) (take (i + 1) script)) (drop (i + 1) script) in
     let all : turned v (false, 0) script ≡ turned v (turned v (false, 0) (take (i + 1) script)) (drop (i + 1) script) =
-    ap (turned v (false, 0)) whole ∙ turned_on v (false, 0) (take (i + 1) script) (drop (i + 1) script) in
+    ap (turned v (false, 0)) whole ∙ turned_over v (false, 0) (take (i + 1) script) (drop (i + 1) script) in
     let one = ap (λ (t : Bool × ℕ). t.1) so in
     let two = ap (λ (t : Bool × ℕ). t.1) all in
     omega (arith, many, few v, less, one, two)

@@ -5,6 +5,7 @@ use Rattle.std.proofs.lemmas.Bool.{and_parts, and_right, or_parts, leb-true, not
 use Rattle.std.proofs.lemmas.List.{length_push}
 use Rattle.std.specs.List.{AllByRecursion, list_any}
 use Rattle.lwb_base.specs.Profile.{contended}
+use Rattle.lwb_base.proofs.Lists.{each_append}
 use Rattle.link_trace.specs.Order.{by_loss, by_cut, by_capture}
 use Rattle.link_trace.specs.Passes.{is_loss, is_cut, is_capture}
 use Rattle.scenario_text.specs.FloodParts.{knows}
@@ -13,7 +14,7 @@ use Rattle.scenario_text.specs.ScenarioGrammar.{Scenario, line_fault, with_scena
 use Rattle.scenario_text.specs.declared.scenario_line.ScenarioLine.{ScenarioLine}
 use Rattle.scenario_text.specs.declared.scenario_line.ScenarioLine.TheVariants as line
 use Rattle.scenario_text.specs.declared.script.Act.TheVariants.{On, Off, Declare, Leave, Put}
-use Rattle.scenario_text.proofs.RatesKept.{map_all, all_append, climbs_more}
+use Rattle.scenario_text.proofs.RatesKept.{map_all, climbs_more}
 use Rattle.scenario_text.proofs.LineRuns.{Allowed}
 use Rattle.scenario_text.proofs.CanonicalFacts.{said_link, said_loss, said_cut, said_capture, Fits, FitsAct, judged}
 use Rattle.scenario_text.proofs.DraftFacts.{IsFine, with_line_length}
@@ -49,7 +50,7 @@ host_fine d r i fine a =
       ids = fine.ids;
       ticks = fine.ticks;
       hosts = record {
-        known = all_append (λ h. knows d.network.nodes h ≡ true) d.hosts (i ∷ []) fine.hosts.known (a.known, tt);
+        known = each_append (λ h. knows d.network.nodes h ≡ true) d.hosts (i ∷ []) fine.hosts.known (a.known, tt);
         few = omega (arith, at, rank, length_push d.hosts i);
         distinct = climbs_more (λ g h. (g == h) ≡ false) d.hosts i fine.hosts.distinct
             (none_equal i d.hosts (not-true (list_any (λ h. h == i) d.hosts) fresh.1));

@@ -6,6 +6,7 @@ use Rattle.std.proofs.lemmas.List.Elements.{All-from_recursion}
 use Rattle.std.proofs.lemmas.Option.{IfSome_then, cond_some}
 use Rattle.std.specs.Int.RustNames.{unsigned_abs}
 use Rattle.std.specs.Option.{option_map_or}
+use Rattle.lwb_base.proofs.Lists.{each_append}
 use Rattle.scenario_text.specs.FloodParts.{IsSound, knows}
 use Rattle.text_readers.specs.Words.{words}
 use Rattle.scenario_text.specs.Network.{Drafted, Parts, network_fault, with_line, with_node, network_parts, rates_by_node, is_id, last_rate, ppm}
@@ -23,7 +24,7 @@ use Rattle.scenario_text.specs.declared.network_line.NetworkLine.TheVariants.{Se
 use Rattle.text_readers.proofs.AllowedLines.{passed, unless_keeps, spelled_keeps}
 use Rattle.text_readers.proofs.LinesRead.{line_keeps, lines_keep}
 use Rattle.scenario_text.proofs.NodeIds.{with_node-all, with_node-rises, with_node-length, with_node-knows, pairs_rise}
-use Rattle.scenario_text.proofs.RatesKept.{map_all, later_all, all_append, climbs_more, all_by_node, each_ascends, ppm_small}
+use Rattle.scenario_text.proofs.RatesKept.{map_all, later_all, climbs_more, all_by_node, each_ascends, ppm_small}
 
 pub network_keeps : (last : ℕ) (d : Drafted) (l : NetworkLine) → last < 2 ^ 47 → IsNetwork d → network_fault last d l ≡ None → IsNetwork (with_line d l)
 network_keeps last d (Sends x) early sound none =
@@ -65,7 +66,7 @@ network_keeps last d (Rate i t slow p) early sound none =
       rises = sound.rises;
       offsets = sound.offsets;
       follows = climbs_more (λ q s. q.node ≡ s.node → q.from < s.from) d.rates r sound.follows (later_all d.rates i t sound.follows order.0);
-      rates = all_append (IsRate d.nodes) d.rates (r ∷ []) sound.rates
+      rates = each_append (IsRate d.nodes) d.rates (r ∷ []) sound.rates
           (record { known = known.0; early = omega (arith, tick, early); small = ppm_small slow p (leb-true p 20 ends.1) }, tt);
     }
 network_keeps last d (Link u v) early sound none =

@@ -6,6 +6,8 @@ pub mod OrderedParts
 pub mod OrderedExample
 pub mod ScenarioExamples
 pub mod CanonicalExamples
+pub mod BootsTold
+pub mod BootsCounted
 -- for this crate alone
 pub mod FloodKeeps
 pub mod WordsRead
@@ -31,7 +33,5 @@ pub mod NetworkKept
 pub mod DraftKept
 pub mod RatesInTurn
 pub mod SaidParts
-pub mod BootsCounted
-pub mod BootsTold
 pub mod LinesAdded
 pub mod RatesInOrder

@@ -3,6 +3,7 @@ use Rattle.std.proofs.Common.{◌≡◌, ◌^◌, ◌<◌, ◌≤◌, List, [], 
 use Rattle.std.proofs.lemmas.Bool.{and_from, and_parts, leb-true, ltb-true, not-true, false≢true}
 use Rattle.std.proofs.lemmas.List.{length_push}
 use Rattle.lwb_base.specs.Profile.{Numbers, IsProfile}
+use Rattle.lwb_base.proofs.Lists.{each_append}
 use Rattle.link_trace.specs.Passes.{Lines}
 use Rattle.scenario_text.specs.FloodParts.{knows}
 use Rattle.scenario_text.specs.Network.{ppm, is_id, with_node, with_link, has_link}
@@ -15,7 +16,6 @@ use Rattle.scenario_text.specs.declared.scenario_line.ScenarioLine.TheVariants a
 use Rattle.scenario_text.proofs.FloodKeeps.{network_keeps}
 use Rattle.scenario_text.proofs.LinksBack.{link_back}
 use Rattle.scenario_text.proofs.NodeIds.{with_node-all, with_node-knows}
-use Rattle.scenario_text.proofs.RatesKept.{all_append}
 use Rattle.scenario_text.proofs.CanonicalGoes.{frame_bound}
 use Rattle.scenario_text.proofs.DraftFacts.{IsTrace, IsFine, KnowsMore, hosts_more, script_more, trace_more}
 use Rattle.scenario_text.proofs.LineRuns.{allowed}
@@ -112,7 +112,7 @@ network_fine d (Rate i t slow p) fine none =
       profile = fine.profile;
       frames = fine.frames;
       ids = fine.ids;
-      ticks = all_append (λ r. r.from ≤ last_tick d.profile) d.network.rates (r ∷ []) fine.ticks
+      ticks = each_append (λ r. r.from ≤ last_tick d.profile) d.network.rates (r ∷ []) fine.ticks
           (leb-true t (last_tick d.profile) (and_parts (is_id i) (nat_le t (last_tick d.profile)) range.0).1, tt);
       hosts = fine.hosts;
       script = fine.script;

@@ -1,12 +1,13 @@
 -- Rates by node and tick are those of each node in turn.
-use Rattle.std.proofs.Common.{◌≡◌, ℕ, ◌<◌, ◌≤◌, List, [], ◌∷◌, ◌++◌, true, false, ◌==◌, nat_lt, cond, filter, refl, sym, ◌∙◌, ap, arith, ◌⊎◌, inl, inr}
-use Rattle.std.proofs.lemmas.Bool.{cond-true, cond-false, lt-ltb, ne_eqb, eq-eqb, eqb-true, or_cases, false≢true}
+use Rattle.std.proofs.Common.{◌≡◌, ℕ, ◌<◌, ◌≤◌, List, [], ◌∷◌, ◌++◌, true, false, ◌==◌, filter, refl, sym, ◌∙◌, ap, arith, ◌⊎◌, inl, inr}
+use Rattle.std.proofs.lemmas.Bool.{cond-true, cond-false, ne_eqb, eq-eqb, eqb-true, or_cases, false≢true}
 use Rattle.std.proofs.lemmas.Bool.Decides.{nat_tests}
 use Rattle.std.proofs.lemmas.Cmp.{ranked}
 use Rattle.std.specs.List.{AllByRecursion}
 use Rattle.std.specs.Ordering.{nat_cmp, ordering_then}
 use Rattle.std.specs.declared.cmp.Ordering.{Ordering}
 use Rattle.std.specs.declared.cmp.Ordering.TheVariants.{Less, Equal, Greater}
+use Rattle.lwb_base.proofs.Orders.{compares_less}
 use Rattle.scenario_text.specs.FloodParts.{knows}
 use Rattle.scenario_text.specs.FloodDrafts.{Climbs, Rises, Follows}
 use Rattle.scenario_text.specs.Network.{rates_by_node}
@@ -28,16 +29,13 @@ rate_below a b is = by_node (nat_cmp a.node b.node) refl is
     by_node Equal node is = inr (ranked a.node b.node Equal (sym node), ranked a.from b.from Less (sym is))
     by_node Greater node is = cc
 
-less : (x y : ℕ) → x < y → nat_cmp x y ≡ Less
-less x y lt = cond-true (nat_lt x y) Less (cond (x == y) Equal Greater) (lt-ltb x y lt)
-
 of_lesser_node : (a b : RateLine) → a.node < b.node → IsBelow a b
-of_lesser_node a b lt = ap (λ (o : Ordering). ordering_then o (nat_cmp a.from b.from)) (less a.node b.node lt)
+of_lesser_node a b lt = ap (λ (o : Ordering). ordering_then o (nat_cmp a.from b.from)) (compares_less a.node b.node lt)
 
 of_same_node : (a b : RateLine) → a.node ≡ b.node → a.from < b.from → IsBelow a b
 of_same_node a b same lt =
     let tied : nat_cmp a.node b.node ≡ Equal = grind (arith, nat_tests, same) in
-    ap (λ (o : Ordering). ordering_then o (nat_cmp a.from b.from)) tied ∙ less a.from b.from lt
+    ap (λ (o : Ordering). ordering_then o (nat_cmp a.from b.from)) tied ∙ compares_less a.from b.from lt
 
 -- of two rates of one node the later begins later
 pub below_follows : (rs : List RateLine) → Climbs IsBelow rs → Follows rs

@@ -3,12 +3,13 @@ use Rattle.std.proofs.Common.{◌≡◌, ℕ, ◌+◌, ◌<◌, ◌≤◌, List,
 use Rattle.std.proofs.lemmas.Bool.{cond-true, cond-false, cond_both, or_left, or_right, or_parts, eq-eqb, eqb-true, eqb-false, ne_eqb}
 use Rattle.std.proofs.lemmas.List.{length-append}
 use Rattle.std.specs.List.{AllByRecursion}
+use Rattle.lwb_base.proofs.Lists.{each_append}
 use Rattle.scenario_text.specs.FloodParts.{knows}
 use Rattle.scenario_text.specs.FloodDrafts.{Climbs, Rises, Follows}
 use Rattle.scenario_text.specs.Network.{rates_by_node}
 use Rattle.scenario_text.specs.declared.lines.NodeLine.{NodeLine}
 use Rattle.scenario_text.specs.declared.lines.RateLine.{RateLine}
-use Rattle.scenario_text.proofs.RatesKept.{is_of, map_all, all_append, all_filter, of_node, above_unknown}
+use Rattle.scenario_text.proofs.RatesKept.{is_of, map_all, all_filter, of_node, above_unknown}
 
 -- each node is known
 pub all_known : (ns : List NodeLine) → AllByRecursion (λ n. knows ns n.node ≡ true) ns
@@ -70,7 +71,7 @@ climbs_filter R p (x ∷ xs) climbs =
 pub climbs_append : {A : Type 0} (R : A → A → Type 0) (xs ys : List A) → Climbs R xs → Climbs R ys
     → AllByRecursion (λ x. AllByRecursion (R x) ys) xs → Climbs R (xs ++ ys)
 climbs_append R [] ys climbs others across = others
-climbs_append R (x ∷ xs) ys climbs others across = (all_append (R x) xs ys climbs.0 across.0, climbs_append R xs ys climbs.1 others across.1)
+climbs_append R (x ∷ xs) ys climbs others across = (each_append (R x) xs ys climbs.0 across.0, climbs_append R xs ys climbs.1 others across.1)
 
 pub of_that_node : (i : ℕ) (rs : List RateLine) → AllByRecursion (λ r. r.node ≡ i) (filter (is_of i) rs)
 of_that_node i [] = tt
@@ -82,7 +83,7 @@ pub above : (i : ℕ) (ns : List NodeLine) (rs : List RateLine) → AllByRecursi
 above i [] rs all = tt
 above i (n ∷ ns) rs all =
     let first = all.0 in
-    all_append (λ r. i < r.node) (filter (is_of n.node) rs) (rates_by_node ns rs)
+    each_append (λ r. i < r.node) (filter (is_of n.node) rs) (rates_by_node ns rs)
     (map_all (λ r. r.node ≡ n.node) (λ r. i < r.node) (filter (is_of n.node) rs) (λ r is. omega (arith, first, is))
     (of_that_node n.node rs)) (above i ns rs all.1)
 

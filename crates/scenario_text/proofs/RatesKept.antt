@@ -9,6 +9,7 @@ use Rattle.std.proofs.lemmas.List.Kept.{AllPairs-cons}
 use Rattle.std.specs.List.{AllByRecursion, AllPairs, find}
 use Rattle.std.specs.Int.RustNames.{unsigned_abs}
 use Rattle.std.specs.Option.{option_or, option_map_or}
+use Rattle.lwb_base.proofs.Lists.{each_append}
 use Rattle.scenario_text.specs.FloodParts.{knows}
 use Rattle.scenario_text.specs.Network.{last_rate, rates_by_node, ppm}
 use Rattle.scenario_text.specs.FloodDrafts.{Climbs, Rises, Follows}
@@ -84,14 +85,9 @@ later_all rs i t follows above = by_last (last_rate rs i) (tops i rs follows) ab
         let lt = ltb-true l.from t above in
         map_all (λ r. r.node ≡ i → r.from ≤ l.from) (λ r. r.node ≡ i → r.from < t) rs (λ r le same. let early = le same in omega (arith, lt, early)) top.1
 
--- an element more behind all
-pub all_append : {X : Type 0} (P : X → Type 0) (xs ys : List X) → AllByRecursion P xs → AllByRecursion P ys → AllByRecursion P (xs ++ ys)
-all_append P [] ys all others = others
-all_append P (x ∷ xs) ys all others = (all.0, all_append P xs ys all.1 others)
-
 pub climbs_more : {X : Type 0} (R : X → X → Type 0) (xs : List X) (x : X) → Climbs R xs → AllByRecursion (λ y. R y x) xs → Climbs R (xs ++ x ∷ [])
 climbs_more R [] x climbs all = (tt, tt)
-climbs_more R (y ∷ xs) x climbs all = (all_append (R y) xs (x ∷ []) climbs.0 (all.0, tt), climbs_more R xs x climbs.1 all.1)
+climbs_more R (y ∷ xs) x climbs all = (each_append (R y) xs (x ∷ []) climbs.0 (all.0, tt), climbs_more R xs x climbs.1 all.1)
 
 -- those that pass
 pub all_filter : {X : Type 0} (P : X → Type 0) (p : X → Bool) (xs : List X) → AllByRecursion P xs → AllByRecursion P (filter p xs)
@@ -102,7 +98,7 @@ all_filter P p (x ∷ xs) all = cond_both (p x) (x ∷ filter p xs) (filter p xs
 -- what holds of each rate holds of those of each node in turn
 pub all_by_node : (P : RateLine → Type 0) (ns : List NodeLine) (rs : List RateLine) → AllByRecursion P rs → AllByRecursion P (rates_by_node ns rs)
 all_by_node P [] rs all = tt
-all_by_node P (n ∷ ns) rs all = all_append P (filter (is_of n.node) rs) (rates_by_node ns rs) (all_filter P (is_of n.node) rs all) (all_by_node P ns rs all)
+all_by_node P (n ∷ ns) rs all = each_append P (filter (is_of n.node) rs) (rates_by_node ns rs) (all_filter P (is_of n.node) rs all) (all_by_node P ns rs all)
 
 -- the rates of one node ascend
 passing_later : (i : ℕ) (s : RateLine) (rs : List RateLine) → s.node ≡ i → AllByRecursion (λ t. s.node ≡ t.node → s.from < t.from) rs

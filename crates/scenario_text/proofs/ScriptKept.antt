@@ -5,12 +5,13 @@ use Rattle.std.proofs.lemmas.List.{length_push}
 use Rattle.std.specs.List.{AllByRecursion}
 use Rattle.std.specs.Option.{option_map_or}
 use Rattle.lwb_base.specs.Profile.{Numbers}
+use Rattle.lwb_base.proofs.Lists.{each_append}
 use Rattle.scenario_text.specs.Network.{has_script_room}
 use Rattle.scenario_text.specs.ScenarioGrammar.{Scenario, last_script_line, in_script_order}
 use Rattle.scenario_text.specs.declared.lines.NodeLine.{NodeLine}
 use Rattle.scenario_text.specs.declared.script.ScriptLine.{ScriptLine}
 use Rattle.scenario_text.specs.declared.script.Act.{Act}
-use Rattle.scenario_text.proofs.RatesKept.{all_append, climbs_more}
+use Rattle.scenario_text.proofs.RatesKept.{climbs_more}
 use Rattle.scenario_text.proofs.ScriptGoes.{power_more}
 use Rattle.scenario_text.proofs.CanonicalFacts.{Power, no_power, after_act, can_boot, power_after, said_act, Fits, HasBytes, FitsAct, judged}
 use Rattle.scenario_text.proofs.DraftFacts.{IsScript, IsFine, boots_more, none_later}
@@ -20,7 +21,7 @@ script_act : (p : Numbers) (f : Option ℕ) (ns : List NodeLine) (ls : List Scri
     → FitsAct (judged p f ns) l → AllByRecursion (λ x. x.frame ≤ l.frame) ls
     → can_boot (power_after no_power ls) l.node l.act ≡ true → IsScript p f ns (ls ++ l ∷ [])
 script_act p f ns ls l is fits before boot = record {
-  fits = all_append (FitsAct (judged p f ns)) ls (l ∷ []) is.fits (fits, tt);
+  fits = each_append (FitsAct (judged p f ns)) ls (l ∷ []) is.fits (fits, tt);
   climbs = climbs_more (λ a b. a.frame ≤ b.frame) ls l is.climbs before;
   boots = boots_more no_power ls l is.boots boot;
 }

@@ -8,9 +8,10 @@ use Rattle.std.proofs.lemmas.Str.{IsUtf8-from_ascii, is_utf8-from_IsUtf8}
 use Rattle.std.specs.List.{AllByRecursion, slice_split, slice_index, join_with_byte, filter}
 use Rattle.std.specs.Str.{IsAscii, is_utf8}
 use Rattle.std.specs.Str.Lines.{lines, lines_of_parts, strip_carriage_return}
+use Rattle.lwb_base.proofs.Lists.{each_append}
 use Rattle.text_readers.specs.Words.{words, is_blank}
 use Rattle.text_writers.specs.Lines.{render}
-use Rattle.scenario_text.proofs.RatesKept.{map_all, all_append}
+use Rattle.scenario_text.proofs.RatesKept.{map_all}
 use Rattle.text_readers.proofs.LineFeeds.{part_is_line, is_feed}
 
 -- a byte of a word
@@ -53,7 +54,7 @@ words_back (w ∷ v ∷ ws) all =
 line_shown : (ws : List (List ℕ)) → AllByRecursion IsWord ws → AllByRecursion IsShown (join_with_byte 32 ws)
 line_shown [] all = tt
 line_shown (w ∷ []) all = glyphs_shown w all.0.1
-line_shown (w ∷ v ∷ ws) all = all_append IsShown w (32 ∷ join_with_byte 32 (v ∷ ws)) (glyphs_shown w all.0.1)
+line_shown (w ∷ v ∷ ws) all = each_append IsShown w (32 ∷ join_with_byte 32 (v ∷ ws)) (glyphs_shown w all.0.1)
     ((omega arith, omega arith), line_shown (v ∷ ws) all.1)
 
 -- the text of a line is UTF-8

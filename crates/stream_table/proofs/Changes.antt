@@ -1,11 +1,13 @@
 -- The entries after one of them changed, or went, or came.
-use Rattle.std.proofs.Common.{◌≡◌, ◌≢◌, ℕ, ◌+◌, ◌<◌, ◌≤◌, List, [], ◌∷◌, Bool, true, false, nat_lt, not, cond, is_some, length, get_or}
-use Rattle.std.proofs.Common.{set, map, filter, filter_map, Option, Some, None, refl, sym, ◌∙◌, ap, subst, arith, eq-eqb}
-use Rattle.std.specs.List.{remove, cons_option}
+use Rattle.std.proofs.Common.{◌≡◌, ◌≢◌, ℕ, ◌+◌, ◌<◌, List, Bool, true, false, nat_lt, not, cond, is_some, get_or}
+use Rattle.std.proofs.Common.{set, map, filter_map, Option, Some, None, refl, sym, ◌∙◌, ap, subst, arith, eq-eqb}
+use Rattle.std.specs.List.{remove}
 use Rattle.std.specs.Option.{IfSome, option_map_or}
 use Rattle.std.proofs.lemmas.Bool.{ne_eqb, lt-ltb, le-ltb, ltb-true, ltb-false}
 use Rattle.std.proofs.lemmas.List.{length-map}
 use Rattle.std.proofs.lemmas.Option.{get_or_from_slice_get}
+use Rattle.lwb_base.proofs.Lists.{length_filtered, length_sifted}
+use Rattle.bus_rules.specs.Granting.{grant}
 use Rattle.bus_rules.specs.Tables.{Entry, code_in, has_code, AreEntries, entry_of, without, seen, missed}
 use Rattle.stream_table.specs.CodeOrder.{IsAt, IsGap}
 use Rattle.stream_table.specs.Entries.{granted_once, misses_last}
@@ -44,8 +46,11 @@ kept_map f es out keeps are is =
     let few = length-map es f in
     subst AreEntries (sym is) (record { few = omega (arith, are.few); ascends = up })
 
-seen_keeps : (c : ℕ) → Keeps (seen c)
+pub seen_keeps : (c : ℕ) → Keeps (seen c)
 seen_keeps c = record { code = λ e. refl }
+
+pub grant_keeps : (share : Entry → ℕ) → Keeps (grant share)
+grant_keeps share = record { code = λ e. refl }
 
 granted_keeps : (c : ℕ) → Keeps (granted_once c)
 granted_keeps c = record { code = λ e. refl }
@@ -113,21 +118,13 @@ module _ (es : List Entry) (c n : ℕ) (at : IsAt code_in es c n) (x : Entry) (a
       by_test true is = let some : None ≡ Some (record at.item { unheard = at.item.unheard + 1 }) = opened ∙ rw is refl in cc
       by_test false is = let from = ltb-false (at.item.unheard + 1) 16 is in lt-ltb 14 at.item.unheard (omega arith)
 
-length_option : (o : Option Entry) (xs ys : List Entry) → length xs ≤ length ys → length (cons_option o xs) ≤ length ys + 1
-length_option None xs ys le = omega arith
-length_option (Some x) xs ys le = omega arith
-
-length_sifted : (g : Entry → Option Entry) (es : List Entry) → length (filter_map g es) ≤ length es
-length_sifted g [] = omega arith
-length_sifted g (e ∷ es) = omega (arith, length_option (g e) (filter_map g es) es (length_sifted g es))
-
 missed_cases : (c : ℕ) (e : Entry) (same few : Bool)
     → IfSome (cond same (cond few (Some (record e { unheard = e.unheard + 1 })) None) (Some e)) (λ x. x.code ≡ e.code)
 missed_cases c e true true = refl
 missed_cases c e true false = tt
 missed_cases c e false few = refl
 
-missed_sifts : (c : ℕ) → Sifts (missed c)
+pub missed_sifts : (c : ℕ) → Sifts (missed c)
 missed_sifts c = record { code = λ e. missed_cases c e (has_code c e) (nat_lt (e.unheard + 1) 16) }
 
 pub missed_kept : (es out : List Entry) (c : ℕ) → AreEntries es → out ≡ filter_map (missed c) es → AreEntries out
@@ -148,14 +145,6 @@ removed_is es out c n at are is = is ∙ sym (without_at c es n at.item are.asce
 
 pub removed_none : (es : List Entry) (c n : ℕ) → IsGap code_in es c n → es ≡ without c es
 removed_none es c n gap = sym (without_none c es gap.missing)
-
-length_cond : (b : Bool) (x : Entry) (xs ys : List Entry) → length xs ≤ length ys → length (cond b (x ∷ xs) xs) ≤ length ys + 1
-length_cond true x xs ys le = omega arith
-length_cond false x xs ys le = omega arith
-
-length_filtered : (p : Entry → Bool) (es : List Entry) → length (filter p es) ≤ length es
-length_filtered p [] = omega arith
-length_filtered p (e ∷ es) = omega (arith, length_cond (p e) e (filter p es) es (length_filtered p es))
 
 pub removed_kept : (es out : List Entry) (c : ℕ) → AreEntries es → out ≡ without c es → AreEntries out
 removed_kept es out c are is =

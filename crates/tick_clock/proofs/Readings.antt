@@ -2,6 +2,10 @@
 use Rattle.std.proofs.Common.{◌≡◌, ℕ, zero, suc, ◌+◌, ◌/◌, ◌-◌, ◌^◌, ◌<◌, ◌≤◌, sym, ap, subst, arith, add-zero}
 use Rattle.tick_clock.specs.Clocks.{Near, IsClock}
 
+-- the clock that reads the true tick
+pub true_clock : IsClock (λ t. t)
+true_clock = record { begins = omega arith; fast = λ t d within. omega arith; slow = λ t d within. omega arith }
+
 pub rounding : (L : ℕ → ℕ) (t d : ℕ) → IsClock L → t + d ≤ 2 ^ 48 → Near (L (t + d)) (L t + d) (d / 50000 + 1)
 rounding L t d clock within = omega (arith, clock.fast t d within, clock.slow t d within)
 

@@ -10,7 +10,7 @@ use Rattle.radio_model.specs.OnAir.{Hearing}
 use Rattle.radio_model.specs.Hearing.{Scene, IsTuned, Hears}
 use Rattle.radio_model.specs.Holding.{Agree, as_it_stands, nothing_yet}
 use Rattle.radio_model.specs.Stations.{MediumState, IsTime, station_of}
-use Rattle.radio_model.proofs.Members.{not_in_none}
+use Rattle.lwb_base.proofs.Elements.{not_in_none}
 use Rattle.radio_model.proofs.Agreement.{agree_earlier}
 use Rattle.radio_model.proofs.NothingBefore.{by_waiting}
 use Rattle.radio_model.proofs.OneCall.{found_member}

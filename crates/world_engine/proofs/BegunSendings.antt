@@ -17,7 +17,8 @@ use Rattle.radio_model.proofs.NothingBefore.{by_starting}
 use Rattle.radio_model.proofs.Changes.{started_keeps}
 use Rattle.radio_model.proofs.OneCall.{each_after, found_member}
 use Rattle.radio_model.proofs.OneStation.{same_nodes, other_station}
-use Rattle.air_log.proofs.Elements.{map_contains}
+use Rattle.lwb_base.proofs.Elements.{map_contains, contains_at}
+use Rattle.lwb_base.proofs.Lists.{set_elsewhere, map_stays}
 use Rattle.radio_model.proofs.Places.{still_medium}
 use Rattle.event_calendar.specs.Orders.{Due, at, changed}
 use Rattle.event_calendar.specs.declared.class.Class.TheVariants.{SendingEnd, SendingStart}
@@ -31,12 +32,13 @@ use Rattle.radio_model.proofs.ChangedStations.{node_of_station, station_changed}
 use Rattle.air_log.specs.DeviceStates.{DeviceState, whole, with_sent, HappenedBy, IsSameNode}
 use Rattle.world_engine.specs.Fields.{FieldState, IsField, IsKnown, Shows, IsShown, due_of, id_of, ids_of, setup_of, rank_of, channel_of}
 use Rattle.world_engine.specs.FieldSteps.{GoesOn}
-use Rattle.world_engine.proofs.ShownPlaces.{there_now, elsewhere, same_marks, is_there, still_field, still_shown, shown_as}
+use Rattle.world_engine.proofs.ShownPlaces.{there_now, still_field, still_shown, shown_as}
 use Rattle.world_engine.proofs.DevicesOfNodes.{one_place}
 use Rattle.world_engine.proofs.LoggedSendings.{sent_own, sent_other, tuned_beside_sent, entry_more}
 use Rattle.world_engine.proofs.BegunDevices.{BeginsToSend, sends_now, begins_with}
-use Rattle.world_engine.proofs.NothingBegun.{Begins, due_by, due_there}
+use Rattle.world_engine.proofs.NothingBegun.{Begins, due_by}
 use Rattle.world_engine.proofs.NothingBegun as NothingBegun
+use Rattle.world_engine.proofs.ObeyedOrders.{due_changed}
 use Rattle.air_log.specs.Courses.{tick_of}
 
 module _ (t p : ℕ) (w : FieldState) (field : IsField w) (due : List Due) (st new : DeviceState) (here : slice_get w.devices p ≡ Some st)
@@ -74,7 +76,7 @@ module _ (t p : ℕ) (w : FieldState) (field : IsField w) (due : List Due) (st n
 
     begun_set : slice_get begun_due p ≡ Some (due_of new)
     begun_set =
-        due_there (changed due p SendingStart None) p SendingEnd (Some x.end) _ (due_there due p SendingStart None (due_of st) known.set)
+        due_changed (changed due p SendingStart None) p SendingEnd (Some x.end) _ (due_changed due p SendingStart None (due_of st) known.set)
         ∙ ap (λ (d : Device). let o : Option Due = Some (due_by d.sending d.alarm d.ordered) in o) (sym begun_now)
 
     -- the station
@@ -82,7 +84,7 @@ module _ (t p : ℕ) (w : FieldState) (field : IsField w) (due : List Due) (st n
     own_node = node_of_station w.medium.stations st.setup.id known.station known.there ∙ sym starts.node
 
     numbers : st.setup.profile ≡ w.medium.numbers
-    numbers = All-contains (λ (d : DeviceState). d.setup.profile ≡ w.medium.numbers) w.devices st field.numbers (is_there w.devices p st here)
+    numbers = All-contains (λ (d : DeviceState). d.setup.profile ≡ w.medium.numbers) w.devices st field.numbers (contains_at w.devices p st here)
 
     next_by : (o : Option Tuned) → known.station.tuned ≡ o → option_map rank_of o ≡ Some x.rank
         → next_sending w.medium.numbers t x.packet known.station.node known.station.tuned ≡ Some x
@@ -168,12 +170,12 @@ module _ (t p : ℕ) (w : FieldState) (field : IsField w) (due : List Due) (st n
         let apart : s.id ≢ x.node = λ same. other
         (one_place w field q p shows.state st shows.there here (ap (λ (u : Setup). u.id) shows.setup ∙ same ∙ starts.node)) in
         still_shown t q w due begun_field begun_due s d (record {
-          device = elsewhere w.devices p q new other;
+          device = set_elsewhere w.devices p q new other;
           sent = sent_other w.air x s.id (λ same. apart (sym same));
           tuned = tuned_beside_sent w.air x s.id;
           deliveries = refl;
           station = other_station w.medium t x.node (started w.medium.numbers t x.packet) (started_keeps w.medium.numbers t x.packet).node s.id apart;
-          due = elsewhere (changed due p SendingStart None) p q _ other ∙ elsewhere due p q _ other;
+          due = set_elsewhere (changed due p SendingStart None) p q _ other ∙ set_elsewhere due p q _ other;
           sums = refl;
         }) shows
 
@@ -234,10 +236,10 @@ module _ (t p : ℕ) (w : FieldState) (field : IsField w) (due : List Due) (st n
         drops = sym (append-nil w.drops);
         air = begun_goes_on held;
         same = record {
-          setups = same_marks setup_of w.devices p st new here node.setup;
+          setups = map_stays setup_of w.devices p st new here node.setup;
           places = length-set (changed due p SendingStart None) p _ ∙ length-set due p _;
           entries = entry_more w.air (ids_of w) (sent_entry x)
-              (subst (λ (n : ℕ). Contains (ids_of w) n) (sym starts.node) (map_contains id_of w.devices st (is_there w.devices p st here)));
+              (subst (λ (n : ℕ). Contains (ids_of w) n) (sym starts.node) (map_contains id_of w.devices st (contains_at w.devices p st here)));
           deliverers = λ d there. inl there;
         };
       },
@@ -258,7 +260,7 @@ module _ (t p : ℕ) (w : FieldState) (field : IsField w) (due : List Due) (st n
     -- what the code asks and keeps
     pub has_station : Contains (nodes_of w.medium) x.node
     has_station = subst (λ (l : List ℕ). Contains l x.node) field.nodes
-        (subst (λ (n : ℕ). Contains (ids_of w) n) (sym starts.node) (map_contains id_of w.devices st (is_there w.devices p st here)))
+        (subst (λ (n : ℕ). Contains (ids_of w) n) (sym starts.node) (map_contains id_of w.devices st (contains_at w.devices p st here)))
 
     pub begun_is_field : (air : List Entry) → IsField (record begun_field { air = air })
     begun_is_field air =

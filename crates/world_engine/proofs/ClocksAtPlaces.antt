@@ -4,6 +4,7 @@ use Rattle.std.specs.Prelude.{slice_get}
 use Rattle.std.proofs.lemmas.Option.{slice_get_within}
 use Rattle.std.proofs.lemmas.Bool.{cond_both}
 use Rattle.tick_clock.specs.Clocks.{IsClock}
+use Rattle.tick_clock.proofs.Readings.{true_clock}
 use Rattle.scenario_text.specs.ScenarioParts.{ScenarioParts}
 use Rattle.scenario_text.specs.ScenarioFacts.{IsSoundScenario}
 use Rattle.scenario_text.specs.declared.lines.NodeLine.{NodeLine}
@@ -12,13 +13,10 @@ use Rattle.world_engine.specs.FieldSteps.{reading_of, readings_at}
 use Rattle.world_engine.proofs.PlacedNodes.{clock_at, at_place}
 use Rattle.world_engine.proofs.TrailsGoOn.{IsClockAt, AreClocks}
 
-true_ticks : IsClock (λ t. t)
-true_ticks = record { begins = omega arith; fast = λ t d small. omega arith; slow = λ t d small. omega arith }
-
 -- all keep the drift law; where there is no node, the true tick is read
 pub all_drift : {C : Type 0} (R : C → ℕ → ℕ) → ((c : C) → IsClock (R c)) → (ns : List NodeLine) (cs : List C) → AreClocks (clocks_by R ns cs)
-all_drift R law [] cs v = true_ticks
-all_drift R law (n ∷ ns) [] v = true_ticks
+all_drift R law [] cs v = true_clock
+all_drift R law (n ∷ ns) [] v = true_clock
 all_drift R law (n ∷ ns) (c ∷ cs) v = cond_both (n.node == v) (R c) (clocks_by R ns cs v) IsClock (λ is. law c) (λ other. all_drift R law ns cs v)
 
 module _ {C : Type 0} (R : C → ℕ → ℕ) (s : ScenarioParts) (sound : IsSoundScenario s) (cs : List C) (count : length cs ≡ length s.nodes) where

@@ -14,7 +14,7 @@ use Rattle.node_core.specs.Nodes.{NodeState}
 use Rattle.air_log.specs.Devices.{Device, Power, PowerOff, PowerOn}
 use Rattle.air_log.specs.Trails.{run_end}
 use Rattle.air_log.specs.Lawful.{trail_in}
-use Rattle.air_log.proofs.Elements.{map_contains, Distinct}
+use Rattle.lwb_base.proofs.Elements.{map_contains, Distinct}
 use Rattle.air_log.specs.DeviceStates.{DeviceState, core_in, IsCoreAt}
 use Rattle.world_engine.specs.Fields.{FieldState, id_of, power_of}
 use Rattle.world_engine.specs.FieldSteps.{IsClosed}

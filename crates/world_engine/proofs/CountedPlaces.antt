@@ -5,11 +5,12 @@ use Rattle.std.specs.Prelude.{slice_get, All}
 use Rattle.std.proofs.lemmas.Bool.{cases_order}
 use Rattle.std.proofs.lemmas.List.{length-set, length_push}
 use Rattle.std.proofs.lemmas.Option.{same_Some, slice_get_within, slice_get-get_or, get_or_from_slice_get}
+use Rattle.lwb_base.proofs.Lists.{set_elsewhere}
 use Rattle.air_log.specs.declared.charge.NodeCharge.{NodeCharge}
 use Rattle.air_log.specs.DeviceStates.{DeviceState}
 use Rattle.air_log.specs.WindowSums.{WindowSum}
 use Rattle.world_engine.specs.Counting.{scans_now, AreCountedOn, charge_for, AreCharges}
-use Rattle.world_engine.proofs.ShownPlaces.{there_now, elsewhere}
+use Rattle.world_engine.proofs.ShownPlaces.{there_now}
 
 -- the places below i have been counted once more if their devices scan
 pub record IsCountedUpto (devices : List DeviceState) (i : ℕ) (before now : List ℕ) : Type 0 where
@@ -38,7 +39,7 @@ module _ (devices : List DeviceState) (i : ℕ) (before now : List ℕ) (is : Is
   one_counted d n more new is_d is_n is_more is_new = subst (IsCountedUpto devices (i + 1) before) (sym is_new) (record {
     long = length-set now i (n + more) ∙ is.long;
     done = λ p e k less at_e at_k. by p e k less at_e at_k (cases_order p i);
-    todo = λ p above. elsewhere now i p (n + more) (λ same. omega (arith, same, above)) ∙ is.todo p (omega (arith, above));
+    todo = λ p above. set_elsewhere now i p (n + more) (λ same. omega (arith, same, above)) ∙ is.todo p (omega (arith, above));
   })
     where
       here : slice_get devices i ≡ Some d
@@ -53,7 +54,7 @@ module _ (devices : List DeviceState) (i : ℕ) (before now : List ℕ) (is : Is
           ∙ there_now now i n (n + more) (number_at n is_n)
           ∙ ap (λ (m : ℕ). let o : Option ℕ = Some (n + m) in o) (is_more ∙ ap scans_now is_e)
           ∙ ap (λ (m : ℕ). let o : Option ℕ = Some (m + scans_now e) in o) is_k
-      by p e k less at_e at_k (inr (inl lower)) = elsewhere now i p (n + more) (λ same. omega (arith, same, lower)) ∙ is.done p e k lower at_e at_k
+      by p e k less at_e at_k (inr (inl lower)) = set_elsewhere now i p (n + more) (λ same. omega (arith, same, lower)) ∙ is.done p e k lower at_e at_k
       by p e k less at_e at_k (inr (inr higher)) = absurd (omega (arith, less, higher))
 
 pub all_counted : (devices : List DeviceState) (i : ℕ) (before now : List ℕ) → length devices ≤ i → IsCountedUpto devices i before now

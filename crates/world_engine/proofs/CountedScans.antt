@@ -9,6 +9,8 @@ use Rattle.std.proofs.lemmas.List.{length-map}
 use Rattle.std.proofs.lemmas.List.Elements.{All-map}
 use Rattle.std.proofs.lemmas.List.Sums.{sum_by_push, count_by-le-length}
 use Rattle.std.proofs.lemmas.Option.{slice_get-map}
+use Rattle.lwb_base.proofs.Elements.{among_or_not}
+use Rattle.lwb_base.proofs.Lists.{range_more}
 use Rattle.scenario_text.specs.ScenarioParts.{ScenarioParts}
 use Rattle.scenario_text.specs.ScenarioFacts.{IsSoundScenario}
 use Rattle.scenario_text.specs.declared.lines.NodeLine.{NodeLine}
@@ -33,7 +35,7 @@ use Rattle.world_engine.specs.Moments.{InLines}
 use Rattle.world_engine.specs.Running.{IsRunning}
 use Rattle.world_engine.proofs.NextMoments.{starts_apart}
 use Rattle.world_engine.proofs.OrdersOver.{each_place}
-use Rattle.world_engine.proofs.TrailsAtEnds.{is_in, reception, IsHeardAt}
+use Rattle.world_engine.proofs.TrailsAtEnds.{reception, IsHeardAt}
 use Rattle.world_engine.proofs.TrailsGoOn.{heard_same}
 
 module _ (s : ScenarioParts) (clocks : ℕ → ℕ → ℕ) where
@@ -55,7 +57,7 @@ module _ (s : ScenarioParts) (clocks : ℕ → ℕ → ℕ) where
 
   -- what ends at a tick changes nothing before it
   pub end_stays : (t : ℕ) (x : Sending) (hearers : List ℕ) (old new : List Entry) → x.end ≡ t → IsHeardAt s x hearers old new → TrailsStay s clocks t old new
-  end_stays t x hearers old new now heard p n at u less = by (is_in hearers p)
+  end_stays t x hearers old new now heard p n at u less = by (among_or_not hearers p)
     where
       over : List Reception → Device
       over hs = before_tick s n.node (clocks n.node) hs u
@@ -66,10 +68,6 @@ module _ (s : ScenarioParts) (clocks : ℕ → ℕ → ℕ) where
       by (inr deaf) = ap over (heard.unheard p n at deaf)
 
 -- numbers of a range that pass two tests alike
-range_more : (a n : ℕ) → range_with_len a (suc n) ≡ range_with_len a n ++ (a + n) ∷ []
-range_more a zero = ap (λ (k : ℕ). k ∷ []) (omega arith)
-range_more a (suc n) = ap (λ (xs : List ℕ). a ∷ xs) (range_more (a + 1) n ∙ ap (λ (k : ℕ). range_with_len (a + 1) n ++ k ∷ []) (omega arith))
-
 count_next : (q : ℕ → Bool) (f : ℕ) → count_by q (range_with_len 0 (suc f)) ≡ count_by q (range_with_len 0 f) + cond (q f) 1 0
 count_next q f =
     let as_one : ℕ → ℕ = λ g. cond (q g) 1 0 in

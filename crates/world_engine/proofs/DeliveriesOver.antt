@@ -14,7 +14,7 @@ use Rattle.bus_rules.specs.declared.delivery.Delivery.{Delivery}
 use Rattle.air_log.specs.Trails.{run_end}
 use Rattle.air_log.specs.Deliveries.{comes_before, delivered_at, deliveries_of}
 use Rattle.air_log.specs.LogText.{in_order}
-use Rattle.air_log.proofs.Elements.{contains_head, contains_tail, map_contains, Distinct}
+use Rattle.lwb_base.proofs.Elements.{contains_head, contains_tail, map_contains, Distinct}
 use Rattle.world_engine.specs.Fields.{FieldState}
 use Rattle.world_engine.specs.FieldSteps.{IsClosed, node_id}
 use Rattle.world_engine.specs.Moments.{Before}

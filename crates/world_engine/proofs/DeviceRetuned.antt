@@ -10,7 +10,7 @@ use Rattle.radio_model.specs.Holding.{Agree, Holds, as_it_stands, after_tuning}
 use Rattle.radio_model.specs.declared.station.Station.{Station}
 use Rattle.radio_model.specs.declared.station.Tuned.{Tuned as TunedTo}
 use Rattle.radio_model.specs.Stations.{MediumState, IsMedium, IsTime, station_of, nodes_of, changed_at, after, retuned, tuned_in, tuned_out, is_tuned_to}
-use Rattle.radio_model.proofs.Members.{from_map}
+use Rattle.lwb_base.proofs.Elements.{map_from}
 use Rattle.radio_model.proofs.OneStation.{same_nodes, changed_station, other_station}
 use Rattle.radio_model.proofs.Changes.{retuned_keeps}
 use Rattle.radio_model.proofs.Places.{still_medium}
@@ -58,7 +58,7 @@ module _ (t v : ℕ) (rank : Option ℕ) (old new : MediumState) (is : new ≡ a
     later = omega arith;
     small = time.small;
     running = λ st x there sends.
-        let was = from_map (changed_at v (retuned rank t)) old.stations st there in
+        let was = map_from (changed_at v (retuned rank t)) old.stations st there in
         time.running was.0 x was.1 (sym (sends_so was.0) ∙ ap (λ (s : Station). s.sending) was.2 ∙ sends);
   }
 

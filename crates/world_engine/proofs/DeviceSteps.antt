@@ -15,18 +15,20 @@ use Rattle.bus_rules.specs.declared.delivery.DropLine.{DropLine}
 use Rattle.radio_model.specs.OnAir.{Sending, Tuning}
 use Rattle.radio_model.specs.declared.station.Station.{Station}
 use Rattle.radio_model.specs.Stations.{MediumState, IsMedium, station_of, nodes_of}
-use Rattle.radio_model.proofs.Members.{in_either, not_in_none}
+use Rattle.lwb_base.proofs.Elements.{contains_cases, not_in_none, contains_at}
+use Rattle.lwb_base.proofs.Lists.{set_elsewhere, map_stays}
 use Rattle.air_log.specs.declared.entry.Entry.{Entry}
 use Rattle.air_log.specs.declared.entry.TunedEntry.{TunedEntry}
 use Rattle.air_log.specs.Entries.{sending_in, hearing_in, tuning_in, sendings_of, hearings_of, tunings_of, node_of}
 use Rattle.air_log.specs.Lawful.{sent_by, tuned_by}
 use Rattle.air_log.specs.Devices.{Device, Made}
 use Rattle.air_log.specs.DeviceStates.{DeviceState, whole, tuning_of, one_more, EndedBefore, HappenedBy}
+use Rattle.air_log.proofs.CourseSteps.{ended_more}
 use Rattle.world_engine.specs.Fields.{FieldState, Shows, IsField, HasCounted, IsLogged, entries_of, setup_of, id_of, setups_of, ids_of, due_of, rank_of}
 use Rattle.world_engine.specs.Fields.{channel_of}
 use Rattle.world_engine.specs.FieldSteps.{GoesOn, AreSame, Acts}
 use Rattle.world_engine.proofs.ActsInTurn.{same_ids}
-use Rattle.world_engine.proofs.DevicePlaces.{at_set, at_other, map_stays, apart_at, contains_at}
+use Rattle.world_engine.proofs.DevicePlaces.{at_set, apart_at}
 
 -- the log with the entry of a tuning more, if there is one
 pub hearings_tuned : (air : List Entry) (c : Option TunedEntry) → hearings_of (air ++ entries_of c) ≡ hearings_of air
@@ -63,11 +65,11 @@ sent_same air u c = ap (λ (l : List Sending). filter (λ (x : Sending). x.node 
 
 pub entries_own : (c : Option TunedEntry) (v : ℕ) (e : Entry) → IfSome c (λ e. e.node ≡ v) → Contains (entries_of c) e → node_of e ≡ v
 entries_own None v e own there = absurd (not_in_none e there)
-entries_own (Some x) v e own there = elim (in_either [] _ e there) [ inl is ↦ ap node_of (sym is) ∙ own | inr none ↦ absurd (not_in_none e none) ]
+entries_own (Some x) v e own there = elim (contains_cases _ [] e there) [ inl is ↦ ap node_of (sym is) ∙ own | inr none ↦ absurd (not_in_none e none) ]
 
 delivery_own : (o : Option Delivery) (v : ℕ) (d : Delivery) → IfSome o (λ e. e.node ≡ v) → Contains (option_to_list o) d → d.node ≡ v
 delivery_own None v d own there = absurd (not_in_none d there)
-delivery_own (Some x) v d own there = elim (in_either [] _ d there) [
+delivery_own (Some x) v d own there = elim (contains_cases _ [] d there) [
   | inl is ↦ ap (λ (e : Delivery). e.node) (sym is) ∙ own
   | inr none ↦ absurd (not_in_none d none)
 ]
@@ -128,10 +130,6 @@ pub record GoesOnMaking (closed : Option TunedEntry) (delivery : Option Delivery
   pub sent : after.sent ≡ before.sent
   pub tuned : after.tuned ≡ one_more closed before.tuned
   pub deliveries : after.deliveries ≡ before.deliveries ++ option_to_list delivery
-
-ended_more : (t : ℕ) (c : Option TunedEntry) (es : List Tuning) → IfSome c (λ e. e.end < t) → EndedBefore t es → EndedBefore t (one_more c es)
-ended_more t None es before ended = ended
-ended_more t (Some e) es before ended = before
 
 module _ (t p : ℕ) (state after : DeviceState) (closed : Option TunedEntry) (delivery : Option Delivery) (lost : List DropLine) (old new : FieldState)
     (old_due new_due : List Due)
@@ -194,7 +192,7 @@ module _ (t p : ℕ) (state after : DeviceState) (closed : Option TunedEntry) (d
       let known = shows.known in
       record {
         state = shows.state;
-        there = ap (λ (l : List DeviceState). slice_get l q) is.devices ∙ at_other old.devices p q after other ∙ shows.there;
+        there = ap (λ (l : List DeviceState). slice_get l q) is.devices ∙ set_elsewhere old.devices p q after other ∙ shows.there;
         setup = shows.setup;
         made = shows.made;
         is = shows.is;

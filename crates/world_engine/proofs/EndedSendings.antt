@@ -3,6 +3,7 @@ use Rattle.std.proofs.Common.{◌≡◌, ◌≢◌, ℕ, ◌<◌, ◌≤◌, [],
 use Rattle.std.specs.Prelude.{slice_get}
 use Rattle.std.proofs.lemmas.List.{append-nil, length-set}
 use Rattle.std.proofs.lemmas.Option.{slice_get_within}
+use Rattle.lwb_base.proofs.Lists.{set_elsewhere, map_stays}
 use Rattle.radio_model.specs.declared.sending.Sending.{Sending}
 use Rattle.radio_model.specs.declared.station.Station.{Station}
 use Rattle.radio_model.specs.Hearing.{Scene}
@@ -23,8 +24,8 @@ use Rattle.air_log.specs.DeviceStates.{DeviceState}
 use Rattle.world_engine.specs.Fields.{FieldState, IsField, IsKnown, Shows, IsShown, due_of, setup_of}
 use Rattle.world_engine.specs.FieldSteps.{Acts, Sends}
 use Rattle.world_engine.proofs.DevicesOfNodes.{one_place}
-use Rattle.world_engine.proofs.NothingBegun.{due_there}
-use Rattle.world_engine.proofs.ShownPlaces.{there_now, elsewhere, same_marks, still_field, still_shown, shown_as}
+use Rattle.world_engine.proofs.ShownPlaces.{there_now, still_field, still_shown, shown_as}
+use Rattle.world_engine.proofs.ObeyedOrders.{due_changed}
 
 -- the sending x of the device st at place p ends at t
 pub record IsEnding (t p : ℕ) (w : FieldState) (due : List Due) (st : DeviceState) (x : Sending) : Type 0 where
@@ -87,7 +88,7 @@ module _ (t p : ℕ) (w : FieldState) (due : List Due) (st : DeviceState) (x : S
           there = station_changed finished finished_keeps st.setup.id w.medium t known.station known.there;
           tuned = known.tuned;
           sending = refl;
-          set = due_there due p SendingEnd None (due_of st) known.set;
+          set = due_changed due p SendingEnd None (due_of st) known.set;
         };
         counted = sh.counted;
         ended = sh.ended;
@@ -100,12 +101,12 @@ module _ (t p : ℕ) (w : FieldState) (due : List Due) (st : DeviceState) (x : S
       let apart : s.id ≢ st.setup.id = λ same. other
       (one_place w ending.field q p shows.state st shows.there ending.here (ap (λ (u : Setup). u.id) shows.setup ∙ same)) in
       still_shown t q w due (over t p st w) over_due s d (record {
-        device = elsewhere w.devices p q (record st { sending = None }) other;
+        device = set_elsewhere w.devices p q (record st { sending = None }) other;
         sent = refl;
         tuned = refl;
         deliveries = refl;
         station = other_station w.medium t st.setup.id finished finished_keeps.node s.id apart;
-        due = elsewhere due p q _ other;
+        due = set_elsewhere due p q _ other;
         sums = refl;
       }) shows
 
@@ -146,7 +147,7 @@ module _ (t p : ℕ) (w : FieldState) (due : List Due) (st : DeviceState) (x : S
       still = still_medium finished finished_keeps st.setup.id t w.medium;
     };
     same = record {
-      setups = same_marks setup_of w.devices p st (record st { sending = None }) ending.here refl;
+      setups = map_stays setup_of w.devices p st (record st { sending = None }) ending.here refl;
       places = length-set due p _;
       entries = λ e there. inl there;
       deliverers = λ d there. inl there;

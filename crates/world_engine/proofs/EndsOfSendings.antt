@@ -18,13 +18,12 @@ use Rattle.event_calendar.specs.declared.class.Class.TheVariants.{SendingEnd}
 use Rattle.bus_rules.specs.Cores.{Setup}
 use Rattle.air_log.specs.Entries.{hearings_of, sendings_of}
 use Rattle.air_log.specs.Devices.{Device, event}
-use Rattle.air_log.proofs.Elements.{map_contains, map_from}
+use Rattle.lwb_base.proofs.Elements.{map_contains, map_from, contains_at}
 use Rattle.air_log.specs.DeviceStates.{DeviceState}
 use Rattle.world_engine.specs.Fields.{FieldState, Shows, IsShown, id_of, ids_of}
 use Rattle.world_engine.specs.FieldSteps.{Acts, EndsSending, hearing_at, told_of_hearing}
 use Rattle.world_engine.specs.FieldHearings.{AllHear}
 use Rattle.world_engine.proofs.GoesOn.{goes_on_then, same_ids, same_then}
-use Rattle.world_engine.proofs.ShownPlaces.{is_there}
 use Rattle.world_engine.proofs.HearersAtPlaces.{id_at, node_there, place_there, places_ascend, one_id}
 use Rattle.world_engine.proofs.HearersTold.{id_there, still_shown_to}
 use Rattle.world_engine.proofs.HearingLoop.{HeardBy}
@@ -145,7 +144,7 @@ module _ {lines : Lines} {t p u : ℕ} {w : FieldState} {due : List Due} {st : D
     is_hearer a held same q s d shows hears =
         let is = id_shown q s d shows in
         let in_ids : Contains (ids_of w) s.id = subst (λ (n : ℕ). Contains (ids_of w) n) (ap (λ (k : Setup). k.id) shows.setup)
-        (map_contains id_of w.devices shows.state (is_there w.devices q shows.state shows.there)) in
+        (map_contains id_of w.devices shows.state (contains_at w.devices q shows.state shows.there)) in
         let node : Contains (nodes_of w.medium) s.id = subst (λ (l : List ℕ). Contains l s.id) it.ending.field.nodes in_ids in
         let at = place_there (ids_of mid) (map first ps) heard.0 heard.1 s.id
         (as_node lines t u x w.medium ps it.hearers s.id ((it.hearers.hear a held same s.id).1 (node, hears))) in

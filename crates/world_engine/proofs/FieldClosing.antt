@@ -14,11 +14,12 @@ use Rattle.air_log.specs.declared.entry.TunedEntry.{TunedEntry}
 use Rattle.air_log.specs.Devices.{Device, Made, silenced, nothing_made}
 use Rattle.air_log.specs.Entries.{sendings_of, hearings_of, node_of}
 use Rattle.air_log.specs.Lawful.{sent_by, tuned_by}
-use Rattle.air_log.proofs.Elements.{map_contains}
+use Rattle.lwb_base.proofs.Elements.{map_contains, contains_at}
+use Rattle.lwb_base.proofs.Lists.{set_elsewhere, map_stays}
 use Rattle.air_log.specs.DeviceStates.{DeviceState, whole, one_more, with_tuned, IsCoreAt}
 use Rattle.world_engine.specs.Fields.{FieldState, IsField, IsLogged, entries_of, setup_of, id_of, power_of, ids_of}
 use Rattle.world_engine.specs.FieldSteps.{GoesSilent, IsClosed}
-use Rattle.world_engine.proofs.DevicePlaces.{at_set, at_other, map_stays, contains_at, apart_at}
+use Rattle.world_engine.proofs.DevicePlaces.{at_set, apart_at}
 use Rattle.world_engine.proofs.DeviceSteps.{hearings_tuned, sendings_tuned, sent_same, tuned_own, tuned_other, entries_own}
 
 -- the log with an ended tuning of the node, and of another one
@@ -166,7 +167,7 @@ module _ (t i : ℕ) (old now new : FieldState) (field : IsField old) (is : IsCl
             (sym (at_set now.devices i goes.silent (slice_get_within now.devices i state goes.there)) ∙ ap (slice_get after.devices) (sym own) ∙ at) in
             subst (λ (x : DeviceState). IsCoreAt x.core x.power) is_silent goes.core
         | inr apart ↦ elim apart [
-          | inl less ↦ is.cores p d less (sym (at_other now.devices i p goes.silent (λ same. omega (arith, same))) ∙ at)
+          | inl less ↦ is.cores p d less (sym (set_elsewhere now.devices i p goes.silent (λ same. omega (arith, same))) ∙ at)
           | inr more ↦ absurd (omega arith)
         ]
       ]
@@ -175,7 +176,7 @@ module _ (t i : ℕ) (old now new : FieldState) (field : IsField old) (is : IsCl
   closed_after = record {
     done = one_done;
     todo = λ p d made above at logged. logged_at_other p d made (λ same. omega (arith, same)) at (is.todo p d made (omega arith) at logged);
-    same = λ p above. at_other now.devices i p goes.silent (λ same. omega (arith, same)) ∙ is.same p (omega arith);
+    same = λ p above. set_elsewhere now.devices i p goes.silent (λ same. omega (arith, same)) ∙ is.same p (omega arith);
     hearings = hearings_tuned (now.air ++ entries_of goes.before) goes.last ∙ hearings_tuned now.air goes.before ∙ is.hearings;
     sendings = sendings_tuned (now.air ++ entries_of goes.before) goes.last ∙ sendings_tuned now.air goes.before ∙ is.sendings;
     deliveries = is.deliveries;

@@ -18,7 +18,7 @@ use Rattle.air_log.specs.DeviceStates.{DeviceState, whole, one_more, core_in}
 use Rattle.world_engine.specs.Fields.{FieldState, IsField, id_of}
 use Rattle.world_engine.specs.FieldSteps.{first_device, node_id, IsFirst}
 use Rattle.world_engine.specs.Worlds.{new_core}
-use Rattle.air_log.proofs.Elements.{pairs_of_map}
+use Rattle.lwb_base.proofs.Elements.{pairs_of_map}
 
 none_closed : (e : Option TunedEntry) → one_more e [] ≡ [] → e ≡ None
 none_closed None is = refl

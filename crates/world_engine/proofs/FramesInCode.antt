@@ -4,7 +4,7 @@ use Rattle.std.specs.Prelude.{Contains, All}
 use Rattle.std.proofs.lemmas.Bool.{cond-true}
 use Rattle.std.proofs.lemmas.List.{length-map}
 use Rattle.std.proofs.lemmas.List.Elements.{All-contains}
-use Rattle.air_log.proofs.Elements.{contains_head, contains_tail}
+use Rattle.lwb_base.proofs.Elements.{contains_head, contains_tail}
 use Rattle.scenario_text.specs.ScenarioParts.{ScenarioParts}
 use Rattle.scenario_text.specs.ScenarioFacts.{IsSoundScenario, IsScriptLine}
 use Rattle.scenario_text.specs.declared.script.ScriptLine.{ScriptLine}

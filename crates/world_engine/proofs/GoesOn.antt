@@ -14,7 +14,7 @@ use Rattle.world_engine.specs.Fields.{FieldState, IsField, ids_of, id_of, setup_
 use Rattle.air_log.specs.DeviceStates.{DeviceState}
 use Rattle.world_engine.specs.FieldSteps.{GoesOn, AreSame}
 
-abbrev id_in : Setup → ℕ
+abbrev pub id_in : Setup → ℕ
 id_in s = s.id
 
 -- where nothing is told to the medium

@@ -2,11 +2,11 @@
 use Rattle.std.proofs.Common.{◌≡◌, ◌≢◌, ℕ, ◌<◌, ◌≤◌, List, [], ◌∷◌, ◌++◌, map, filter, length, get_or, Bool, true, false, ◌==◌, ◌&&◌, Some, None, Option}
 use Rattle.std.proofs.Common.{option_map, Contains, ◌⊎◌, inl, inr, refl, sym, ◌∙◌, ap, subst, arith, eqb-true, ltb-true, append-nil}
 use Rattle.std.specs.Prelude.{slice_get, slice_index_or}
-use Rattle.std.proofs.lemmas.Bool.{cases_eq, le-ltb, or_from, or_cases, and_parts}
+use Rattle.std.proofs.lemmas.Bool.{cases_eq, le-ltb, or_from, or_cases, and_parts, false_from_ne_true}
 use Rattle.std.proofs.lemmas.List.{length-map, map-append}
 use Rattle.std.proofs.lemmas.List.Elements.{filter-append, All-contains}
 use Rattle.std.proofs.lemmas.List.Kept.{AllPairs-cons, AllPairs-filter}
-use Rattle.std.proofs.lemmas.Option.{slice_get-map, slice_get_cases, get_or_from_slice_get}
+use Rattle.std.proofs.lemmas.Option.{slice_get-map, slice_get_cases, get_or_from_slice_get, same_Some}
 use Rattle.link_trace.specs.Passes.{Lines}
 use Rattle.event_calendar.specs.declared.class.Class.TheVariants.{SendingEnd}
 use Rattle.event_calendar.specs.Orders.{Due}
@@ -23,7 +23,7 @@ use Rattle.air_log.specs.Entries.{hearings_of, sendings_of}
 use Rattle.air_log.specs.Devices.{Device}
 use Rattle.air_log.specs.Trails.{Reception, setup_of, scripted, heard, before_tick}
 use Rattle.air_log.specs.Lawful.{comes_before, AreInTurn, reception_of, hearings_by, heard_by, sent_by}
-use Rattle.air_log.proofs.Elements.{map_from, filtered}
+use Rattle.lwb_base.proofs.Elements.{map_from, filtered, pairs_append}
 use Rattle.air_log.proofs.InTurn.{heard_in_turn}
 use Rattle.air_log.proofs.KeptByEvents.{in_end}
 use Rattle.air_log.specs.DeviceStates.{DeviceState}
@@ -33,9 +33,9 @@ use Rattle.world_engine.specs.Moments.{At, IsAt}
 use Rattle.world_engine.specs.Running.{HasPlaces, setup_by, Runs, HoldsScene, HasHearings}
 use Rattle.air_log.proofs.OwnSendings.{IsOwn, SendsOwn, own_heard, kept_own}
 use Rattle.world_engine.proofs.KeptDrops.{HeardOn}
-use Rattle.world_engine.proofs.TrailsGoOn.{OnTrails, ids_apart, some_same}
+use Rattle.world_engine.proofs.TrailsGoOn.{OnTrails, ids_apart}
 use Rattle.world_engine.proofs.TrailsAtEnds.{IsHeardAt, reception}
-use Rattle.world_engine.proofs.OneHearing.{all_from, pairs_append, hearing, of, none_of, one_of, search_id}
+use Rattle.world_engine.proofs.OneHearing.{all_from, hearing, of, none_of, one_of, search_id}
 
 -- the ids of a field are those of the nodes at their places
 pub id_at : (s : ScenarioParts) (w : FieldState) (due : List Due) → HasPlaces s w due → (q : ℕ) (n : NodeLine) → slice_get s.nodes q ≡ Some n
@@ -76,7 +76,7 @@ own_here None xs x is own = absurd (none_some is)
   where
     none_some : None ≡ Some x → ⊥
     none_some eq = cc
-own_here (Some y) xs x is own = subst (Contains xs) (some_same y x is) own
+own_here (Some y) xs x is own = subst (Contains xs) (same_Some y x is) own
 
 -- x does not come before itself, whoever hears it
 same_turn : (g h : Hearing) → g.sending ≡ h.sending → comes_before h g ≡ false
@@ -89,14 +89,10 @@ same_turn g h same =
     not_both true b is = is
     not_both false b is = refl
 
-no_true : (b : Bool) → (b ≡ true → ⊥) → b ≡ false
-no_true true none = absurd (none refl)
-no_true false none = refl
-
 -- of two one at most comes before the other
 turn_once : (g h : Hearing) → comes_before g h ≡ true → comes_before h g ≡ false
 turn_once g h before =
-    no_true (comes_before h g) (λ after. by (parts g h before) (parts h g after))
+    false_from_ne_true (comes_before h g) (λ after. by (parts g h before) (parts h g after))
   where
     parts : (a b : Hearing) → comes_before a b ≡ true → (a.sending.end < b.sending.end) ⊎ ((a.sending.end ≡ b.sending.end) × (a.sending.node < b.sending.node))
     parts a b is = elim (or_cases _ _ is) [

@@ -1,25 +1,13 @@
 -- The places of those who hear.
 use Rattle.std.proofs.Common.{◌≡◌, ℕ, zero, suc, ◌<◌, List, [], ◌∷◌, ◌++◌, map, take, length, get_or, Some, refl, sym, ◌∙◌, ap, subst, arith, Contains, inl}
 use Rattle.std.proofs.Common.{inr}
-use Rattle.std.specs.Prelude.{AllPairs, slice_get, ◌⊎◌}
+use Rattle.std.specs.Prelude.{AllPairs, slice_get}
 use Rattle.std.proofs.lemmas.Bool.{cases_eq, cases_lt}
 use Rattle.std.proofs.lemmas.List.{map-append, length-map, get_or-map, get_or-take, length-take-le}
 use Rattle.std.proofs.lemmas.List.Elements.{All-nil, All-push, All-contains}
 use Rattle.std.proofs.lemmas.Option.{slice_get_within, get_or_from_slice_get}
-use Rattle.air_log.proofs.Elements.{not_in_none, contains_head, contains_tail, contains_cases, map_contains, map_from}
+use Rattle.lwb_base.proofs.Elements.{map_contains, map_from}
 use Rattle.world_engine.specs.FieldHearings.{ArePlaces}
-
--- a place is among others or not
-pub among_or_not : (xs : List ℕ) (q : ℕ) → Contains xs q ⊎ (Contains xs q → ⊥)
-among_or_not [] q = inr (not_in_none q)
-among_or_not (x ∷ xs) q =
-    elim (cases_eq x q) [
-      | inl is ↦ inl (subst (λ (n : ℕ). Contains (x ∷ xs) n) is (contains_head x xs))
-      | inr not ↦ elim (among_or_not xs q) [
-        | inl later ↦ inl (contains_tail x xs q later)
-        | inr none ↦ inr (λ there. elim (contains_cases x xs q there) [ inl is ↦ not is | inr later ↦ none later ])
-      ]
-    ]
 
 abbrev pub id_at : List ℕ → ℕ → ℕ
 id_at ids q = get_or ids q 0

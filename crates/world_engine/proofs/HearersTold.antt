@@ -12,7 +12,7 @@ use Rattle.event_calendar.specs.Orders.{Due}
 use Rattle.bus_rules.specs.Cores.{Setup}
 use Rattle.air_log.specs.Entries.{hearings_of, sendings_of, heard_entry}
 use Rattle.air_log.specs.Devices.{Device, event}
-use Rattle.air_log.proofs.Elements.{not_in_none, contains_head, contains_cases, map_contains}
+use Rattle.lwb_base.proofs.Elements.{not_in_none, contains_head, contains_cases, map_contains, contains_at, among_or_not}
 use Rattle.air_log.proofs.LoggedEntries.{sendings_heard, hearings_heard}
 use Rattle.air_log.specs.DeviceStates.{DeviceState}
 use Rattle.world_engine.specs.Fields.{FieldState, Shows, IsShown, id_of, ids_of}
@@ -20,8 +20,7 @@ use Rattle.world_engine.specs.FieldSteps.{Acts, hearing_at, told_of_hearing}
 use Rattle.world_engine.specs.FieldHearings.{AllHear}
 use Rattle.world_engine.proofs.GoesOn.{goes_on_nothing, goes_on_then, same_ids, same_nothing, same_then}
 use Rattle.world_engine.proofs.LoggedSendings.{sent_beside_heard, tuned_beside_heard, entry_more}
-use Rattle.world_engine.proofs.ShownPlaces.{is_there, still_shown}
-use Rattle.world_engine.proofs.HearersAtPlaces.{among_or_not}
+use Rattle.world_engine.proofs.ShownPlaces.{still_shown}
 
 -- the id at a place
 pub id_there : (w : FieldState) (p : ℕ) (st : DeviceState) → slice_get w.devices p ≡ Some st → get_or (ids_of w) p 0 ≡ st.setup.id
@@ -69,7 +68,7 @@ heard_there clock p u x w due st new new_due at id acts = record {
     setups = refl;
     places = refl;
     entries = entry_more w.air (ids_of w) (heard_entry u x)
-        (subst (λ (v : ℕ). Contains (ids_of w) v) (sym id) (map_contains id_of w.devices st (is_there w.devices p st at)));
+        (subst (λ (v : ℕ). Contains (ids_of w) v) (sym id) (map_contains id_of w.devices st (contains_at w.devices p st at)));
     deliverers = λ d there. inl there;
   }) acts.same;
 }

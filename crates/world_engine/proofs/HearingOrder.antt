@@ -1,12 +1,11 @@
 -- The order of hearings, by the ends and the senders of what is heard, and the order of ids.
-use Rattle.std.proofs.Common.{◌≡◌, ℕ, ◌<◌, ◌⊎◌, inl, inr, List, [], ◌∷◌, ◌++◌, true, false, nat_lt, ◌==◌, slice_get, Some, arith, Contains, AllPairs, lt-ltb}
+use Rattle.std.proofs.Common.{◌≡◌, ℕ, ◌<◌, ◌⊎◌, inl, inr, List, true, false, nat_lt, ◌==◌, slice_get, Some, arith, AllPairs, lt-ltb}
 use Rattle.std.proofs.Common.{ltb-true, eqb-true, eq-eqb}
 use Rattle.std.proofs.lemmas.Bool.{cases_order, or_left, or_right, or_cases, and_parts, and_from, false_from_ne_true}
-use Rattle.std.proofs.lemmas.List.Elements.{Contains-append_cases}
 use Rattle.std.proofs.lemmas.Option.{slice_get_within, get_or_from_slice_get}
 use Rattle.radio_model.specs.declared.sending.Sending.{Sending}
 use Rattle.radio_model.specs.OnAir.{Hearing}
-use Rattle.radio_model.proofs.Members.{in_head, in_tail, pairs_cons, pairs_tail, pairs_head}
+use Rattle.lwb_base.proofs.Elements.{contains_head, contains_tail}
 use Rattle.air_log.specs.Lawful.{comes_before}
 
 -- by end, and then by sender
@@ -39,18 +38,6 @@ not_both x y a b = elim a [
 
 pub not_before : (g h : Hearing) → (IsEarlier g.sending h.sending → ⊥) → comes_before g h ≡ false
 not_before g h never = false_from_ne_true (comes_before g h) (λ is. never (earlier g h is))
-
--- pairs of two lists, one behind the other
-pub pairs_append : {X : Type 0} (R : X → X → Type 0) (xs ys : List X) → AllPairs R xs → AllPairs R ys
-    → ((x y : X) → Contains xs x → Contains ys y → R x y) → AllPairs R (xs ++ ys)
-pairs_append R [] ys first second across = second
-pairs_append R (x ∷ xs) ys first second across =
-    pairs_cons R x (xs ++ ys)
-    (λ y there. elim (Contains-append_cases xs ys y there) [
-      | inl in_first ↦ pairs_head R x xs first y in_first
-      | inr in_second ↦ across x y (in_head xs x) in_second
-    ])
-    (pairs_append R xs ys (pairs_tail R x xs first) second (λ z y in_first in_second. across z y (in_tail xs x z in_first) in_second))
 
 -- of ascending ids
 module _ (ids : List ℕ) (ascending : AllPairs (λ a b. a < b) ids) where

@@ -1,29 +1,27 @@
 -- At the end of a run its log follows the rule of hearing.
-use Rattle.std.proofs.Common.{◌≡◌, ◌≢◌, ℕ, ◌<◌, ◌↔◌, inl, inr, List, ◌==◌, reverse, Some, None, refl, sym, ◌∙◌, ap, subst, arith, Contains, AllPairs, eq-eqb}
+use Rattle.std.proofs.Common.{◌≡◌, ◌≢◌, ℕ, ◌<◌, ◌↔◌, inl, inr, List, ◌==◌, reverse, None, refl, sym, ◌∙◌, subst, arith, Contains, AllPairs, eq-eqb}
 use Rattle.std.proofs.Common.{eqb-true}
 use Rattle.std.proofs.lemmas.Option.{same_Some}
 use Rattle.radio_model.specs.declared.sending.Sending.{Sending}
 use Rattle.radio_model.specs.OnAir.{Hearing, Tuning}
 use Rattle.radio_model.specs.Hearing.{Scene, IsTuned, TunedThrough, Rival, Hears}
 use Rattle.radio_model.specs.Holding.{Agree, as_it_stands}
-use Rattle.radio_model.proofs.Members.{from_filter}
+use Rattle.lwb_base.proofs.Elements.{filter_from, in_filtered, in_reverse, from_reverse, filtered}
 use Rattle.radio_model.proofs.OneCall.{lit_moves}
 use Rattle.radio_model.proofs.Settled.{settled}
 use Rattle.scenario_text.specs.ScenarioParts.{ScenarioParts}
 use Rattle.event_calendar.specs.Orders.{Due}
 use Rattle.bus_rules.specs.Cores.{Setup}
-use Rattle.air_log.specs.declared.entry.Entry.{Entry}
-use Rattle.air_log.specs.declared.entry.Entry.TheVariants.{Sent, Heard, Tuned}
 use Rattle.air_log.specs.Entries.{sendings_of, tunings_of, tuning_in, node_of}
 use Rattle.air_log.specs.Devices.{Device, silenced}
 use Rattle.air_log.specs.HearsAir.{HearsAir, scene_of}
 use Rattle.air_log.specs.Lawful.{FollowsHearing, tuned_by}
 use Rattle.air_log.specs.Trails.{run_end}
-use Rattle.air_log.proofs.Elements.{in_filtered, in_reverse, from_reverse, filtered}
 use Rattle.world_engine.specs.Fields.{FieldState, Shows, ids_of}
 use Rattle.world_engine.specs.FieldSteps.{IsClosed}
 use Rattle.world_engine.specs.Running.{Runs, HoldsScene, HasHearings, IsOnAir}
 use Rattle.air_log.proofs.TunedBefore.{TunedAt, silenced_stays}
+use Rattle.air_log.proofs.LoggedEntries.{tuning_node}
 use Rattle.world_engine.proofs.ScenesGoOn.{sending_at}
 use Rattle.world_engine.proofs.ShownTunings.{AreTuned, shown_id, place_in}
 
@@ -51,11 +49,6 @@ module _ (a : Scene) (ts : List Tuning) (v : ℕ) (x : Sending) where
       | inr c ↦ inr (record { winner = c.winner; rival = rival_on c.winner c.rival; same = c.same; named = c.named })
     ];
   }
-
-tuned_node : (e : Entry) (k : Tuning) → tuning_in e ≡ Some k → node_of e ≡ k.node
-tuned_node (Sent y) k is = absurd (cc)
-tuned_node (Heard h) k is = absurd (cc)
-tuned_node (Tuned z) k is = ap (λ (k : Tuning). k.node) (same_Some _ _ is)
 
 module _ (s : ScenarioParts) (w : FieldState) (due : List Due) (end : FieldState) (closed : IsClosed (run_end s) w due end) (all : AreTuned (run_end s) w due)
     (a : Scene) (h : HoldsScene s (run_end s) w due a) (has : HasHearings (run_end s) (run_end s) w a) where
@@ -140,9 +133,9 @@ module _ (s : ScenarioParts) (w : FieldState) (due : List Due) (end : FieldState
   -- a node that is tuned by the log is one of the field
   tuned_known : (v r k : ℕ) → IsTuned logged v r k → Contains (ids_of w) v
   tuned_known v r k is =
-      let e = from_filter tuning_in end.air is.tuning is.there in
+      let e = filter_from tuning_in end.air is.tuning is.there in
       let known : Contains (ids_of w) (node_of e.0) = elim (closed.entries e.0 e.1) [ inl was ↦ h.known e.0 was | inr own ↦ own ] in
-      subst (Contains (ids_of w)) (tuned_node e.0 is.tuning e.2 ∙ is.node) known
+      subst (Contains (ids_of w)) (tuning_node e.0 is.tuning e.2 ∙ is.node) known
 
   -- what runs ends with the run or later
   over_stopped : (x : Sending) → x.end < run_end s → Runs w.medium x → ⊥

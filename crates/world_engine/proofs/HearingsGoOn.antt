@@ -10,7 +10,7 @@ use Rattle.radio_model.specs.OnAir.{Hearing}
 use Rattle.radio_model.specs.Hearing.{Scene, Hears}
 use Rattle.radio_model.specs.Holding.{Agree, as_it_stands}
 use Rattle.radio_model.specs.Stations.{sending_of, station_of}
-use Rattle.radio_model.proofs.Members.{not_in_none, in_head, in_either}
+use Rattle.lwb_base.proofs.Elements.{not_in_none, contains_head, contains_cases}
 use Rattle.scenario_text.specs.ScenarioParts.{ScenarioParts}
 use Rattle.scenario_text.specs.declared.script.ScriptLine.{ScriptLine}
 use Rattle.event_calendar.specs.Orders.{Due}
@@ -126,7 +126,7 @@ goes_on q t d (y ∷ ys) e x begins is = absurd (none-some x (sym begins.0 ∙ i
 came_from : (q : Setup) (t : ℕ) (d : Device) (begun : List Sending) (e : Device) (x : Sending) → Begins q t d begun e → e.sending ≡ Some x
     → (d.sending ≡ Some x) ⊎ Contains begun x
 came_from q t d [] e x begins is = inl (sym begins ∙ is)
-came_from q t d (y ∷ ys) e x begins is = inr (subst (Contains (y ∷ ys)) (same_Some y x (sym begins.1 ∙ is)) (in_head ys y))
+came_from q t d (y ∷ ys) e x begins is = inr (subst (Contains (y ∷ ys)) (same_Some y x (sym begins.1 ∙ is)) (contains_head y ys))
 
 pub record IsFresh (q : Setup) (t : ℕ) (e : Device) (x : Sending) : Type 0 where
   pub sends : e.sending ≡ Some x
@@ -137,7 +137,7 @@ pub record IsFresh (q : Setup) (t : ℕ) (e : Device) (x : Sending) : Type 0 whe
 is_fresh : (q : Setup) (t : ℕ) (d : Device) (begun : List Sending) (e : Device) (x : Sending) → Begins q t d begun e → Contains begun x → IsFresh q t e x
 is_fresh q t d [] e x begins there = absurd (not_in_none x there)
 is_fresh q t d (y ∷ ys) e x begins there =
-    elim (in_either ys y x there) [
+    elim (contains_cases y ys x there) [
       | inl is ↦ subst (IsFresh q t e) is (record { sends = begins.1; start = begins.3; node = begins.4; later = begins.5 })
       | inr rest ↦ absurd (not_in_none x (subst (λ (l : List Sending). Contains l x) begins.2 rest))
     ]

@@ -10,7 +10,7 @@ use Rattle.air_log.specs.ScriptedDevices.{after_line}
 use Rattle.air_log.specs.Trails.{Reception, setup_of, frame_start, before_tick}
 use Rattle.air_log.specs.Lawful.{heard_by}
 use Rattle.air_log.specs.Drops.{told_at_tick, before_line, drop_by, drops_below}
-use Rattle.air_log.proofs.Elements.{contains_head, contains_tail}
+use Rattle.lwb_base.proofs.Elements.{contains_head, contains_tail}
 use Rattle.air_log.proofs.HearingMore.{earlier_stays}
 use Rattle.world_engine.specs.Moments.{after_lines}
 

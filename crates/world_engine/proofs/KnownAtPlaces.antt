@@ -3,6 +3,7 @@ use Rattle.std.proofs.Common.{◌≡◌, ℕ, ◌<◌, List, [], ◌∷◌, ◌+
 use Rattle.std.proofs.Common.{refl, sym, ◌∙◌, ap, subst}
 use Rattle.std.specs.Prelude.{slice_get}
 use Rattle.std.proofs.lemmas.List.Elements.{All-contains, Contains-append_right}
+use Rattle.std.proofs.lemmas.Option.{same_Some}
 use Rattle.event_calendar.specs.declared.class.Class.TheVariants.{SendingEnd}
 use Rattle.event_calendar.specs.Orders.{Due, at}
 use Rattle.radio_model.specs.declared.sending.Sending.{Sending}
@@ -17,7 +18,7 @@ use Rattle.scenario_text.specs.declared.script.ScriptLine.{ScriptLine}
 use Rattle.bus_rules.specs.Cores.{Setup}
 use Rattle.air_log.specs.Devices.{Device, Power, PowerOff, PowerOn, seen_power}
 use Rattle.air_log.specs.Trails.{setup_of}
-use Rattle.air_log.proofs.Elements.{contains_head, contains_tail}
+use Rattle.lwb_base.proofs.Elements.{contains_head, contains_tail}
 use Rattle.air_log.proofs.KeptPower.{few_before}
 use Rattle.air_log.specs.DeviceStates.{CanBoot}
 use Rattle.world_engine.specs.Fields.{FieldState, Shows, IsShown, end_of}
@@ -25,7 +26,7 @@ use Rattle.world_engine.specs.FieldSteps.{Sends}
 use Rattle.world_engine.specs.Moments.{Moment}
 use Rattle.world_engine.specs.Running.{HasPlaces, IsTold}
 use Rattle.world_engine.proofs.ShownDevices.{node_there, same_sending, stands_at}
-use Rattle.world_engine.proofs.TrailsGoOn.{OnTrails, some_same}
+use Rattle.world_engine.proofs.TrailsGoOn.{OnTrails}
 use Rattle.world_engine.proofs.HeardAtEnds.{node_within}
 
 -- what a look-up finds is there
@@ -37,7 +38,7 @@ found p [] x is = absurd (none_some is)
 found {X} p (y ∷ ys) x is = by (p y) (found p ys x) is
   where
     by : (b : Bool) → (find p ys ≡ Some x → Contains ys x) → cond b (Some y) (find p ys) ≡ Some x → Contains (y ∷ ys) x
-    by true rest at = subst (λ (z : X). Contains (y ∷ ys) z) (some_same y x at) (contains_head y ys)
+    by true rest at = subst (λ (z : X). Contains (y ∷ ys) z) (same_Some y x at) (contains_head y ys)
     by false rest at = contains_tail y ys x (rest at)
 
 module _ (s : ScenarioParts) (clocks : ℕ → ℕ → ℕ) (t : ℕ) (m : Moment) (w : FieldState) (due : List Due) (places : HasPlaces s w due)
@@ -52,7 +53,7 @@ module _ (s : ScenarioParts) (clocks : ℕ → ℕ → ℕ) (t : ℕ) (m : Momen
     pub setup_at : (q : Setup) (d : Device) → Shows q t w due p d → q ≡ setup_of s n.node
     setup_at q d shows =
         let k = node_there s q t w due p d places shows in
-        k.2 ∙ ap (λ (x : NodeLine). setup_of s x.node) (some_same k.0 n (sym k.1 ∙ there))
+        k.2 ∙ ap (λ (x : NodeLine). setup_of s x.node) (same_Some k.0 n (sym k.1 ∙ there))
 
     -- an end that stands is that of the sending that runs
     pub sends_at : at due p SendingEnd ≡ Some t → (x : Sending) × (x.end ≡ t) × Sends t w due p x
@@ -67,7 +68,7 @@ module _ (s : ScenarioParts) (clocks : ℕ → ℕ → ℕ) (t : ℕ) (m : Momen
             none_some eq = cc
         of (Some x) is now =
             let trail = trails p n there in
-            (x, some_same x.end t now, λ q d shows. same_sending q (setup_of s n.node) t t w due p d trail.device shows trail.shows ∙ is)
+            (x, same_Some x.end t now, λ q d shows. same_sending q (setup_of s n.node) t t w due p d trail.device shows trail.shows ∙ is)
 
     -- a line to the node of the place
     module _ (l : ScriptLine) (own : l.node ≡ n.node) where

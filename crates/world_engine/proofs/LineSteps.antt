@@ -15,7 +15,7 @@ use Rattle.event_calendar.specs.Orders.{Due}
 use Rattle.bus_rules.specs.Cores.{Setup}
 use Rattle.air_log.specs.Devices.{Device}
 use Rattle.air_log.proofs.AlarmLoop.{early_in_run}
-use Rattle.air_log.proofs.Elements.{contains_head}
+use Rattle.lwb_base.proofs.Elements.{contains_head}
 use Rattle.air_log.specs.ClockLists.{clocks_by}
 use Rattle.air_log.specs.DeviceStates.{CanBoot}
 use Rattle.world_engine.specs.Fields.{FieldState, Shows, IsShown, ids_of, id_of, setup_of}

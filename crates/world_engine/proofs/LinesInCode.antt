@@ -1,11 +1,10 @@
 -- The script lines of a frame, told one after another.
-use Rattle.std.proofs.Common.{◌≡◌, ◌≢◌, ℕ, suc, ◌+◌, ◌*◌, ◌<◌, ◌≤◌, List, [], ◌∷◌, ◌++◌, take, drop, length, get_or, nat_lt, true, false, Some, None, refl, sym}
+use Rattle.std.proofs.Common.{◌≡◌, ◌≢◌, ℕ, suc, ◌+◌, ◌<◌, ◌≤◌, List, [], ◌∷◌, ◌++◌, take, drop, length, get_or, nat_lt, true, false, Some, None, refl, sym}
 use Rattle.std.proofs.Common.{ap, subst, ◌∙◌, arith}
 use Rattle.std.specs.Prelude.{Contains, slice_get}
 use Rattle.std.proofs.lemmas.Bool.{ltb-true, ltb-false}
 use Rattle.std.proofs.lemmas.List.{take-append-drop, length-drop, get_or-drop}
 use Rattle.std.proofs.lemmas.Option.{slice_get_read, slice_get_past, slice_get-get_or}
-use Rattle.lwb_base.specs.Profile.{Numbers}
 use Rattle.scenario_text.specs.ScenarioParts.{ScenarioParts}
 use Rattle.scenario_text.specs.ScenarioFacts.{IsSoundScenario}
 use Rattle.scenario_text.specs.declared.script.ScriptLine.{ScriptLine}
@@ -30,10 +29,6 @@ pub record AreTold (first : List Entry) (s : ScenarioParts) (clocks : ℕ → �
   pub behind : (i : ℕ) (l : ScriptLine) → slice_get s.script i ≡ Some l → k ≤ i → f ≤ l.frame
   pub run : IsRunning s clocks (take k s.script) (frame_start s f) (InLines (take k s.script)) w due
   pub stay : TrailsStay s clocks (frame_start s f) first w.air
-
--- the tick at which a frame starts, as it is computed
-pub tick_of : (s : ScenarioParts) (f i j : ℕ) (p : Numbers) → i ≡ f → j ≡ p.frame → p ≡ s.profile → i * j ≡ frame_start s f
-tick_of s f i j p frame ticks profile = ap (λ (n : ℕ). n * j) frame ∙ ap (λ (n : ℕ). f * n) (ticks ∙ ap (λ (q : Numbers). q.frame) profile)
 
 -- what is read at an index of a list stands there
 pub read_line : (script read : List ScriptLine) (k : ℕ) (l : ScriptLine) → read ≡ script → true ≡ nat_lt k (length read) → l ≡ get_or read k l

@@ -4,11 +4,11 @@ use Rattle.std.specs.Prelude.{slice_get}
 use Rattle.std.specs.Option.{option_map}
 use Rattle.std.proofs.lemmas.List.{append-nil, length-set}
 use Rattle.std.proofs.lemmas.Option.{slice_get_within, get_or_from_slice_get}
+use Rattle.lwb_base.proofs.Lists.{set_elsewhere, map_stays}
 use Rattle.radio_model.specs.declared.sending.Sending.{Sending}
 use Rattle.radio_model.specs.Stations.{IsTime, station_of}
 use Rattle.radio_model.proofs.Agreement.{agree_same}
-use Rattle.event_calendar.specs.Orders.{Due, at, changed, due_at, with_tick, nothing_due}
-use Rattle.event_calendar.specs.declared.class.Class.{Class}
+use Rattle.event_calendar.specs.Orders.{Due, at, changed, nothing_due}
 use Rattle.event_calendar.specs.declared.class.Class.TheVariants.{SendingStart}
 use Rattle.bus_rules.specs.Cores.{Setup}
 use Rattle.air_log.specs.Devices.{Device, Ordered, Made, nothing_made}
@@ -17,8 +17,9 @@ use Rattle.air_log.specs.Entries.{sendings_of}
 use Rattle.air_log.specs.DeviceStates.{DeviceState, whole, with_sent, HappenedBy, IsSameNode}
 use Rattle.world_engine.specs.Fields.{FieldState, IsField, IsKnown, Shows, IsShown, due_of, end_of, setup_of, channel_of}
 use Rattle.world_engine.specs.FieldSteps.{Acts}
-use Rattle.world_engine.proofs.ShownPlaces.{there_now, elsewhere, same_marks, still_field, still_shown, shown_as}
+use Rattle.world_engine.proofs.ShownPlaces.{there_now, still_field, still_shown, shown_as}
 use Rattle.world_engine.proofs.BegunDevices.{silent_with}
+use Rattle.world_engine.proofs.ObeyedOrders.{due_changed}
 use Rattle.air_log.specs.Courses.{tick_of}
 
 -- what the start at a device comes to
@@ -30,13 +31,6 @@ Begins t p old old_due new new_due =
 -- what a device has in the queue
 abbrev pub due_by : Option Sending → Option ℕ → Option Ordered → Due
 due_by sending alarm ordered = record { sending_end = option_map end_of sending; alarm = alarm; sending_start = option_map tick_of ordered }
-
--- the queue at a place where an order is set
-pub due_there : (due : List Due) (p : ℕ) (class : Class) (tick : Option ℕ) (d : Due) → slice_get due p ≡ Some d
-    → slice_get (changed due p class tick) p ≡ Some (with_tick class tick d)
-due_there due p class tick d set_so =
-    there_now due p d (with_tick class tick (due_at due p)) set_so
-    ∙ ap (λ (e : Due). let o : Option Due = Some (with_tick class tick e) in o) (get_or_from_slice_get due p d nothing_due set_so)
 
 module _ (t p : ℕ) (w : FieldState) (field : IsField w) (due : List Due) (st new : DeviceState) (here : slice_get w.devices p ≡ Some st)
     (node : IsSameNode st new) (keeps_time : (now : ℕ) → HappenedBy now st → HappenedBy now new) (stands : at due p SendingStart ≡ Some t)
@@ -63,7 +57,7 @@ module _ (t p : ℕ) (w : FieldState) (field : IsField w) (due : List Due) (st n
 
     silent_set : slice_get silent_due p ≡ Some (due_of new)
     silent_set =
-        due_there due p SendingStart None (due_of st) known.set
+        due_changed due p SendingStart None (due_of st) known.set
         ∙ ap (λ (d : Device). let o : Option Due = Some (due_by d.sending d.alarm d.ordered) in o) (sym silent_now)
 
     silent_own : (s : Setup) (d : Device) → Shows s t w due p d → Shows s t silent_field silent_due p (begun s t d)
@@ -95,12 +89,12 @@ module _ (t p : ℕ) (w : FieldState) (field : IsField w) (due : List Due) (st n
       record {
         own = silent_own;
         others = λ q other s d shows. still_shown t q w due silent_field silent_due s d (record {
-          device = elsewhere w.devices p q new other;
+          device = set_elsewhere w.devices p q new other;
           sent = refl;
           tuned = refl;
           deliveries = refl;
           station = refl;
-          due = elsewhere due p q _ other;
+          due = set_elsewhere due p q _ other;
           sums = refl;
         }) shows;
         hearings = refl;
@@ -114,7 +108,7 @@ module _ (t p : ℕ) (w : FieldState) (field : IsField w) (due : List Due) (st n
           still = λ is. is;
         };
         same = record {
-          setups = same_marks setup_of w.devices p st new here node.setup;
+          setups = map_stays setup_of w.devices p st new here node.setup;
           places = length-set due p _;
           entries = λ e there. inl there;
           deliverers = λ d there. inl there;

@@ -14,7 +14,7 @@ use Rattle.air_log.specs.DeviceStates.{IsTimely}
 use Rattle.world_engine.specs.Fields.{FieldState, IsShown}
 use Rattle.world_engine.specs.FieldSteps.{Acts}
 use Rattle.world_engine.proofs.ActsInTurn.{acts_nothing, acts_then, acts_as}
-use Rattle.air_log.proofs.Elements.{first_of, none_in}
+use Rattle.lwb_base.proofs.Elements.{first_of, none_in}
 
 -- a device is shown at the place still
 pub shown_still : (t p : ℕ) (change : Setup → Device → Device) (old new : FieldState) (old_due new_due : List Due)

@@ -1,8 +1,9 @@
 -- What an order does to a field: the device at the place obeys it, and nothing else happens.
 use Rattle.std.proofs.Common.{◌≡◌, ◌≢◌, ℕ, List, [], ◌++◌, set, length, Option, Some, None, IfSome, option_map, option_to_list, refl, sym, ◌∙◌, ap, subst}
 use Rattle.std.specs.List.{slice_get}
-use Rattle.std.proofs.lemmas.List.{append-nil, length-set}
+use Rattle.std.proofs.lemmas.List.{append-nil}
 use Rattle.std.proofs.lemmas.Option.{slice_get_within, get_or_from_slice_get}
+use Rattle.lwb_base.proofs.Lists.{set_elsewhere}
 use Rattle.event_calendar.specs.Orders.{Due, due_at, with_tick, changed}
 use Rattle.event_calendar.specs.declared.class.Class.{Class}
 use Rattle.bus_rules.specs.Cores.{Setup}
@@ -16,10 +17,10 @@ use Rattle.air_log.specs.DeviceStates.{DeviceState, with_tuned, IsSameNode}
 use Rattle.air_log.specs.WindowSums.{WindowSum}
 use Rattle.world_engine.specs.Fields.{FieldState, IsField, IsKnown, entries_of, due_of, channel_of}
 use Rattle.world_engine.specs.FieldSteps.{GoesOn}
-use Rattle.world_engine.proofs.ActsInTurn.{goes_nowhere}
-use Rattle.world_engine.proofs.DevicePlaces.{at_set, at_other}
+use Rattle.world_engine.proofs.DevicePlaces.{at_set}
 use Rattle.world_engine.proofs.DeviceSteps.{IsStepAt, GoesOnMaking}
 use Rattle.world_engine.proofs.DeviceRetuned.{retuned_goes_on, retuned_station, retuned_others}
+use Rattle.world_engine.proofs.GoesOn.{goes_on_nothing}
 
 -- a tick of the queue that is changed at a place
 pub due_changed : (due : List Due) (p : ℕ) (class : Class) (tick : Option ℕ) (d : Due) → slice_get due p ≡ Some d
@@ -29,10 +30,7 @@ due_changed due p class tick d there =
     ∙ ap (λ (x : Due). Some (with_tick class tick x)) (get_or_from_slice_get due p d _ there)
 
 pub due_kept : (due : List Due) (p : ℕ) (class : Class) (tick : Option ℕ) (q : ℕ) → q ≢ p → slice_get (changed due p class tick) q ≡ slice_get due q
-due_kept due p class tick q other = at_other due p q (with_tick class tick (due_at due p)) other
-
-pub due_places : (due : List Due) (p : ℕ) (class : Class) (tick : Option ℕ) → length (changed due p class tick) ≡ length due
-due_places due p class tick = length-set due p (with_tick class tick (due_at due p))
+due_kept due p class tick q other = set_elsewhere due p q (with_tick class tick (due_at due p)) other
 
 -- devices of which the same is set stand in the queue alike
 pub same_due : (d e : DeviceState) → e.sending ≡ d.sending → e.alarm ≡ d.alarm → e.ordered ≡ d.ordered → due_of d ≡ due_of e
@@ -109,7 +107,7 @@ module _ (t p : ℕ) (state after : DeviceState) (delivery : Option Delivery) (o
     drops = q.drops ∙ sym (append-nil old.drops);
     own_tuning = tt;
     own_delivery = q.own;
-    medium = subst (λ (m : MediumState). GoesOn t old.medium m []) (sym q.medium) (goes_nowhere t old.medium q.time);
+    medium = subst (λ (m : MediumState). GoesOn t old.medium m []) (sym q.medium) (goes_on_nothing t old.medium q.time);
     station = record {
       station = q.known.station;
       there = ap (λ (m : MediumState). station_of m after.setup.id) q.medium ∙ ap (λ (s : Setup). station_of old.medium s.id) q.setup ∙ q.known.there;

@@ -1,12 +1,11 @@
 -- Of a list of hearings one is that of a node, or none is.
-use Rattle.std.proofs.Common.{◌≡◌, ◌≢◌, ℕ, ◌<◌, List, [], ◌∷◌, ◌++◌, map, filter, get_or, Bool, true, false, ◌==◌, All, AllPairs, Contains, ◌⊎◌, inl, inr, refl}
+use Rattle.std.proofs.Common.{◌≡◌, ◌≢◌, ℕ, ◌<◌, List, [], ◌∷◌, map, filter, get_or, Bool, true, false, ◌==◌, All, AllPairs, Contains, ◌⊎◌, inl, inr, refl}
 use Rattle.std.proofs.Common.{sym, ◌∙◌, ap, arith, eqb-true}
 use Rattle.std.proofs.lemmas.Bool.{cases_eq, eq-eqb, ne_eqb}
-use Rattle.std.proofs.lemmas.List.Elements.{Contains-get_or, Contains-append_cases}
-use Rattle.std.proofs.lemmas.List.Kept.{AllPairs-cons}
+use Rattle.std.proofs.lemmas.List.Elements.{Contains-get_or}
 use Rattle.radio_model.specs.declared.sending.Sending.{Sending}
 use Rattle.radio_model.specs.OnAir.{Hearing}
-use Rattle.air_log.proofs.Elements.{not_in_none, contains_head, contains_tail, contains_cases, map_from, pairs_head, pairs_tail}
+use Rattle.lwb_base.proofs.Elements.{not_in_none, contains_head, contains_tail, contains_cases, map_from, pairs_head, pairs_tail}
 use Rattle.air_log.proofs.NextDue.{none_passes}
 
 -- what passes a filter
@@ -19,17 +18,6 @@ filter_no p x xs is = rw is refl
 -- pairs in two lists, one behind the other
 pub all_from : {X : Type 0} (P : X → Type 0) (xs : List X) → ((x : X) → Contains xs x → P x) → All P xs
 all_from P xs each = λ k d less. each (get_or xs k d) (Contains-get_or xs k d less)
-
-pub pairs_append : {X : Type 0} (R : X → X → Type 0) (xs ys : List X) → AllPairs R xs → AllPairs R ys
-    → ((x y : X) → Contains xs x → Contains ys y → R x y) → AllPairs R (xs ++ ys)
-pairs_append R [] ys first second across = second
-pairs_append R (x ∷ xs) ys first second across =
-    AllPairs-cons R x (xs ++ ys)
-    (all_from (R x) (xs ++ ys) (λ y there. elim (Contains-append_cases xs ys y there) [
-      | inl left ↦ pairs_head R x xs first y left
-      | inr right ↦ across x y (contains_head x xs) right
-    ]))
-    (pairs_append R xs ys (pairs_tail R x xs first) second (λ a b at_a at_b. across a b (contains_tail x xs a at_a) at_b))
 
 -- one hearing of a list is that of v, or none is
 module _ (id : ℕ → ℕ) (x : Sending) (v : ℕ) where

@@ -2,7 +2,8 @@
 use Rattle.std.proofs.Common.{◌==◌, ◌≡◌, ◌≢◌, ℕ, ◌<◌, ◌≤◌, List, Option, Some, None, false, inl, inr, ◌⊎◌, refl, sym, ap, subst, ◌∙◌, arith}
 use Rattle.std.specs.Prelude.{Contains, slice_get}
 use Rattle.std.specs.Option.{option_map}
-use Rattle.std.proofs.lemmas.Bool.{cases_lt, cases_eq, cond_both, eqb-false, eq-eqb, true≢false}
+use Rattle.std.proofs.lemmas.Bool.{cases_lt, cases_eq, cond_both, eqb-false}
+use Rattle.lwb_base.proofs.Elements.{among_or_not}
 use Rattle.link_trace.specs.Passes.{Lines}
 use Rattle.scenario_text.specs.ScenarioParts.{ScenarioParts}
 use Rattle.scenario_text.specs.ScenarioFacts.{IsSoundScenario}
@@ -12,11 +13,12 @@ use Rattle.radio_model.specs.declared.sending.Sending.{Sending}
 use Rattle.event_calendar.specs.declared.class.Class.{Class}
 use Rattle.event_calendar.specs.declared.class.Class.TheVariants.{SendingEnd, Alarm, SendingStart}
 use Rattle.event_calendar.specs.Orders.{Due, IsNext, at, tick_of, rank}
+use Rattle.event_calendar.proofs.OneOrder.{same_class}
 use Rattle.bus_rules.specs.Cores.{Setup}
 use Rattle.bus_rules.specs.declared.delivery.DropLine.{DropLine}
 use Rattle.air_log.specs.Devices.{Device, Listening, Ordered}
 use Rattle.air_log.specs.AlarmRuns.{IsAlarmRun}
-use Rattle.air_log.specs.Trails.{setup_of, run_end, alarmed, begun, begun_by, starts, is_due}
+use Rattle.air_log.specs.Trails.{setup_of, run_end, alarmed, begun, begun_by, starts}
 use Rattle.world_engine.specs.Fields.{FieldState, Shows, end_of}
 use Rattle.world_engine.specs.FieldSteps.{Acts, EndsSending, told_of_end, told_of_hearing}
 use Rattle.world_engine.specs.Frames.{order_key, IsPast}
@@ -29,20 +31,9 @@ use Rattle.world_engine.proofs.QueueKeys.{small_rank}
 use Rattle.world_engine.proofs.RunPlaces.{place_of_order}
 use Rattle.world_engine.proofs.ToldDevices.{told_of_hearing_sending, told_of_end_sending}
 use Rattle.world_engine.proofs.ShownDevices.{stands_at}
-use Rattle.world_engine.proofs.TrailsAtEnds.{is_in}
 use Rattle.world_engine.proofs.TrailsGoOn.{AreClocks}
+use Rattle.world_engine.proofs.TickPoints.{alarm_at}
 use Rattle.air_log.specs.Courses.{tick_of as start_of}
-
-same_class : (c k : Class) → rank c ≡ rank k → c ≡ k
-same_class SendingEnd SendingEnd is = refl
-same_class SendingEnd Alarm is = absurd (omega (arith, is))
-same_class SendingEnd SendingStart is = absurd (omega (arith, is))
-same_class Alarm SendingEnd is = absurd (omega (arith, is))
-same_class Alarm Alarm is = refl
-same_class Alarm SendingStart is = absurd (omega (arith, is))
-same_class SendingStart SendingEnd is = absurd (omega (arith, is))
-same_class SendingStart Alarm is = absurd (omega (arith, is))
-same_class SendingStart SendingStart is = refl
 
 -- what stands of the class at the tick is at later places
 abbrev pub LaterPlaces : ℕ → Class → ℕ → List Due → Type 0
@@ -123,7 +114,7 @@ module _ (s : ScenarioParts) (clocks : ℕ → ℕ → ℕ) (told : List ScriptL
   pub were_at_end : (lines : Lines) (at_places : ℕ → ℕ → ℕ) (x : Sending) (hearers : List ℕ)
       → EndsSending lines at_places t p x hearers old old_due new new_due → (Contains hearers p → ⊥) → c ≡ SendingEnd
       → (q : ℕ) → at new_due q c ≡ Some t → (q ≢ p) × (at old_due q c ≡ Some t)
-  were_at_end lines at_places x hearers ends deaf is_end q stands = by (cases_eq q p) (is_in hearers q)
+  were_at_end lines at_places x hearers ends deaf is_end q stands = by (cases_eq q p) (among_or_not hearers q)
     where
       n : (n : NodeLine) × (slice_get s.nodes q ≡ Some n)
       n = node q t stands
@@ -167,17 +158,9 @@ module _ (s : ScenarioParts) (clocks : ℕ → ℕ → ℕ) (told : List ScriptL
                 ∙ end_now),
           )
 
--- alarms that have come to an end do not stand at the tick any more
-alarm_over : (t : ℕ) (a : Option ℕ) → is_due t a ≡ false → a ≡ Some t → ⊥
-alarm_over t None none is = cc
-alarm_over t (Some tick) none is = true≢false (sym (eq-eqb tick t (same tick is)) ∙ none)
-  where
-    same : (k : ℕ) → Some k ≡ Some t → k ≡ t
-    same k is = cc
-
 pub alarm_gone : (clock : ℕ → ℕ) (s : Setup) (t : ℕ) (d : Device) → IsAlarmRun clock s t d (alarmed clock s t d)
     → tick_of Alarm (standing (alarmed clock s t d)) ≡ Some t → ⊥
-alarm_gone clock s t d run = alarm_over t (alarmed clock s t d).alarm run.over
+alarm_gone clock s t d run = alarm_at t (alarmed clock s t d).alarm run.over
 
 -- nor does what was to start
 begun_over : (s : Setup) (t : ℕ) (d : Device) (o : Option Ordered) → d.ordered ≡ o → option_map start_of (begun_by s t d o).ordered ≡ Some t → ⊥

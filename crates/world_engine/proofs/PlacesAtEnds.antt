@@ -8,7 +8,7 @@ use Rattle.link_trace.specs.Passes.{Lines}
 use Rattle.radio_model.specs.declared.sending.Sending.{Sending}
 use Rattle.radio_model.specs.Hearing.{Scene, Hears}
 use Rattle.radio_model.specs.Holding.{as_it_stands}
-use Rattle.radio_model.proofs.Members.{any_of, some_of}
+use Rattle.lwb_base.proofs.Elements.{any_of, some_of}
 use Rattle.scenario_text.specs.ScenarioParts.{ScenarioParts}
 use Rattle.event_calendar.specs.Orders.{Due}
 use Rattle.bus_rules.specs.Cores.{Setup}

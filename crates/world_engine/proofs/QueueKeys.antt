@@ -27,7 +27,7 @@ least_of bound p d SendingEnd t at = let here = ap (λ (o : Option ℕ). key_or 
 least_of bound p d Alarm t at = let here = ap (λ (o : Option ℕ). key_or bound o Alarm p) at in omega (arith, here)
 least_of bound p d SendingStart t at = let here = ap (λ (o : Option ℕ). key_or bound o SendingStart p) at in omega (arith, here)
 
-none_at_none : (c : Class) (t : ℕ) → tick_of c nothing_due ≡ Some t → ⊥
+pub none_at_none : (c : Class) (t : ℕ) → tick_of c nothing_due ≡ Some t → ⊥
 none_at_none SendingEnd t is = cc
 none_at_none Alarm t is = cc
 none_at_none SendingStart t is = cc

@@ -6,6 +6,7 @@ use Rattle.std.proofs.lemmas.List.{append-nil}
 use Rattle.std.proofs.lemmas.Option.{get_or_from_slice_get}
 use Rattle.lwb_base.specs.declared.event.Event.{Event}
 use Rattle.lwb_base.specs.declared.order.Order.{Order}
+use Rattle.lwb_base.proofs.Lists.{set_elsewhere}
 use Rattle.event_calendar.specs.Orders.{Due}
 use Rattle.bus_rules.specs.Cores.{Setup}
 use Rattle.bus_rules.specs.declared.delivery.Delivery.{Delivery}
@@ -14,12 +15,13 @@ use Rattle.radio_model.specs.Stations.{IsTime}
 use Rattle.node_core.specs.Rows.{Stepped}
 use Rattle.node_core.specs.Rows.{orders_by}
 use Rattle.air_log.specs.Devices.{Device, Power, PowerOff, PowerOn, Made, obeyed, event}
-use Rattle.air_log.specs.DeviceStates.{DeviceState, whole, HappenedBy, row_at, row_of, after_row, made_by}
+use Rattle.air_log.specs.DeviceStates.{DeviceState, whole, row_at, row_of, after_row, made_by}
 use Rattle.air_log.specs.WindowLogs.{is_alarm}
 use Rattle.air_log.specs.WindowSums.{WindowSum, IsCounted, in_window, sent_with, noted}
 use Rattle.air_log.proofs.CountedEvents.{counted_then}
+use Rattle.air_log.proofs.CourseEvents.{keeps_setup, keeps_happened, reacted}
 use Rattle.world_engine.specs.Fields.{FieldState, HasCounted, IsShown, IsField, due_of}
-use Rattle.world_engine.proofs.ShownPlaces.{there_now, elsewhere}
+use Rattle.world_engine.proofs.ShownPlaces.{there_now}
 use Rattle.world_engine.specs.FieldSteps.{Acts}
 use Rattle.world_engine.proofs.ActsInTurn.{acts_then, acts_as}
 use Rattle.world_engine.proofs.DeviceSteps.{GoesOnMaking}
@@ -30,17 +32,9 @@ use Rattle.world_engine.proofs.StepsInCode.{state_known, state_happened, state_t
 pub field_summed : (w : FieldState) (sums : List WindowSum) → IsField w → IsField (record w { sums = sums })
 field_summed w sums is = record { medium = is.medium; nodes = is.nodes; numbers = is.numbers }
 
--- the device after a row, whose delivery has been taken
-abbrev pub reacted : DeviceState → Option Stepped → DeviceState
-reacted state r = record (after_row state r) { delivery = None }
-
 -- what the row changes of the whole device
 abbrev pub moves : ℕ → Event → Option Sending → DeviceState → Option Stepped → Setup → Device → Device
 moves t e ended state r s d = record d { power = (after_row state r).power; made = made_by t e ended state.power r d.made }
-
-pub keeps_setup : (state : DeviceState) (r : Option Stepped) → (reacted state r).setup ≡ state.setup
-keeps_setup state None = refl
-keeps_setup state (Some r) = refl
 
 keeps_listening : (state : DeviceState) (r : Option Stepped) → (reacted state r).listening ≡ state.listening
 keeps_listening state None = refl
@@ -53,10 +47,6 @@ keeps_sending state (Some r) = refl
 keeps_due : (state : DeviceState) (r : Option Stepped) → due_of state ≡ due_of (reacted state r)
 keeps_due state None = refl
 keeps_due state (Some r) = refl
-
-keeps_happened : (t : ℕ) (state : DeviceState) (r : Option Stepped) → HappenedBy t state → HappenedBy t (reacted state r)
-keeps_happened t state None h = record { closed = h.closed; listening = h.listening }
-keeps_happened t state (Some r) h = record { closed = h.closed; listening = h.listening }
 
 -- the whole device, by what is in the log of its making
 moved_whole : (t : ℕ) (e : Event) (ended : Option Sending) (state : DeviceState) (power : Power) (r : Option Stepped) (made : Made)
@@ -111,7 +101,7 @@ module _ (t p : ℕ) (old : FieldState) (due : List Due) (shown : IsShown t old 
       (goes : next ≡ noted (in_window state.power) (in_window (after_row state stepped).power) (is_alarm e) (sent_with e ended) sum)
       (small : next.last ≤ 2 ^ 28) where
     pub noted_others : (q : ℕ) → q ≢ p → slice_get (set old.sums j next) q ≡ slice_get old.sums q
-    noted_others q other = elsewhere old.sums j q next (λ same. other (same ∙ here))
+    noted_others q other = set_elsewhere old.sums j q next (λ same. other (same ∙ here))
 
     pub noted_own : (made : Made) → HasCounted old.sums p state.setup made.windows
         → HasCounted (set old.sums j next) p state.setup (made_by t e ended state.power stepped made).windows

@@ -6,22 +6,17 @@ use Rattle.scenario_text.specs.declared.lines.NodeLine.{NodeLine}
 use Rattle.link_trace.specs.Sealed.{Traced}
 use Rattle.radio_model.specs.Stations.{nodes_of}
 use Rattle.event_calendar.specs.declared.class.Class.{Class}
-use Rattle.event_calendar.specs.declared.class.Class.TheVariants.{SendingEnd, Alarm, SendingStart}
-use Rattle.event_calendar.specs.Orders.{Due, at, tick_of, nothing_due}
+use Rattle.event_calendar.specs.Orders.{Due, at}
 use Rattle.bus_rules.specs.Cores.{Setup}
 use Rattle.air_log.specs.DeviceStates.{DeviceState}
 use Rattle.world_engine.specs.Fields.{FieldState, setup_of, id_of}
 use Rattle.world_engine.specs.Running.{HasPlaces, setup_by}
 use Rattle.world_engine.proofs.PlacedNodes.{as_many_devices}
-
-no_tick : (c : Class) (t : ℕ) → tick_of c nothing_due ≡ Some t → ⊥
-no_tick SendingEnd t is = cc
-no_tick Alarm t is = cc
-no_tick SendingStart t is = cc
+use Rattle.world_engine.proofs.QueueKeys.{none_at_none}
 
 -- what stands is at one of the places
 pub place_within : (due : List Due) (p : ℕ) (c : Class) (t : ℕ) → at due p c ≡ Some t → p < length due
-place_within [] p c t is = absurd (no_tick c t is)
+place_within [] p c t is = absurd (none_at_none c t is)
 place_within (d ∷ due) zero c t is = omega arith
 place_within (d ∷ due) (suc p) c t is = omega (arith, place_within due p c t is)
 

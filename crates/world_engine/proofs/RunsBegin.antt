@@ -15,7 +15,7 @@ use Rattle.air_log.specs.declared.entry.Entry.{Entry}
 use Rattle.air_log.specs.Devices.{Device, at_rest, nothing_made, seen_power}
 use Rattle.air_log.specs.Lawful.{sent_by, tuned_by, heard_by}
 use Rattle.air_log.specs.Trails.{setup_of as setup_in}
-use Rattle.air_log.proofs.Elements.{not_in_none}
+use Rattle.lwb_base.proofs.Elements.{not_in_none}
 use Rattle.air_log.specs.DeviceStates.{DeviceState}
 use Rattle.air_log.specs.WindowSums.{WindowSum}
 use Rattle.world_engine.specs.Fields.{FieldState, IsField, Shows, setup_of, id_of}

@@ -23,7 +23,7 @@ use Rattle.air_log.specs.Lawful.{AreInTurn, comes_before, reception_of, hearings
 use Rattle.air_log.specs.Trails.{Reception, run_end, frame_start}
 use Rattle.air_log.proofs.InTurn.{heard_in_turn}
 use Rattle.air_log.proofs.AlarmLoop.{early_in_run}
-use Rattle.air_log.proofs.Elements.{map_contains, map_from, filtered}
+use Rattle.lwb_base.proofs.Elements.{map_contains, map_from, filtered}
 use Rattle.world_engine.specs.Fields.{FieldState, ids_of, due_of, end_of}
 use Rattle.world_engine.specs.Moments.{Moment, Before, InLines, At, over_by}
 use Rattle.world_engine.specs.Running.{IsRunning, IsOnAir, IsTold}

@@ -10,13 +10,11 @@ use Rattle.radio_model.specs.declared.station.Station.{Station}
 use Rattle.radio_model.specs.Hearing.{Scene, IsTuned}
 use Rattle.radio_model.specs.Holding.{as_it_stands}
 use Rattle.radio_model.specs.Stations.{MediumState, sending_of, station_of, is_of, nodes_of, node_of as station_node, on_air}
-use Rattle.radio_model.proofs.Members.{in_head, in_tail, in_map, of_option}
+use Rattle.lwb_base.proofs.Elements.{contains_head, contains_tail, map_contains, of_option}
 use Rattle.scenario_text.specs.ScenarioParts.{ScenarioParts}
 use Rattle.event_calendar.specs.Orders.{Due}
 use Rattle.bus_rules.specs.Cores.{Setup}
-use Rattle.air_log.specs.declared.entry.Entry.{Entry}
-use Rattle.air_log.specs.declared.entry.Entry.TheVariants.{Sent, Heard, Tuned}
-use Rattle.air_log.specs.Entries.{sending_in, sendings_of, node_of}
+use Rattle.air_log.specs.Entries.{sendings_of, node_of}
 use Rattle.air_log.specs.Devices.{Device}
 use Rattle.air_log.specs.DeviceStates.{DeviceState}
 use Rattle.world_engine.specs.Fields.{FieldState, Shows, setups_of, ids_of, setup_of as setup_in, id_of}
@@ -44,10 +42,10 @@ found_in v (x ∷ xs) st is =
     elim (cases_eq x.node v) [
       | inl node ↦
           let same : x ≡ st = same_Some x st (sym (cond-true (x.node == v) (Some x) (find (is_of v) xs) (eq-eqb x.node v node)) ∙ is) in
-          (subst (Contains (x ∷ xs)) same (in_head xs x), ap station_node (sym same) ∙ node)
+          (subst (Contains (x ∷ xs)) same (contains_head x xs), ap station_node (sym same) ∙ node)
       | inr other ↦
           let rest = found_in v xs st (sym (cond-false (x.node == v) (Some x) (find (is_of v) xs) (ne_eqb x.node v other)) ∙ is) in
-          (in_tail xs x st rest.0, rest.1)
+          (contains_tail x xs st rest.0, rest.1)
     ]
 
 pub record IsSendingAt (m : MediumState) (v : ℕ) (x : Sending) : Type 0 where
@@ -71,14 +69,9 @@ pub runs_node : (w : FieldState) → ids_of w ≡ nodes_of w.medium → (x : Sen
 runs_node w same x runs =
     let at = sending_at w.medium x.node x runs in
     subst (λ (l : List ℕ). Contains l x.node) (sym same)
-    (subst (Contains (nodes_of w.medium)) at.node (in_map station_node w.medium.stations at.station at.there))
+    (subst (Contains (nodes_of w.medium)) at.node (map_contains station_node w.medium.stations at.station at.there))
 
 -- what is in the log is of a device of the field
-sent_node : (e : Entry) (x : Sending) → sending_in e ≡ Some x → node_of e ≡ x.node
-sent_node (Sent y) x is = ap (λ (z : Sending). z.node) (same_Some _ _ is)
-sent_node (Heard h) x is = absurd (cc)
-sent_node (Tuned k) x is = absurd (cc)
-
 -- at a place: the device before a step and after it
 pub record IsMoved (t : ℕ) (old : FieldState) (old_due : List Due) (new : FieldState) (new_due : List Due) (p : ℕ) : Type 0 where
   pub setup : Setup

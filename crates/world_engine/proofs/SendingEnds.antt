@@ -10,7 +10,7 @@ use Rattle.radio_model.specs.declared.sending.Sending.{Sending}
 use Rattle.radio_model.specs.OnAir.{Hearing}
 use Rattle.radio_model.specs.Hearing.{Scene, Hears}
 use Rattle.radio_model.specs.Holding.{as_it_stands}
-use Rattle.radio_model.proofs.Members.{not_in_none, in_head, in_tail, in_map, from_map, pairs_cons, pairs_tail, pairs_head}
+use Rattle.lwb_base.proofs.Elements.{not_in_none, contains_head, contains_tail, map_contains, map_from, pairs_cons, pairs_tail, pairs_head, pairs_append}
 use Rattle.scenario_text.specs.ScenarioParts.{ScenarioParts}
 use Rattle.event_calendar.specs.Orders.{Due, IsNext, IsNotAfter}
 use Rattle.event_calendar.specs.declared.class.Class.TheVariants.{SendingEnd}
@@ -24,7 +24,7 @@ use Rattle.world_engine.specs.Running.{Runs, HoldsScene, HasHearings, IsOnAir}
 use Rattle.world_engine.proofs.ShownTunings.{AreTuned, id_there, shown_id, shown_end, place_in}
 use Rattle.world_engine.proofs.ScenesGoOn.{IsMoved, next, is_next, scene_after}
 use Rattle.world_engine.proofs.AirInTime.{heard_alike}
-use Rattle.world_engine.proofs.HearingOrder.{IsEarlier, earlier, comes_if, not_both, not_before, pairs_append, ids_ascend}
+use Rattle.world_engine.proofs.HearingOrder.{IsEarlier, earlier, comes_if, not_both, not_before, ids_ascend}
 use Rattle.air_log.proofs.SameSendings.{which_sending}
 use Rattle.world_engine.proofs.PlacesAtEnds.{ends_at, place_of, place_of_x, apart}
 use Rattle.world_engine.proofs.PlacesAtEnds as PlacesAtEnds
@@ -102,7 +102,7 @@ module _ (s : ScenarioParts) (lines : Lines) (clocks : ℕ → ℕ → ℕ) (t p
   inside_of q there = All-contains (λ (r : ℕ). r < length old.devices) hearers q ends.within there
 
   of_x : (g : Hearing) → Contains fresh g → g.sending ≡ x
-  of_x g there = let q = from_map (hearing_at old x) hearers g there in ap (λ (k : Hearing). k.sending) (sym q.2)
+  of_x g there = let q = map_from (hearing_at old x) hearers g there in ap (λ (k : Hearing). k.sending) (sym q.2)
 
   module _ (has : HasHearings (suc t) t old a) where
     abbrev IsRight : Hearing → Type 0
@@ -139,7 +139,7 @@ module _ (s : ScenarioParts) (lines : Lines) (clocks : ℕ → ℕ → ℕ) (t p
         let at = all place.place place.within in
         let same : at.setup.id ≡ v = same_Some at.setup.id v (sym (shown_id at.setup t old old_due place.place at.device at.shows) ∙ place.id) in
         let hearer = (rule place.place at.setup at.device at.shows).1 (subst (λ (u : ℕ). Hears (as_it_stands old.medium t a) u x) (sym same) hears) in
-        subst (Contains fresh) (ap (λ (u : ℕ). heard_at u) (id_at place.place place.within ∙ same)) (in_map (hearing_at old x) hearers place.place hearer)
+        subst (Contains fresh) (ap (λ (u : ℕ). heard_at u) (id_at place.place place.within ∙ same)) (map_contains (hearing_at old x) hearers place.place hearer)
       where
         heard_at : ℕ → Hearing
         heard_at u = record { node = u; sending = x }
@@ -150,7 +150,7 @@ module _ (s : ScenarioParts) (lines : Lines) (clocks : ℕ → ℕ → ℕ) (t p
       λ there. elim (Contains-append_cases (hearings_of old.air) fresh (record { node = v; sending = y })
           (subst (λ (l : List Hearing). Contains l (record { node = v; sending = y })) ends.hearings there)) [
             | inl was ↦ right_was (record { node = v; sending = y }) was
-            | inr now ↦ (let q = from_map (hearing_at old x) hearers (record { node = v; sending = y }) now in subst IsRight q.2 (right_now q.0 q.1))
+            | inr now ↦ (let q = map_from (hearing_at old x) hearers (record { node = v; sending = y }) now in subst IsRight q.2 (right_now q.0 q.1))
           ],
       λ right. subst (λ (l : List Hearing). Contains l (record { node = v; sending = y })) (sym ends.hearings) (back right),
     )
@@ -218,17 +218,17 @@ module _ (s : ScenarioParts) (lines : Lines) (clocks : ℕ → ℕ → ℕ) (t p
     each_once [] inside up = λ i j d less below. absurd (omega (arith, below))
     each_once (q ∷ qs) inside up =
         pairs_cons (λ g k. g ≢ k) (hearing_at old x q) (map (hearing_at old x) qs)
-        (λ g there. let r = from_map (hearing_at old x) qs g there in
+        (λ g there. let r = map_from (hearing_at old x) qs g there in
         subst (λ (k : Hearing). hearing_at old x q ≢ k) r.2
-        (differ_at q r.0 (inside q (in_head qs q)) (inside r.0 (in_tail qs q r.0 r.1)) (pairs_head (λ a b. a < b) q qs up r.0 r.1)))
-        (each_once qs (λ r there. inside r (in_tail qs q r there)) (pairs_tail (λ a b. a < b) q qs up))
+        (differ_at q r.0 (inside q (contains_head q qs)) (inside r.0 (contains_tail q qs r.0 r.1)) (pairs_head (λ a b. a < b) q qs up r.0 r.1)))
+        (each_once qs (λ r there. inside r (contains_tail q qs r there)) (pairs_tail (λ a b. a < b) q qs up))
 
     all_in_order : (gs : List Hearing) → ((g : Hearing) → Contains gs g → Contains fresh g) → AreInTurn gs
     all_in_order [] inside = λ i j d less below. absurd (omega (arith, below))
     all_in_order (g ∷ gs) inside =
         pairs_cons (λ g k. comes_before k g ≡ false) g gs
-        (λ k there. in_order g k (inside g (in_head gs g)) (inside k (in_tail gs g k there)))
-        (all_in_order gs (λ k there. inside k (in_tail gs g k there)))
+        (λ k there. in_order g k (inside g (contains_head g gs)) (inside k (contains_tail g gs k there)))
+        (all_in_order gs (λ k there. inside k (contains_tail g gs k there)))
 
     once : AllPairs (λ g k. g ≢ k) (hearings_of new.air)
     once =

@@ -1,12 +1,11 @@
 -- What is known of a device by its place in a field.
-use Rattle.std.proofs.Common.{◌≡◌, ℕ, ◌<◌, ◌≤◌, List, [], ◌∷◌, Some, None, Option, option_map, refl, sym, ◌∙◌, ap, arith}
+use Rattle.std.proofs.Common.{◌≡◌, ℕ, ◌<◌, ◌≤◌, List, Some, None, Option, option_map, refl, sym, ◌∙◌, ap, arith}
 use Rattle.std.specs.Prelude.{slice_get}
 use Rattle.std.specs.Option.{IfSome}
-use Rattle.std.proofs.lemmas.Option.{slice_get-map, get_or_from_slice_get}
+use Rattle.std.proofs.lemmas.Option.{slice_get-map, get_or_from_slice_get, same_Some}
 use Rattle.event_calendar.specs.declared.class.Class.{Class}
 use Rattle.event_calendar.specs.declared.class.Class.TheVariants.{SendingEnd, Alarm, SendingStart}
 use Rattle.event_calendar.specs.Orders.{Due, Order, nothing_due, tick_of, rank, at, IsNext}
-use Rattle.radio_model.specs.OnAir.{Tuning}
 use Rattle.radio_model.specs.declared.sending.Sending.{Sending}
 use Rattle.scenario_text.specs.ScenarioParts.{ScenarioParts}
 use Rattle.scenario_text.specs.declared.lines.NodeLine.{NodeLine}
@@ -15,16 +14,12 @@ use Rattle.air_log.specs.declared.entry.TunedEntry.{TunedEntry}
 use Rattle.air_log.specs.Devices.{Device, Listening, Ordered}
 use Rattle.air_log.specs.Trails.{setup_of}
 use Rattle.air_log.specs.Ahead.{IsAhead}
-use Rattle.air_log.specs.DeviceStates.{DeviceState, EndedBefore}
+use Rattle.air_log.specs.DeviceStates.{DeviceState}
+use Rattle.air_log.proofs.ShownCourses.{ended_later}
 use Rattle.world_engine.specs.Fields.{FieldState, Shows, due_of, setup_of as setup_in}
 use Rattle.world_engine.specs.Running.{HasPlaces, setup_by}
 use Rattle.world_engine.specs.Runs.{standing}
 use Rattle.world_engine.proofs.TickPoints.{IsOver}
-
--- time goes on
-ended_earlier : (t u : ℕ) (es : List Tuning) → t ≤ u → EndedBefore t es → EndedBefore u es
-ended_earlier t u [] up is = tt
-ended_earlier t u (e ∷ es) up is = omega (arith, up, is)
 
 closed_by : (t u : ℕ) (e : Option TunedEntry) → t ≤ u → IfSome e (λ x. x.end ≤ t) → IfSome e (λ x. x.end ≤ u)
 closed_by t u None up is = tt
@@ -44,7 +39,7 @@ shows_later q t u w due p d up shows = record {
   logged = shows.logged;
   known = shows.known;
   counted = shows.counted;
-  ended = ended_earlier t u shows.made.tuned up shows.ended;
+  ended = ended_later t u shows.made.tuned up shows.ended;
   happened = record {
     closed = closed_by t u shows.state.closed up shows.happened.closed;
     listening = listening_by t u shows.state.listening up shows.happened.listening;
@@ -53,12 +48,9 @@ shows_later q t u w due p d up shows = record {
 }
 
 -- the place tells the state
-some_same : {X : Type 0} (x y : X) → Some x ≡ Some y → x ≡ y
-some_same x y is = cc
-
 module _ (q r : Setup) (t u : ℕ) (w : FieldState) (due : List Due) (p : ℕ) (d e : Device) (x : Shows q t w due p d) (y : Shows r u w due p e) where
   same_state : x.state ≡ y.state
-  same_state = some_same x.state y.state (sym x.there ∙ y.there)
+  same_state = same_Some x.state y.state (sym x.there ∙ y.there)
 
   pub same_power : d.power ≡ e.power
   same_power = ap (λ (z : Device). z.power) (sym x.is) ∙ ap (λ (z : DeviceState). z.power) same_state ∙ ap (λ (z : Device). z.power) y.is
@@ -86,7 +78,7 @@ node_there s q t w due p d places shows =
       where
         none_some : None ≡ Some q → ⊥
         none_some is = cc
-    by (Some n) is same = (n, is, sym (some_same (setup_of s n.node) q same))
+    by (Some n) is same = (n, is, sym (same_Some (setup_of s n.node) q same))
 
 -- what stands in the queue at the place stands at the device
 module _ (q : Setup) (t : ℕ) (w : FieldState) (due : List Due) (p : ℕ) (d : Device) (shows : Shows q t w due p d) where

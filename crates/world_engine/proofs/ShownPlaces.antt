@@ -1,9 +1,11 @@
 -- What a field shows at a place, where it has changed elsewhere.
-use Rattle.std.proofs.Common.{reverse, ◌≡◌, ◌≢◌, ℕ, zero, suc, List, [], ◌∷◌, map, set, get_or, length, Some, None, Option, filter, ◌==◌, refl, sym, ◌∙◌, ap}
-use Rattle.std.proofs.Common.{subst, Contains}
+use Rattle.std.proofs.Common.{reverse, ◌≡◌, ℕ, zero, suc, List, [], ◌∷◌, set, get_or, length, Some, None, Option, filter, ◌==◌, refl, sym, ◌∙◌, ap}
+use Rattle.std.proofs.Common.{subst}
 use Rattle.std.specs.Prelude.{All, slice_get}
 use Rattle.std.proofs.lemmas.List.Elements.{All-set, All-contains}
-use Rattle.std.proofs.lemmas.Option.{slice_get_within, get_or_from_slice_get, slice_get_read}
+use Rattle.std.proofs.lemmas.Option.{slice_get_within, slice_get_read}
+use Rattle.lwb_base.proofs.Lists.{map_stays}
+use Rattle.lwb_base.proofs.Elements.{contains_at}
 use Rattle.radio_model.specs.Stations.{MediumState, IsMedium, nodes_of, station_of}
 use Rattle.event_calendar.specs.Orders.{Due}
 use Rattle.bus_rules.specs.Cores.{Setup}
@@ -23,31 +25,16 @@ there_now [] p x y at = cc
 there_now (z ∷ xs) zero x y at = refl
 there_now (z ∷ xs) (suc p) x y at = there_now xs p x y at
 
-pub elsewhere : {X : Type 0} (xs : List X) (p q : ℕ) (y : X) → q ≢ p → slice_get (set xs p y) q ≡ slice_get xs q
-elsewhere [] p q y other = refl
-elsewhere (z ∷ xs) zero zero y other = absurd (other refl)
-elsewhere (z ∷ xs) zero (suc q) y other = refl
-elsewhere (z ∷ xs) (suc p) zero y other = refl
-elsewhere (z ∷ xs) (suc p) (suc q) y other = elsewhere xs p q y (λ same. other (ap (λ (n : ℕ). suc n) same))
-
-pub same_marks : {X Y : Type 0} (g : X → Y) (xs : List X) (p : ℕ) (x y : X) → slice_get xs p ≡ Some x → g y ≡ g x → map g (set xs p y) ≡ map g xs
-same_marks g [] p x y at same = refl
-same_marks g (z ∷ xs) zero x y at same = let is : z ≡ x = cc in ap (λ w. w ∷ map g xs) (same ∙ ap g (sym is))
-same_marks g (z ∷ xs) (suc p) x y at same = ap (λ l. g z ∷ l) (same_marks g xs p x y at same)
-
-pub is_there : {X : Type 0} (xs : List X) (p : ℕ) (x : X) → slice_get xs p ≡ Some x → Contains xs x
-is_there xs p x at = (p, slice_get_within xs p x at, get_or_from_slice_get xs p x x at)
-
 -- the devices and their medium are those of a field still
 pub still_field : (w : FieldState) (m : MediumState) (p : ℕ) (old new : DeviceState) (air : List Entry) (deliveries : List Delivery) (drops : List DropLine)
     → IsField w → IsMedium m → nodes_of m ≡ nodes_of w.medium → m.numbers ≡ w.medium.numbers → slice_get w.devices p ≡ Some old → new.setup ≡ old.setup
     → IsField (record { medium = m; devices = set w.devices p new; air = air; deliveries = deliveries; drops = drops; sums = w.sums })
 still_field w m p old new air deliveries drops is medium nodes numbers at same =
     let own : new.setup.profile ≡ m.numbers = ap (λ (s : Setup). s.profile) same
-    ∙ All-contains (λ (d : DeviceState). d.setup.profile ≡ w.medium.numbers) w.devices old is.numbers (is_there w.devices p old at) ∙ sym numbers in
+    ∙ All-contains (λ (d : DeviceState). d.setup.profile ≡ w.medium.numbers) w.devices old is.numbers (contains_at w.devices p old at) ∙ sym numbers in
     record {
       medium = medium;
-      nodes = same_marks id_of w.devices p old new at (ap (λ (s : Setup). s.id) same) ∙ is.nodes ∙ sym nodes;
+      nodes = map_stays id_of w.devices p old new at (ap (λ (s : Setup). s.id) same) ∙ is.nodes ∙ sym nodes;
       numbers = All-set (λ (d : DeviceState). d.setup.profile ≡ m.numbers) w.devices p new own
           (subst (λ n. All (λ (d : DeviceState). d.setup.profile ≡ n) w.devices) (sym numbers) is.numbers);
     }

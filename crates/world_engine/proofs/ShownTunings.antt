@@ -14,7 +14,7 @@ use Rattle.bus_rules.specs.Cores.{Setup}
 use Rattle.air_log.specs.Devices.{Device, Listening}
 use Rattle.air_log.specs.Trails.{setup_of}
 use Rattle.air_log.specs.Lawful.{tuned_by, heard_by}
-use Rattle.air_log.specs.DeviceStates.{DeviceState, one_more, EndedBefore}
+use Rattle.air_log.specs.DeviceStates.{DeviceState, one_more}
 use Rattle.world_engine.specs.Fields.{FieldState, Shows, ids_of, setup_of as setup_in, id_of, end_of, due_of}
 use Rattle.world_engine.specs.Moments.{Moment}
 use Rattle.world_engine.specs.Running.{HasPlaces, IsOnTrail, setup_by}
@@ -27,11 +27,6 @@ pub mapped : {X Y : Type 0} (f : X → Y) (xs : List X) (p : ℕ) (x : X) → sl
 mapped f [] p x is = cc
 mapped f (y ∷ xs) zero x is = ap (λ (z : _). Some (f z)) (same_Some y x is)
 mapped f (y ∷ xs) (suc p) x is = mapped f xs p x is
-
--- time passes
-ended_later : (t u : ℕ) (es : List Tuning) → t ≤ u → EndedBefore t es → EndedBefore u es
-ended_later t u [] order all = tt
-ended_later t u (e ∷ es) order all = omega (arith, all)
 
 if_later : {X : Type 0} (o : Option X) (P Q : X → Type 0) → ((x : X) → P x → Q x) → IfSome o P → IfSome o Q
 if_later None P Q on is = tt

@@ -8,8 +8,10 @@ use Rattle.std.specs.Prelude.{Contains}
 use Rattle.event_calendar.specs.Orders.{Due, with_tick, changed}
 use Rattle.event_calendar.specs.declared.class.Class.{Class}
 use Rattle.event_calendar.specs.declared.class.Class.TheVariants.{Alarm as AlarmOf, SendingStart}
+use Rattle.event_calendar.proofs.QueuesOfMaps.{size_stays}
 use Rattle.lwb_base.specs.declared.order.Order.{Order}
 use Rattle.lwb_base.specs.declared.order.Order.TheVariants.{SendAt, Alarm}
+use Rattle.lwb_base.proofs.Elements.{contains_at}
 use Rattle.tick_clock.specs.Clocks.{due as due_by}
 use Rattle.bus_rules.specs.Cores.{Setup}
 use Rattle.bus_rules.specs.declared.delivery.Delivery.{Delivery}
@@ -23,10 +25,9 @@ use Rattle.air_log.specs.DeviceStates.{DeviceState, whole, with_tuned, EndedBefo
 use Rattle.air_log.specs.WindowSums.{WindowSum}
 use Rattle.world_engine.specs.Fields.{FieldState, HasCounted, Shows, IsShown, IsField, IsKnown, entries_of, due_of, channel_of, ids_of, id_of}
 use Rattle.world_engine.specs.FieldSteps.{Acts}
-use Rattle.world_engine.proofs.DevicePlaces.{contains_at}
 use Rattle.world_engine.proofs.DeviceSteps.{GoesOnMaking, acts_at, field_stays}
 use Rattle.world_engine.proofs.DeviceRetuned.{IsSetAs, retuned_medium, retuned_nodes, retuned_numbers}
-use Rattle.world_engine.proofs.ObeyedOrders.{Retunes, retunes_step, IsQuietStep, quiet_step, tuned_goes_on, due_changed, due_kept, due_places}
+use Rattle.world_engine.proofs.ObeyedOrders.{Retunes, retunes_step, IsQuietStep, quiet_step, tuned_goes_on, due_changed, due_kept}
 
 module _ (t p : ℕ) (old : FieldState) (old_due : List Due) (shown : IsShown t old old_due p) (i : ℕ) (at : i ≡ p) (state : DeviceState)
     (is : state ≡ get_or old.devices i state) where
@@ -214,7 +215,7 @@ module _ (t p : ℕ) (old : FieldState) (old_due : List Due) (shown : IsShown t 
       tt
       (ap (λ (l : List Due). slice_get l p) is_due ∙ due_changed old_due p class tick (due_of state) state_known.set ∙ ap (λ (d : Due). Some d) due)
       (λ q other. ap (λ (l : List Due). slice_get l q) is_due ∙ due_kept old_due p class tick q other)
-      (ap (λ (l : List Due). length l) is_due ∙ due_places old_due p class tick)
+      (ap (λ (l : List Due). length l) is_due ∙ size_stays old_due p class tick)
       change (λ made. made) (λ made. record { sent = refl; tuned = refl; deliveries = sym (append-nil made.deliveries) })
       (λ made ended. comes made) old.sums (λ q other. refl) (λ made is. is) in
       subst (λ (l : List Delivery). Acts t p change [] [] old old_due

@@ -3,6 +3,7 @@ use Rattle.std.proofs.Common.{◌≡◌, ℕ, zero, suc, ◌+◌, ◌<◌, ◌�
 use Rattle.std.proofs.Common.{true≢false}
 use Rattle.std.specs.Option.{IfSome}
 use Rattle.std.proofs.lemmas.Bool.{ne_eqb, eq-eqb}
+use Rattle.std.proofs.lemmas.Option.{same_Some}
 use Rattle.tick_clock.specs.Clocks.{IsClock}
 use Rattle.radio_model.specs.declared.sending.Sending.{Sending}
 use Rattle.event_calendar.specs.declared.class.Class.{Class}
@@ -42,16 +43,13 @@ no_start_at : (t : ℕ) (o : Option Ordered) → (option_map start_of o ≡ Some
 no_start_at t None none = refl
 no_start_at t (Some o) none = ne_eqb o.tick t (λ is. none (ap (λ (n : ℕ). Some n) is))
 
-same_tick : (x t : ℕ) → Some x ≡ Some t → x ≡ t
-same_tick x t is = cc
-
 pub end_at : (t : ℕ) (x : Option Sending) → ends_at t x ≡ false → option_map end_of x ≡ Some t → ⊥
 end_at t None none is = cc
-end_at t (Some x) none is = true≢false (sym (eq-eqb x.end t (same_tick x.end t is)) ∙ none)
+end_at t (Some x) none is = true≢false (sym (eq-eqb x.end t (same_Some x.end t is)) ∙ none)
 
-alarm_at : (t : ℕ) (a : Option ℕ) → is_due t a ≡ false → a ≡ Some t → ⊥
+pub alarm_at : (t : ℕ) (a : Option ℕ) → is_due t a ≡ false → a ≡ Some t → ⊥
 alarm_at t None none is = cc
-alarm_at t (Some tick) none is = true≢false (sym (eq-eqb tick t (same_tick tick t is)) ∙ none)
+alarm_at t (Some tick) none is = true≢false (sym (eq-eqb tick t (same_Some tick t is)) ∙ none)
 
 -- where nothing is due, a phase changes nothing
 pub ends_nothing : (clock : ℕ → ℕ) (s : Setup) (t : ℕ) (d : Device) → IsOver SendingEnd t d → ended clock s t d ≡ d
@@ -69,17 +67,17 @@ not_yet SendingEnd t u d less ahead is = by d.sending ahead.sending is
   where
     by : (x : Option Sending) → IfSome x (λ y. t ≤ y.end) → option_map end_of x ≡ Some u → ⊥
     by None after at = cc
-    by (Some x) after at = omega (arith, less, after, same_tick x.end u at)
+    by (Some x) after at = omega (arith, less, after, same_Some x.end u at)
 not_yet Alarm t u d less ahead is = by d.alarm ahead.alarm is
   where
     by : (a : Option ℕ) → IfSome a (λ tick. t ≤ tick) → a ≡ Some u → ⊥
     by None after at = cc
-    by (Some tick) after at = omega (arith, less, after, same_tick tick u at)
+    by (Some tick) after at = omega (arith, less, after, same_Some tick u at)
 not_yet SendingStart t u d less ahead is = by d.ordered ahead.ordered is
   where
     by : (o : Option Ordered) → IfSome o (λ x. t ≤ x.tick) → option_map start_of o ≡ Some u → ⊥
     by None after at = cc
-    by (Some o) after at = omega (arith, less, after, same_tick o.tick u at)
+    by (Some o) after at = omega (arith, less, after, same_Some o.tick u at)
 
 module _ (s : ScenarioParts) (v : ℕ) (clock : ℕ → ℕ) (hs : List Reception) (t : ℕ) where
   abbrev before : Device

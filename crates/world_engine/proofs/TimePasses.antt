@@ -1,7 +1,7 @@
 -- From a tick to a later one, between which nothing is due.
 use Rattle.std.proofs.Common.{◌≡◌, ℕ, suc, ◌<◌, ◌≤◌, List, [], Contains, ◌⊎◌, inl, inr, refl, sym, ◌∙◌, arith, subst}
 use Rattle.std.proofs.lemmas.Bool.{cases_lt}
-use Rattle.air_log.proofs.Elements.{not_in_none}
+use Rattle.lwb_base.proofs.Elements.{not_in_none}
 use Rattle.event_calendar.specs.declared.class.Class.{Class}
 use Rattle.event_calendar.specs.declared.class.Class.TheVariants.{SendingEnd}
 use Rattle.event_calendar.specs.Orders.{rank}

@@ -6,6 +6,7 @@ use Rattle.std.proofs.lemmas.List.{append-nil}
 use Rattle.std.proofs.lemmas.Option.{same_Some}
 use Rattle.event_calendar.specs.Orders.{Due, changed, with_tick}
 use Rattle.event_calendar.specs.declared.class.Class.TheVariants.{Alarm as AlarmOf, SendingStart}
+use Rattle.event_calendar.proofs.QueuesOfMaps.{size_stays}
 use Rattle.lwb_base.specs.declared.event.Event.TheVariants.{Boot}
 use Rattle.scenario_text.specs.declared.script.Act.{Act}
 use Rattle.scenario_text.specs.declared.script.Act.TheVariants.{On, Put}
@@ -23,12 +24,13 @@ use Rattle.air_log.specs.DeviceStates.{DeviceState, whole, with_tuned, with_drop
 use Rattle.air_log.specs.WindowLogs.{WindowLog}
 use Rattle.world_engine.specs.Fields.{FieldState, HasCounted, Shows, IsShown, IsField, entries_of, due_of, channel_of}
 use Rattle.world_engine.specs.FieldSteps.{Acts, IsTold}
-use Rattle.world_engine.proofs.ActsInTurn.{goes_nowhere, acts_then, acts_as}
+use Rattle.world_engine.proofs.ActsInTurn.{acts_then, acts_as}
 use Rattle.world_engine.proofs.DeviceSteps.{IsStepAt, GoesOnMaking, acts_at}
 use Rattle.world_engine.proofs.DeviceRetuned.{retuned_goes_on, retuned_station, retuned_others}
-use Rattle.world_engine.proofs.ObeyedOrders.{due_changed, due_kept, due_places, same_due, tuned_goes_on}
+use Rattle.world_engine.proofs.ObeyedOrders.{due_changed, due_kept, same_due, tuned_goes_on}
 use Rattle.world_engine.proofs.LineChanges.{StaysSet, one_drop, put_stays, put_loses}
 use Rattle.world_engine.proofs.StepsInCode.{state_here, state_known, state_taken}
+use Rattle.world_engine.proofs.GoesOn.{goes_on_nothing}
 
 pub as_told : (clock : ℕ → ℕ) (line : ScriptLine) {t p : ℕ} {act what : Act} {v w x : FieldState} {dv dx : List Due} → v ≡ w → act ≡ what
     → IsTold clock line t p act v dv x dx → IsTold clock line t p what w dv x dx
@@ -75,7 +77,7 @@ module _ (t p : ℕ) (old : FieldState) (old_due : List Due) (shown : IsShown t 
         drops = more;
         own_tuning = tt;
         own_delivery = tt;
-        medium = goes_nowhere t old.medium time;
+        medium = goes_on_nothing t old.medium time;
         station = record {
           station = known.station;
           there = ap (λ (s : Setup). station_of old.medium s.id) setup ∙ known.there;
@@ -143,8 +145,8 @@ module _ (t p : ℕ) (old : FieldState) (old_due : List Due) (shown : IsShown t 
         due = cleared;
         dues = λ q other. ap (λ (l : List Due). slice_get l q) is_due ∙ due_kept mid p SendingStart None q other
             ∙ ap (λ (l : List Due). slice_get l q) is_mid ∙ due_kept old_due p AlarmOf None q other;
-        places = ap (λ (l : List Due). length l) is_due ∙ due_places mid p SendingStart None ∙ ap (λ (l : List Due). length l) is_mid
-            ∙ due_places old_due p AlarmOf None;
+        places = ap (λ (l : List Due). length l) is_due ∙ size_stays mid p SendingStart None ∙ ap (λ (l : List Due). length l) is_mid
+            ∙ size_stays old_due p AlarmOf None;
         sums = λ q other. refl;
       } in
       subst (λ (w : FieldState). Acts t p change [] [] old old_due w new_due) (sym is_new)

@@ -3,14 +3,17 @@ use Rattle.std.proofs.Common.{◌≡◌, ◌≢◌, ℕ, ◌≤◌, List, [], �
 use Rattle.std.specs.Prelude.{slice_get}
 use Rattle.std.proofs.lemmas.Bool.{cases_eq, eq-eqb, ne_eqb}
 use Rattle.std.proofs.lemmas.List.Elements.{Contains-push_cases}
+use Rattle.std.proofs.lemmas.Option.{same_Some}
 use Rattle.link_trace.specs.Passes.{Lines}
 use Rattle.lwb_base.specs.declared.event.Event.TheVariants.{Heard, Sent}
+use Rattle.lwb_base.proofs.Elements.{among_or_not}
 use Rattle.event_calendar.specs.Orders.{Due}
 use Rattle.radio_model.specs.declared.sending.Sending.{Sending}
 use Rattle.scenario_text.specs.ScenarioParts.{ScenarioParts}
 use Rattle.scenario_text.specs.ScenarioFacts.{IsSoundScenario, turned, turned_by}
 use Rattle.scenario_text.specs.declared.lines.NodeLine.{NodeLine}
 use Rattle.scenario_text.specs.declared.script.ScriptLine.{ScriptLine}
+use Rattle.scenario_text.proofs.BootsTold.{turned_more}
 use Rattle.bus_rules.specs.declared.delivery.DropLine.{DropLine}
 use Rattle.bus_rules.specs.Cores.{Setup}
 use Rattle.air_log.specs.Devices.{Device, seen_power}
@@ -22,11 +25,10 @@ use Rattle.world_engine.specs.Fields.{FieldState, Shows}
 use Rattle.world_engine.specs.FieldSteps.{Acts, EndsSending, told_of_end, told_of_hearing}
 use Rattle.world_engine.specs.Moments.{Moment, InLines, after_lines}
 use Rattle.world_engine.specs.Running.{HasPlaces, IsTold}
-use Rattle.air_log.proofs.KeptPower.{event_power, line_power, turned_more}
+use Rattle.air_log.proofs.KeptPower.{event_power, line_power}
 use Rattle.world_engine.proofs.KeptDrops.{HeardOn, lost_by, drops_more, drops_stay, line_finds}
 use Rattle.world_engine.proofs.ShownDevices.{node_there, same_power, shows_later}
-use Rattle.world_engine.proofs.TrailsGoOn.{OnTrails, IsClockAt, heard_same, ids_apart, some_same}
-use Rattle.world_engine.proofs.TrailsAtEnds.{is_in}
+use Rattle.world_engine.proofs.TrailsGoOn.{OnTrails, IsClockAt, heard_same, ids_apart}
 
 -- a node's device at its place whose power is that after the lines told
 pub record HasPower (s : ScenarioParts) (told : List ScriptLine) (t : ℕ) (w : FieldState) (due : List Due) (p : ℕ) (n : NodeLine) : Type 0 where
@@ -102,7 +104,7 @@ module _ (s : ScenarioParts) (clocks : ℕ → ℕ → ℕ) (told : List ScriptL
     }
       where
         each : HavePower s told t new new_due
-        each q n there = by (cases_eq q p) (is_in hearers q)
+        each q n there = by (cases_eq q p) (among_or_not hearers q)
           where
             by : (q ≡ p) ⊎ (q ≢ p) → Contains hearers q ⊎ (Contains hearers q → ⊥) → HasPower s told t new new_due q n
             by (inl same) hears =
@@ -169,7 +171,7 @@ module _ (s : ScenarioParts) (clocks : ℕ → ℕ → ℕ) (told : List ScriptL
           let e = after_line clock x t trail.device l in
           let shown : Shows x t new new_due p e = acts.own x trail.device (subst (λ (r : ℕ). Shows x t old old_due r trail.device) same trail.shows) in
           let mine : l.node ≡ k.node = own ∙ ap (λ (z : NodeLine). z.node)
-          (some_same n k (sym here ∙ subst (λ (r : ℕ). slice_get s.nodes r ≡ Some k) same there)) in
+          (same_Some n k (sym here ∙ subst (λ (r : ℕ). slice_get s.nodes r ≡ Some k) same there)) in
           record {
             device = e;
             shows = subst (λ (r : ℕ). Shows x t new new_due r e) (sym same) shown;

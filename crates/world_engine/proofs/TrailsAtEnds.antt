@@ -12,23 +12,13 @@ use Rattle.air_log.specs.declared.entry.Entry.{Entry}
 use Rattle.air_log.specs.Devices.{Device}
 use Rattle.air_log.specs.Trails.{Reception, setup_of}
 use Rattle.air_log.specs.Lawful.{heard_by, sent_by}
-use Rattle.air_log.proofs.Elements.{not_in_none, contains_head, contains_tail, contains_cases}
+use Rattle.lwb_base.proofs.Elements.{among_or_not}
 use Rattle.world_engine.specs.Fields.{FieldState, Shows}
 use Rattle.world_engine.specs.FieldSteps.{EndsSending, Sends, told_of_end, told_of_hearing}
 use Rattle.world_engine.specs.Moments.{At, IsAt}
 use Rattle.world_engine.specs.Running.{IsOnTrail}
 use Rattle.world_engine.proofs.SendingsRun.{end_told, hearing_told}
 use Rattle.world_engine.proofs.TrailsGoOn.{OnTrails, IsClockAt}
-
--- whether a number is in a list
-pub is_in : (xs : List ℕ) (x : ℕ) → Contains xs x ⊎ (Contains xs x → ⊥)
-is_in [] x = inr (not_in_none x)
-is_in (y ∷ ys) x = by (cases_eq y x) (is_in ys x)
-  where
-    by : (y ≡ x) ⊎ (y ≢ x) → Contains ys x ⊎ (Contains ys x → ⊥) → Contains (y ∷ ys) x ⊎ (Contains (y ∷ ys) x → ⊥)
-    by (inl is) rest = inl (subst (λ (z : ℕ). Contains (y ∷ ys) z) is (contains_head y ys))
-    by (inr other) (inl later) = inl (contains_tail y ys x later)
-    by (inr other) (inr none) = inr (λ there. elim (contains_cases y ys x there) [ inl is ↦ other is | inr later ↦ none later ])
 
 abbrev pub reception : Sending → Reception
 reception x = record { packet = x.packet; end = x.end }
@@ -95,7 +85,7 @@ module _ (s : ScenarioParts) (clocks : ℕ → ℕ → ℕ) (lines : Lines) (at_
   }
 
   pub end_trails : OnTrails s clocks t (At SendingEnd) old old_due → OnTrails s clocks t (At SendingEnd) new new_due
-  end_trails trails q n there = by (cases_eq q p) (is_in hearers q)
+  end_trails trails q n there = by (cases_eq q p) (among_or_not hearers q)
     where
       by : (q ≡ p) ⊎ (q ≢ p) → Contains hearers q ⊎ (Contains hearers q → ⊥) → New q n.node
       by (inl is) hears =

@@ -2,7 +2,7 @@
 use Rattle.std.proofs.Common.{◌≡◌, ◌≢◌, ℕ, ◌<◌, List, [], ◌∷◌, ◌++◌, map, filter, ◌==◌, get_or, Some, ◌⊎◌, inl, inr, sym, ◌∙◌, ap, subst, arith}
 use Rattle.std.specs.Prelude.{slice_get}
 use Rattle.std.proofs.lemmas.Bool.{cases_eq, cases_order}
-use Rattle.std.proofs.lemmas.Option.{get_or_from_slice_get, slice_get_within}
+use Rattle.std.proofs.lemmas.Option.{get_or_from_slice_get, slice_get_within, same_Some}
 use Rattle.tick_clock.specs.Clocks.{IsClock}
 use Rattle.event_calendar.specs.declared.class.Class.TheVariants.{Alarm, SendingStart}
 use Rattle.event_calendar.specs.Orders.{Due}
@@ -39,9 +39,6 @@ AreClocks clocks = (v : ℕ) → IsClock (clocks v)
 pub same_places : (s : ScenarioParts) (old new : FieldState) (old_due new_due : List Due) → AreSame old old_due new new_due → IsField new
     → HasPlaces s old old_due → HasPlaces s new new_due
 same_places s old new old_due new_due same field places = record { setups = same.setups ∙ places.setups; field = field; places = same.places ∙ places.places }
-
-pub some_same : {X : Type 0} (x y : X) → Some x ≡ Some y → x ≡ y
-some_same x y is = cc
 
 -- nodes at two places have two ids
 pub ids_apart : (s : ScenarioParts) → IsSoundScenario s → (p q : ℕ) (n m : NodeLine) → p ≢ q → slice_get s.nodes p ≡ Some n
@@ -131,7 +128,7 @@ module _ (s : ScenarioParts) (clocks : ℕ → ℕ → ℕ) (t p : ℕ) (clock :
   line_trails told l n starting lost sound here own now acts =
       acts_trails s clocks t p (λ x d. after_line clock x t d l) starting lost old old_due new new_due acts (InLines told) (InLines (told ++ l ∷ []))
       (λ m there d at.
-      let same : n ≡ m = some_same n m (sym here ∙ there) in
+      let same : n ≡ m = same_Some n m (sym here ∙ there) in
       subst (λ (c : ℕ → ℕ). IsAt s (clocks m.node) (heard_by old.air m.node) m.node t (InLines (told ++ l ∷ []))
       (after_line c (setup_of s m.node) t d l)) (sym (own_clock m there))
       (line_told s m.node (clocks m.node) (heard_by old.air m.node) t told l d (own ∙ ap (λ (x : NodeLine). x.node) same) now at))

@@ -1,5 +1,5 @@
 -- The end of a run: the log of the closed field has what the trails have.
-use Rattle.std.proofs.Common.{◌≡◌, ℕ, List, [], map, reverse, Bool, true, false, ◌==◌, if◌then◌else◌, Option, Some, None, inl, inr, refl, sym, ◌∙◌, ap, subst}
+use Rattle.std.proofs.Common.{◌≡◌, ℕ, List, [], map, reverse, Bool, true, false, ◌==◌, if◌then◌else◌, Some, inl, inr, refl, sym, ◌∙◌, ap, subst}
 use Rattle.std.specs.Prelude.{Contains, IsPermutation, slice_get}
 use Rattle.std.specs.List.{filter}
 use Rattle.std.proofs.lemmas.Simd.{map-map}
@@ -10,41 +10,19 @@ use Rattle.scenario_text.specs.declared.lines.NodeLine.{NodeLine}
 use Rattle.radio_model.specs.declared.sending.Sending.{Sending}
 use Rattle.radio_model.specs.OnAir.{Hearing, Tuning}
 use Rattle.event_calendar.specs.Orders.{Due}
-use Rattle.bus_rules.specs.Cores.{Setup}
 use Rattle.air_log.specs.declared.entry.Entry.{Entry}
-use Rattle.air_log.specs.declared.entry.Entry.TheVariants.{Sent, Heard, Tuned}
 use Rattle.air_log.specs.Entries.{sending_in, tuning_in, sendings_of, tunings_of, node_of}
 use Rattle.air_log.specs.Devices.{Device, silenced}
 use Rattle.air_log.specs.Trails.{Reception, setup_of, run_end, before_tick}
 use Rattle.air_log.specs.Lawful.{reception_of, by_end, heard_by, sent_by, tuned_by, trail_in, FollowsTrails}
-use Rattle.air_log.proofs.Elements.{filter_from}
+use Rattle.air_log.proofs.LoggedEntries.{sending_node, tuning_node}
+use Rattle.lwb_base.proofs.Elements.{filter_from}
 use Rattle.world_engine.specs.Fields.{FieldState, Shows, IsLogged, ids_of, setup_of as setup_in}
 use Rattle.world_engine.specs.FieldSteps.{IsClosed, node_id}
 use Rattle.world_engine.specs.Moments.{Before}
 use Rattle.world_engine.specs.Running.{IsRunning, setup_by}
 use Rattle.world_engine.proofs.NodePlaces.{place_of_known, id_known, not_unknown, filter_none}
-
-abbrev id_by : Setup → ℕ
-id_by s = s.id
-
--- the node of an entry is that of what it says
-abbrev sender_in : Option Sending → ℕ → ℕ
-sender_in None v = v
-sender_in (Some x) v = x.node
-
-sending_node : (e : Entry) (x : Sending) → sending_in e ≡ Some x → node_of e ≡ x.node
-sending_node (Sent y) x is = ap (λ (o : Option Sending). sender_in o 0) is
-sending_node (Heard h) x is = cc
-sending_node (Tuned t) x is = cc
-
-abbrev tuner_in : Option Tuning → ℕ → ℕ
-tuner_in None v = v
-tuner_in (Some x) v = x.node
-
-tuning_node : (e : Entry) (x : Tuning) → tuning_in e ≡ Some x → node_of e ≡ x.node
-tuning_node (Sent y) x is = cc
-tuning_node (Heard h) x is = cc
-tuning_node (Tuned t) x is = ap (λ (o : Option Tuning). tuner_in o 0) is
+use Rattle.world_engine.proofs.GoesOn.{id_in}
 
 permuted_by : {X : Type 0} (b : Bool) (xs ys : List X) → (b ≡ true → IsPermutation xs ys) → (b ≡ false → ys ≡ []) → IsPermutation (if b then xs else []) ys
 permuted_by true xs ys known unknown = known refl
@@ -90,7 +68,7 @@ module _ (s : ScenarioParts) (clocks : ℕ → ℕ → ℕ) (w : FieldState) (du
       subst (λ (u : ℕ). IsLogged closed u (trail_in s clocks closed.air u).made) at.3 (logged_at at.0 at.1 at.2)
 
   pub ids_are : ids_of w ≡ map node_id s.nodes
-  ids_are = sym (map-map id_by setup_in w.devices) ∙ ap (map id_by) running.places.setups ∙ map-map id_by (setup_by s) s.nodes
+  ids_are = sym (map-map id_in setup_in w.devices) ∙ ap (map id_in) running.places.setups ∙ map-map id_in (setup_by s) s.nodes
 
   pub of_known : (v : ℕ) → Contains (ids_of w) v → knows s.nodes v ≡ true
   of_known v there = id_known s.nodes v (subst (λ (l : List ℕ). Contains l v) ids_are there)

@@ -1,7 +1,8 @@
 use Rattle.std.proofs.Common.{◌≡◌, ◌+◌, ◌∙◌, [], length, get_or, take, refl, sym, ap, arith}
 use Rattle.std.proofs.lemmas.List.{take_all, append-nil, length-take-le}
+use Rattle.lwb_base.proofs.Lists.{length_filtered}
 use Rattle.host_scheduler.specs.Debts.{owed_beyond}
-use Rattle.host_scheduler.proofs.Sifted.{sifted, length_filter}
+use Rattle.host_scheduler.proofs.Sifted.{sifted}
 use Rattle.host_scheduler.proofs.Owing.{nothing, read_at, slot_more}
 use Rattle.host_scheduler.proofs.turns.give_turn.Goals as goal
 
@@ -18,7 +19,7 @@ push_if-requires c =
     let line = c.args.line.now in
     let i = c.loop-debt.debt-index in
     let within = c.loop-debt-test.true in
-    let few = length_filter (owed_beyond (c.args.turn + 1)) (take i line) in
+    let few = length_filtered (owed_beyond (c.args.turn + 1)) (take i line) in
     let cut : length (take i line) ≡ i = length-take-le i line (omega arith) in
     λ stays. omega (arith, ap length c.loop-debt.invariant.rest, c.requires.line)
 

@@ -1,6 +1,6 @@
 use Rattle.std.proofs.Common.{◌≡◌, ◌++◌, ◌∷◌, [], rules, ◌∙◌}
 use Rattle.lwb_flood.specs.FloodWorlds.{first_member}
-use Rattle.air_log.proofs.Elements.{map_pushed}
+use Rattle.lwb_base.proofs.Elements.{map_pushed}
 use Rattle.lwb_flood.proofs.flood_beginning.members.Goals as goal
 
 pub loop-line-preserved : goal.loop-line-preserved

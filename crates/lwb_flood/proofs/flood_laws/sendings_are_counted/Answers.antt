@@ -4,7 +4,7 @@ use Rattle.bus_terms.specs.Flooding.{sendings}
 use Rattle.bus_terms.proofs.SendingCounts.{all_sendings}
 use Rattle.radio_model.specs.declared.sending.Sending.{Sending}
 use Rattle.radio_model.specs.Hearing.{TunedThrough}
-use Rattle.air_log.proofs.Elements.{distinct_from_pairs}
+use Rattle.lwb_base.proofs.Elements.{distinct_from_pairs}
 use Rattle.lwb_flood.specs.FloodRun.{Run, FloodRun}
 use Rattle.lwb_flood.proofs.SendingCounts.{count}
 use Rattle.lwb_flood.proofs.flood_laws.sendings_are_counted.Goals as goal

@@ -1,5 +1,6 @@
 use Rattle.std.proofs.Common.{◌≡◌, ap, arith}
-use Rattle.lwb_flood.proofs.LogReading.{counted_more, one_if}
+use Rattle.lwb_base.proofs.Truths.{one_if}
+use Rattle.lwb_flood.proofs.LogReading.{counted_more}
 use Rattle.lwb_flood.proofs.flood_outcome.sendings.Goals as goal
 use Rattle.lwb_flood.proofs.flood_outcome.sendings.Goals.{then-is_sent, else-is_sent}
 

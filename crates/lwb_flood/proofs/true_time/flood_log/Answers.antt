@@ -1,5 +1,6 @@
 use Rattle.std.proofs.Common.{◌≡◌, ℕ, List, map, get_or, sym, ◌∙◌, ap, subst}
 use Rattle.std.specs.Prelude.{Contains}
+use Rattle.std.proofs.lemmas.List.{get_or_default}
 use Rattle.link_trace.specs.Passes.{Lines}
 use Rattle.air_log.specs.declared.entry.Entry.{Entry}
 use Rattle.air_log.specs.FloodLaw.{FloodLaw}
@@ -10,7 +11,6 @@ use Rattle.lwb_flood.specs.FloodWorlds.{World, node_of, CanStep, Stepped, readin
 use Rattle.lwb_flood.proofs.FloodClosing.{closing_time, closed_law}
 use Rattle.lwb_flood.proofs.FloodHearers.{some_member}
 use Rattle.lwb_flood.proofs.FloodLoop.{IsRunning, running_first, can_step, step_on, closing}
-use Rattle.lwb_flood.proofs.FloodSteps.{same_at}
 use Rattle.lwb_flood.proofs.true_time.flood_log.Goals as goal
 use Rattle.lwb_flood.proofs.FloodClocks.{same_readings}
 use Rattle.lwb_flood.proofs.NodeClocks.{listed_clocks}
@@ -32,7 +32,7 @@ step-requires-clause-can g c =
     c.in_ok-world.ensures.sound c.in_ok-world.ensures.start in
     let w = c.loop-place.world in
     let m : Member = get_or w.members c.in-Some.place d in
-    let there : Contains w.members m = (c.in-Some.place, c.in-Some.ensures.some.0, same_at w.members c.in-Some.place m d c.in-Some.ensures.some.0) in
+    let there : Contains w.members m = (c.in-Some.place, c.in-Some.ensures.some.0, get_or_default w.members c.in-Some.place m d c.in-Some.ensures.some.0) in
     subst (λ (lines : Lines). CanStep lines w m m.act) (sym c.trace.ensures.value)
     (can_step c.args.f.now clocks has w c.loop-place.invariant m there (c.in-Some.ensures.some.1 d))
 
@@ -46,7 +46,7 @@ loop-place-smaller g c =
     let w = c.loop-place.world in
     let some : Member = some_member w.members c.in-Some.place c.in-Some.ensures.some.0 in
     let m : Member = get_or w.members c.in-Some.place some in
-    let there : Contains w.members m = (c.in-Some.place, c.in-Some.ensures.some.0, same_at w.members c.in-Some.place m some c.in-Some.ensures.some.0) in
+    let there : Contains w.members m = (c.in-Some.place, c.in-Some.ensures.some.0, get_or_default w.members c.in-Some.place m some c.in-Some.ensures.some.0) in
     let others : ℕ → ℕ → ℕ = readings_at R c.as_slice.result.now (map node_of w.members) in
     let same : (v : ℕ) → clocks v ≡ others v =
     λ v.
@@ -67,7 +67,7 @@ loop-place-preserved g c =
     let w = c.loop-place.world in
     let some : Member = some_member w.members c.in-Some.place c.in-Some.ensures.some.0 in
     let m : Member = get_or w.members c.in-Some.place some in
-    let there : Contains w.members m = (c.in-Some.place, c.in-Some.ensures.some.0, same_at w.members c.in-Some.place m some c.in-Some.ensures.some.0) in
+    let there : Contains w.members m = (c.in-Some.place, c.in-Some.ensures.some.0, get_or_default w.members c.in-Some.place m some c.in-Some.ensures.some.0) in
     let others : ℕ → ℕ → ℕ = readings_at R c.as_slice.result.now (map node_of w.members) in
     let same : (v : ℕ) → clocks v ≡ others v =
     λ v.

@@ -1,8 +1,9 @@
 use Rattle.std.proofs.Common.{sym, subst, ap, arith, length, ◌≤◌, ◌+◌, ℕ}
 use Rattle.lwb_member.specs.Planning.{AreAnswers}
 use Rattle.lwb_member.proofs.Answering.{with_are}
-use Rattle.lwb_member.proofs.AnswersInOrder.{in_order, put_is, with_few}
+use Rattle.lwb_member.proofs.AnswersInOrder.{in_order, put_is}
 use Rattle.lwb_member.proofs.planning.put_answer.Goals as goal
+use Rattle.bus_rules.proofs.Grants.{with_few}
 
 pub put-requires : goal.put-requires
 put-requires c = (omega arith, in_order c.args.answers.now.items c.requires.are.ascend)

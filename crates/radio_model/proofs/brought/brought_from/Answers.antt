@@ -1,10 +1,11 @@
 use Rattle.std.proofs.Common.{◌++◌, List, [], filter_map, option_to_list, take, sym, subst, arith}
+use Rattle.lwb_base.proofs.Lists.{filter_map_more}
 use Rattle.radio_model.specs.Meetings.{IsBrought, rival_to}
 use Rattle.radio_model.specs.declared.brought.Brought.{Brought}
 use Rattle.radio_model.specs.declared.rivals.Rival.{Rival}
 use Rattle.radio_model.proofs.Crowds.{nothing_comes, both_come}
 use Rattle.radio_model.proofs.EndedSendings.{no_rivals}
-use Rattle.radio_model.proofs.RivalLists.{filter_map_more, rivals_sending, rivals_ended}
+use Rattle.radio_model.proofs.RivalLists.{rivals_sending, rivals_ended}
 use Rattle.radio_model.proofs.brought.brought_from.Goals as goal
 
 pub loop-i-init : goal.loop-i-init

@@ -5,7 +5,7 @@ use Rattle.radio_model.specs.Ages.{IsAged}
 use Rattle.radio_model.specs.Meetings.{comes_from, rivals_in, rivals_to}
 use Rattle.radio_model.specs.declared.station.Station.{Station}
 use Rattle.radio_model.proofs.Heard.{chosen_from}
-use Rattle.radio_model.proofs.Members.{any_of, some_of, in_flat}
+use Rattle.lwb_base.proofs.Elements.{any_of, some_of, in_flat}
 use Rattle.radio_model.proofs.chosen.is_chosen.Goals as goal
 
 pub sends_same-requires-clause-by_end : goal.sends_same-requires-clause-by_end

@@ -1,7 +1,7 @@
 use Rattle.std.proofs.Common.{◌<◌, ℕ, ◌∙◌, not, get_or, length, sym, ap, arith, Bool}
+use Rattle.std.proofs.lemmas.List.{get_or_default}
 use Rattle.radio_model.specs.Marks.{comes_close, no_mark}
 use Rattle.radio_model.specs.declared.mark.Mark.{Mark}
-use Rattle.radio_model.proofs.Members.{same_default}
 use Rattle.radio_model.proofs.Those.{all_left, stays, goes, none_left}
 use Rattle.radio_model.proofs.crowd.strangers.Goals as goal
 
@@ -29,7 +29,7 @@ loop-rest-preserved-then-comes_close c =
     λ d. goes (λ n. test (get_or mks n d)) c.args.places c.loop-rest.strange c.loop-rest.rest c.without_bit-rest.result k (c.loop-rest.invariant d)
     c.without_bit-rest.ensures.cleared c.without_bit-rest.ensures.others c.without_bit-strange.result c.without_bit-strange.ensures.cleared
     c.without_bit-strange.ensures.others
-    (ap test (same_default mks k d mk below ∙ ap (λ (n : ℕ). get_or mks n mk) (sym c.from.ensures) ∙ sym c.index-marks-from.is)
+    (ap test (get_or_default mks k d mk below ∙ ap (λ (n : ℕ). get_or mks n mk) (sym c.from.ensures) ∙ sym c.index-marks-from.is)
     ∙ ap not (sym c.comes_close.ensures ∙ c.if-comes_close.true))
 
 pub loop-rest-preserved : goal.loop-rest-preserved
@@ -42,7 +42,7 @@ loop-rest-preserved c =
     let test : Mark → Bool = λ m. not (comes_close c.args.opens c.args.latest c.args.x.now c.args.origin m) in
     λ d. stays (λ n. test (get_or mks n d)) c.args.places c.loop-rest.strange c.loop-rest.rest c.without_bit-rest.result k (c.loop-rest.invariant d)
     c.without_bit-rest.ensures.cleared c.without_bit-rest.ensures.others
-    (ap test (same_default mks k d mk below ∙ ap (λ (n : ℕ). get_or mks n mk) (sym c.from.ensures) ∙ sym c.index-marks-from.is)
+    (ap test (get_or_default mks k d mk below ∙ ap (λ (n : ℕ). get_or mks n mk) (sym c.from.ensures) ∙ sym c.index-marks-from.is)
     ∙ ap not (sym c.comes_close.ensures ∙ c.if-comes_close.false))
 
 pub returns : goal.returns

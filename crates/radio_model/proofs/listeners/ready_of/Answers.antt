@@ -1,11 +1,11 @@
 use Rattle.std.proofs.Common.{◌<◌, ℕ, ◌∙◌, get_or, length, sym, subst, ap, arith}
+use Rattle.std.proofs.lemmas.List.{get_or_default}
 use Rattle.radio_model.specs.Ages.{IsAged}
 use Rattle.radio_model.specs.Marks.{IsMark}
 use Rattle.radio_model.specs.Meetings.{is_ready}
 use Rattle.radio_model.specs.Stations.{on_air, fresh}
 use Rattle.radio_model.specs.declared.mark.Mark.{Mark}
 use Rattle.radio_model.specs.declared.station.Station.{Station}
-use Rattle.radio_model.proofs.Members.{same_default}
 use Rattle.radio_model.proofs.Those.{all_left, stays, goes, none_left}
 use Rattle.radio_model.proofs.listeners.ready_of.Goals as goal
 
@@ -60,7 +60,7 @@ loop-rest-preserved-then-not-is_ready c =
     λ d. goes (λ n. is_ready x (get_or sts n d)) c.args.places c.loop-rest.ready c.loop-rest.rest c.without_bit-rest.result k (c.loop-rest.invariant d)
     c.without_bit-rest.ensures.cleared c.without_bit-rest.ensures.others c.without_bit-ready.result c.without_bit-ready.ensures.cleared
     c.without_bit-ready.ensures.others
-    (ap (is_ready x) (same_default sts k d st below ∙ ap (λ (n : ℕ). get_or sts n st) (sym i) ∙ sym c.index-stations-i.is) ∙ sym c.is_ready.ensures
+    (ap (is_ready x) (get_or_default sts k d st below ∙ ap (λ (n : ℕ). get_or sts n st) (sym i) ∙ sym c.index-stations-i.is) ∙ sym c.is_ready.ensures
     ∙ c.if-not-is_ready.true)
 
 pub loop-rest-preserved : goal.loop-rest-preserved
@@ -74,7 +74,7 @@ loop-rest-preserved c =
     let below : k < length sts = c.requires.within k (was.among k (was.left k c.lowest-place.ensures.set)) in
     λ d. stays (λ n. is_ready x (get_or sts n d)) c.args.places c.loop-rest.ready c.loop-rest.rest c.without_bit-rest.result k (c.loop-rest.invariant d)
     c.without_bit-rest.ensures.cleared c.without_bit-rest.ensures.others
-    (ap (is_ready x) (same_default sts k d st below ∙ ap (λ (n : ℕ). get_or sts n st) (sym i) ∙ sym c.index-stations-i.is) ∙ sym c.is_ready.ensures
+    (ap (is_ready x) (get_or_default sts k d st below ∙ ap (λ (n : ℕ). get_or sts n st) (sym i) ∙ sym c.index-stations-i.is) ∙ sym c.is_ready.ensures
     ∙ c.if-not-is_ready.false)
 
 pub returns : goal.returns

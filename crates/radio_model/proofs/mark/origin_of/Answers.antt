@@ -1,7 +1,7 @@
 use Rattle.std.proofs.Common.{◌<◌, ◌∙◌, get_or, length, inl, inr, refl, sym, ap, arith}
 use Rattle.std.proofs.lemmas.Bool.{cases_eq}
 use Rattle.std.specs.Int.{bit_at}
-use Rattle.radio_model.proofs.Members.{same_default}
+use Rattle.std.proofs.lemmas.List.{get_or_default}
 use Rattle.radio_model.proofs.BegunOrigins.{sender_joins}
 use Rattle.radio_model.proofs.mark.origin_of.Goals as goal
 
@@ -39,7 +39,11 @@ returns-then-sends_packet c =
     let st = c.index-stations-i.result in
     let mk = c.index-marks-i-then-sends_packet.result in
     inr (sender_joins c.args.stations.now mks i c.args.t c.args.packet.now st (get_or mks i mk)
-    (record { below = below; station = sym c.index-stations-i.is; mark = same_default mks i (get_or mks i mk) mk (omega (arith, below, c.requires.one_each)) })
+    (record {
+      below = below;
+      station = sym c.index-stations-i.is;
+      mark = get_or_default mks i (get_or mks i mk) mk (omega (arith, below, c.requires.one_each));
+    })
     (sym c.sends_packet.ensures ∙ c.if-sends_packet.true))
 
 pub returns : goal.returns

@@ -1,6 +1,6 @@
 use Rattle.std.proofs.Common.{All, ◌≤◌, ◌^◌, Option, sym, subst, ap, ◌∙◌, IsSomeAnd, get_or, arith}
+use Rattle.std.proofs.lemmas.List.{get_or_default}
 use Rattle.radio_model.specs.Recent.{AreAmong}
-use Rattle.radio_model.proofs.Members.{same_default}
 use Rattle.radio_model.proofs.Origins.{alike_to}
 use Rattle.radio_model.specs.Ages.{IsAged}
 use Rattle.radio_model.specs.declared.sending.Sending.{Sending}
@@ -30,6 +30,6 @@ listeners-requires-clause-alike g c =
     (record {
       below = c.requires.place;
       station = sym c.index-stations-place.is;
-      mark = same_default mks i mk e (omega (arith, c.requires.place, c.requires.marks.one_each));
+      mark = get_or_default mks i mk e (omega (arith, c.requires.place, c.requires.marks.one_each));
     })
     c.in-Some.is

@@ -1,7 +1,6 @@
 use Rattle.std.proofs.Common.{◌≡◌, ◌<◌, ◌∙◌, ℕ, set, get_or, inl, inr, ap, sym, arith}
 use Rattle.std.proofs.lemmas.Bool.{cases_lt}
-use Rattle.std.proofs.lemmas.List.{length-set, get_or-set_same, get_or-set_other}
-use Rattle.radio_model.proofs.Members.{same_default}
+use Rattle.std.proofs.lemmas.List.{length-set, get_or-set_same, get_or-set_other, get_or_default}
 use Rattle.radio_model.proofs.medium.places_of.Goals as goal
 
 pub loop-i-preserved : goal.loop-i-preserved
@@ -12,7 +11,7 @@ loop-i-preserved c =
     let j = c.from.result in
     let v = c.index-nodes-i.result in
     let at : j ≡ v = c.from.ensures ∙ c.number.ensures.value in
-    let node : (d : ℕ) → get_or nodes i d ≡ v = λ d. same_default nodes i d v c.loop-i-test.true ∙ sym c.index-nodes-i.is in
+    let node : (d : ℕ) → get_or nodes i d ≡ v = λ d. get_or_default nodes i d v c.loop-i-test.true ∙ sym c.index-nodes-i.is in
     let all = c.loop-i.invariant.all in
     let most = c.number.ensures.range.1 in
     record {

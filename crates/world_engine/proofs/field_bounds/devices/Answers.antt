@@ -1,7 +1,7 @@
 use Rattle.std.proofs.Common.{◌≡◌, ◌++◌, ◌∷◌, [], ◌∙◌, ap, rules, arith, length}
 use Rattle.scenario_text.proofs.SoundScenarios.{sound}
 use Rattle.air_log.specs.Trails.{setup_of}
-use Rattle.air_log.proofs.Elements.{map_pushed}
+use Rattle.lwb_base.proofs.Elements.{map_pushed}
 use Rattle.world_engine.specs.FieldSteps.{first_device}
 use Rattle.world_engine.proofs.FirstField.{new_device}
 use Rattle.world_engine.proofs.field_bounds.devices.Goals as goal

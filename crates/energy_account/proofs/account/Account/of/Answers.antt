@@ -4,7 +4,7 @@ use Rattle.scenario_text.specs.declared.lines.NodeLine.{NodeLine}
 use Rattle.scenario_text.proofs.SoundScenarios.{sound}
 use Rattle.scenario_clocks.specs.StatedClocks.{scenario_clock}
 use Rattle.scenario_clocks.proofs.StatedDrift.{scenario_states}
-use Rattle.air_log.proofs.Elements.{map_pushed}
+use Rattle.lwb_base.proofs.Elements.{map_pushed}
 use Rattle.energy_account.specs.declared.account.AccountLine.{AccountLine}
 use Rattle.energy_account.specs.declared.energy.Energy.{Energy}
 use Rattle.energy_account.specs.Accounts.{line_for, line_of}

@@ -11,8 +11,9 @@ use Rattle.radio_model.proofs.EndedSendings.{aged_same, retuned_ended}
 use Rattle.radio_model.proofs.Marked.{marks_stay, retuned_on_air}
 use Rattle.radio_model.proofs.Origins.{alike_kept}
 use Rattle.radio_model.proofs.Changes.{retuned_keeps}
-use Rattle.radio_model.proofs.RecentPlaces.{recent_stay, retuned_sending}
+use Rattle.radio_model.proofs.RecentPlaces.{recent_stay}
 use Rattle.radio_model.proofs.medium.Medium.tune.Goals as goal
+use Rattle.radio_model.proofs.TunedStations.{sends_still}
 
 pub invariant_of-self : goal.invariant_of-self
 invariant_of-self c =
@@ -45,7 +46,7 @@ invariant_of-self c =
           (ap (λ (s : Station). s.ended) c.tune.ensures ∙ retuned_ended c.args.rank c.args.t old),
       recent_stay m.now c.args.t m.stations c.self.inside.marks.items c.self.inside.recent c.place_of-place.result old c.tune.new.self at.0
           c.index_mut-station.ensures.value
-          (λ x runs. sym (retuned_sending c.args.rank c.args.t old) ∙ sym (ap (λ (s : Station). s.sending) c.tune.ensures) ∙ runs) later c.self.invariant.6,
+          (λ x runs. sym (sends_still c.args.rank c.args.t old) ∙ sym (ap (λ (s : Station). s.sending) c.tune.ensures) ∙ runs) later c.self.invariant.6,
     )
 
 pub returns-clause-state : goal.returns-clause-state

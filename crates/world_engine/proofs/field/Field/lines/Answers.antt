@@ -1,8 +1,9 @@
 use Rattle.std.proofs.Common.{◌*◌, arith}
 use Rattle.std.proofs.lemmas.Option.{slice_get_within}
 use Rattle.air_log.specs.ClockLists.{clocks_by}
+use Rattle.air_log.proofs.FramesOfCourses.{tick_of}
 use Rattle.world_engine.proofs.ClocksAtPlaces.{all_drift}
-use Rattle.world_engine.proofs.LinesInCode.{tick_of, read_line, none_read, none_told, next_told, one_more_told, later_line, no_line, lines_told, all_told}
+use Rattle.world_engine.proofs.LinesInCode.{read_line, none_read, none_told, next_told, one_more_told, later_line, no_line, lines_told, all_told}
 use Rattle.world_engine.proofs.field.Field.lines.Goals as goal
 
 pub loop-line-init : goal.loop-line-init

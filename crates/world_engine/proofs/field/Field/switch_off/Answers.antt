@@ -4,13 +4,13 @@ use Rattle.std.proofs.lemmas.List.{append-nil}
 use Rattle.std.proofs.lemmas.Result.{on_ok_weaker}
 use Rattle.scenario_text.specs.declared.script.Act.TheVariants.{Off}
 use Rattle.event_calendar.specs.declared.class.Class.TheVariants.{Alarm}
+use Rattle.event_calendar.proofs.QueuesOfMaps.{size_stays}
 use Rattle.radio_model.specs.Stations.{IsTime, nodes_of}
 use Rattle.air_log.specs.Devices.{Device, nothing_made, is_on}
 use Rattle.air_log.specs.ScriptedDevices.{after_act}
 use Rattle.air_log.specs.DeviceStates.{whole, with_tuned}
 use Rattle.world_engine.specs.Fields.{FieldState, IsShown}
 use Rattle.world_engine.proofs.ActsInTurn.{acts_seen}
-use Rattle.world_engine.proofs.ObeyedOrders.{due_places}
 use Rattle.world_engine.proofs.StepsInCode.{field_retuned, in_queue, in_medium, state_happened, state_taken}
 use Rattle.world_engine.proofs.LineChanges.{IsOffAfter, off_stays, off_then}
 use Rattle.world_engine.proofs.ToldInCode.{off_acts, told_acts}
@@ -66,7 +66,7 @@ clear-requires-2 g c =
     let shown : IsShown t old orders p = subst (λ (w : FieldState). IsShown t w orders p) (sym c.self.view_is) c.requires.shown in
     let long = ap length c.clear.ensures in
     let within = in_queue t p old orders shown c.from.result c.from.ensures c.index_mut-device.result.now c.index_mut-device.ensures.value in
-    let same = due_places orders p Alarm None in
+    let same = size_stays orders p Alarm None in
     omega (arith, long, within, same)
 
 pub invariant_of-self-2 : goal.invariant_of-self-2

@@ -7,11 +7,12 @@ use Rattle.bus_rules.specs.declared.delivery.Delivery.{Delivery}
 use Rattle.node_core.specs.Rows.{orders_by}
 use Rattle.air_log.specs.Devices.{obeyed}
 use Rattle.air_log.specs.DeviceStates.{DeviceState, whole, row_of, made_by}
+use Rattle.air_log.proofs.CourseEvents.{keeps_setup, reacted}
 use Rattle.world_engine.specs.Fields.{FieldState, IsShown}
 use Rattle.world_engine.proofs.ActsInTurn.{acts_seen}
 use Rattle.world_engine.proofs.ObeyedInTurn.{shown_still}
 use Rattle.world_engine.proofs.StepsInCode.{field_as_was}
-use Rattle.world_engine.proofs.Reactions.{field_summed, reacted, moves, keeps_setup, noted_is, noted_others, noted_own, moves_acts, event_acts}
+use Rattle.world_engine.proofs.Reactions.{field_summed, moves, noted_is, noted_others, noted_own, moves_acts, event_acts}
 use Rattle.world_engine.proofs.field.Field.tell.Goals as goal
 
 pub invariant_of-self : goal.invariant_of-self
