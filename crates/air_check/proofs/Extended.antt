@@ -7,12 +7,12 @@ use Rattle.std.specs.Cmp.{IsStrictWeakOrder, nat_cmp_total, on_total, then_total
 use Rattle.std.specs.Ordering.{nat_cmp, ordering_then, is_lt}
 use Rattle.std.proofs.lemmas.Bool.{cases_lt}
 use Rattle.std.proofs.lemmas.Bool.Decides.{nat_tests}
-use Rattle.std.proofs.lemmas.List.{map-append, get_or_append_left, get_or_push, take_more, drop_more, take_all}
+use Rattle.std.proofs.lemmas.List.{map-append, get_or_append_left, get_or_push, take_more, drop_more, take_all, get_or_default}
 use Rattle.std.proofs.lemmas.List.Quantifiers.{all_pairs_push}
 use Rattle.std.proofs.lemmas.List.Sorted.{ranks_by, sorted_far, Contains-permutation, IsPermutation-sym, IsPermutation-map}
 use Rattle.std.proofs.lemmas.List.Elements.{Contains-push, Contains-push_cases, Contains-append_left, Contains-get_or}
 use Rattle.radio_model.specs.OnAir.{Tuning}
-use Rattle.radio_model.proofs.Members.{not_in_none, in_head, in_tail, same_default}
+use Rattle.lwb_base.proofs.Elements.{not_in_none, contains_head, contains_tail}
 use Rattle.air_check.proofs.Gathered.{not_less}
 use Rattle.air_check.specs.Tunings.{IsNoLater, IsOf, IsIn, AreTuned, IsUntilAfter, tuning_by}
 use Rattle.air_check.specs.declared.tunings.Tuned.{Tuned}
@@ -41,7 +41,7 @@ module _ (done todo es : List Tuned) (r e : Tuned) (is : IsExtended done (r ∷ 
   grown = map-append tuning_by done (r ∷ [])
 
   before_it : (x : Tuned) → Contains es x → IsNoLater x r
-  before_it x there = is.later x r there (in_head todo r)
+  before_it x there = is.later x r there (contains_head r todo)
 
   to_it : (x : Tuned) → IsNoLater x r → IsNoLater x e
   to_it x by =
@@ -185,7 +185,7 @@ module _ (done todo es : List Tuned) (r e : Tuned) (is : IsExtended done (r ∷ 
       ];
     };
     later = λ x q there also. elim (Contains-push_cases es e x there) [
-      | inl before ↦ is.later x q before (in_tail todo r q also)
+      | inl before ↦ is.later x q before (contains_tail r todo q also)
       | inr same ↦ subst (λ (y : Tuned). IsNoLater y q) same (from_it q (rest q also))
     ];
   }
@@ -194,7 +194,7 @@ pub after_last : (es : List Tuned) (e last : Tuned) (until : ℕ) → 0 < length
     → (last.node ≡ e.node → last.rank ≡ e.rank → last.until ≤ until)
     → ((until ≡ e.until) ⊎ ((last.node ≡ e.node) × (last.rank ≡ e.rank) × (last.until ≡ until))) → IsUntilAfter es e until
 after_last es e last until some at own lasts from =
-    let same : (d : Tuned) → get_or es (length es - 1) d ≡ last = λ d. same_default es (length es - 1) d last (omega arith) ∙ sym at in
+    let same : (d : Tuned) → get_or es (length es - 1) d ≡ last = λ d. get_or_default es (length es - 1) d last (omega arith) ∙ sym at in
     record {
       own = own;
       lasts = λ d more node rank.
@@ -227,7 +227,7 @@ extended_more rs es new i r e in_order below at node rank start until is pushed 
     let k : ℕ = there.0 in
     let within = there.1 in
     let is_q : get_or rs (i + 1 + k) q ≡ q = sym (Rattle.std.proofs.lemmas.List.get_or-drop (i + 1) rs k q) ∙ there.2 in
-    subst (λ (x : Tuned). IsNoLater x q) (same_default rs i q r below ∙ sym at)
+    subst (λ (x : Tuned). IsNoLater x q) (get_or_default rs i q r below ∙ sym at)
     (subst (λ (x : Tuned). IsNoLater (get_or rs i q) x) is_q
     (in_order i (i + 1 + k) q (omega arith) (omega (arith, within, Rattle.std.proofs.Common.length-drop (i + 1) rs))))))
     node rank start until))

@@ -8,7 +8,7 @@ use Rattle.std.proofs.lemmas.Bool.Decides.{nat_tests}
 use Rattle.std.proofs.lemmas.List.Elements.{Contains-get_or}
 use Rattle.tick_clock.specs.ClockReadings.{segment_clock_reads}
 use Rattle.tick_clock.specs.declared.segment_clock.SegmentClock.{SegmentClock}
-use Rattle.radio_model.proofs.Members.{any_of, some_of}
+use Rattle.lwb_base.proofs.Elements.{any_of, some_of}
 use Rattle.scenario_text.specs.FloodParts.{knows}
 use Rattle.scenario_text.specs.ScenarioParts.{ScenarioParts}
 use Rattle.scenario_text.specs.declared.lines.NodeLine.{NodeLine}

@@ -15,14 +15,14 @@ use Rattle.scenario_text.specs.FloodParts.{knows}
 use Rattle.scenario_text.specs.ScenarioParts.{ScenarioParts}
 use Rattle.radio_model.specs.Hearing.{Before}
 use Rattle.radio_model.specs.OnAir.{Sending}
-use Rattle.radio_model.proofs.Members.{not_in_none}
-use Rattle.radio_model.proofs.RivalLists.{filter_map_more}
+use Rattle.lwb_base.proofs.Elements.{not_in_none}
+use Rattle.lwb_base.proofs.Lists.{filter_map_more}
 use Rattle.air_log.specs.Entries.{sendings_of}
 use Rattle.air_log.specs.Lawful.{FollowsTrails, trail_sent, trail_in, sent_by, heard_by}
 use Rattle.air_log.specs.TrailEntries.{IsSentBefore}
 use Rattle.air_log.specs.Trails.{run_end}
 use Rattle.air_log.specs.declared.entry.Entry.{Entry}
-use Rattle.air_log.proofs.Elements.{in_filtered}
+use Rattle.lwb_base.proofs.Elements.{in_filtered}
 use Rattle.air_log.proofs.TrailSendings.{in_order, each_sent}
 
 pub one_more : {Y : Type 0} (f : Entry → Option Y) (air : List Entry) (i : ℕ) (e : Entry) (old new : List Y) (o : Option Y) → i < length air
@@ -108,7 +108,7 @@ module _ (s : ScenarioParts) (clocks : ℕ → ℕ → ℕ) (air : List Entry) (
       ]
     where
       other : (xs : List Sending) (k : ℕ) (d e : Sending) → k < length xs → get_or xs k d ≡ get_or xs k e
-      other xs k d e in_it = Rattle.radio_model.proofs.Members.same_default xs k d e in_it
+      other xs k d e in_it = Rattle.std.proofs.lemmas.List.get_or_default xs k d e in_it
 
   -- a node begins one transmission at a tick
   pub one_of_node : (x y : Sending) → Contains (sendings_of air) x → Contains (sendings_of air) y → x.node ≡ y.node → x.start ≡ y.start → x ≡ y

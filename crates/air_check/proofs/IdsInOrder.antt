@@ -3,7 +3,7 @@ use Rattle.std.proofs.Common.{◌≡◌, ℕ, ◌<◌, ◌≤◌, List, false, �
 use Rattle.std.proofs.lemmas.Bool.{cases_Bool, cases_lt, eqb-true}
 use Rattle.std.proofs.lemmas.List.{get_or_past}
 use Rattle.std.proofs.lemmas.List.Elements.{All-contains}
-use Rattle.radio_model.proofs.Members.{some_of}
+use Rattle.lwb_base.proofs.Elements.{some_of}
 use Rattle.scenario_text.specs.FloodParts.{knows}
 use Rattle.scenario_text.specs.ScenarioFacts.{IsSoundScenario}
 use Rattle.scenario_text.specs.ScenarioParts.{ScenarioParts}
@@ -13,9 +13,7 @@ use Rattle.air_log.specs.Lawful.{FollowsTrails}
 use Rattle.air_check.specs.NodeLogs.{NodeLogState, nothing, log_by, AreLogsOf}
 use Rattle.air_check.specs.Verdicts.{FollowsTrail}
 use Rattle.air_check.proofs.OwnTrails.{nothing_follows}
-
-abbrev IsId : NodeLine → Type 0
-IsId n = (1 ≤ n.node) × (n.node ≤ 200)
+use Rattle.scenario_clocks.specs.NodeRates.{IsId}
 
 outside : (ns : List NodeLine) → All IsId ns → (v : ℕ) → ((1 ≤ v) × (v ≤ 200) → ⊥) → knows ns v ≡ false
 outside ns ids v not = elim (cases_Bool (knows ns v)) [

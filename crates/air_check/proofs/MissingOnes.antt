@@ -3,7 +3,7 @@ use Rattle.std.proofs.Common.{◌≡◌, ℕ, ◌+◌, ◌<◌, ◌≤◌, ◌�
 use Rattle.std.proofs.Common.{refl, sym, ◌∙◌, ap, subst, arith, Contains, All, AllPairs, length-take-le}
 use Rattle.std.specs.List.{list_any}
 use Rattle.std.proofs.lemmas.Bool.{and_parts, eqb-true, cases_order, cases_Bool}
-use Rattle.std.proofs.lemmas.List.{get_or-take}
+use Rattle.std.proofs.lemmas.List.{get_or-take, get_or_default}
 use Rattle.std.proofs.lemmas.List.Elements.{All-contains}
 use Rattle.link_trace.specs.Passes.{passes, is_link, is_loss, cut_off}
 use Rattle.link_trace.specs.declared.lines.LinkLine.{LinkLine}
@@ -12,7 +12,7 @@ use Rattle.scenario_text.specs.ScenarioParts.{ScenarioParts}
 use Rattle.scenario_text.specs.declared.lines.NodeLine.{NodeLine}
 use Rattle.radio_model.specs.Hearing.{Before}
 use Rattle.radio_model.specs.OnAir.{Sending}
-use Rattle.radio_model.proofs.Members.{some_of, same_default}
+use Rattle.lwb_base.proofs.Elements.{some_of}
 use Rattle.air_log.specs.declared.entry.Entry.{Entry}
 use Rattle.air_log.specs.Entries.{hearings_of, IsHeard}
 use Rattle.air_log.specs.Lawful.{FollowsTrails}
@@ -47,12 +47,12 @@ pub least : (nodes : List NodeLine) (i : ℕ) (line : NodeLine) → AllPairs (λ
 least nodes i line ascends below is n (k, within, at) never =
     elim (cases_order k i) [
       | inl here ↦
-          let same : n ≡ line = sym at ∙ ap (λ (m : ℕ). get_or nodes m n) here ∙ same_default nodes i n line below ∙ sym is in
+          let same : n ≡ line = sym at ∙ ap (λ (m : ℕ). get_or nodes m n) here ∙ get_or_default nodes i n line below ∙ sym is in
           omega (arith, ap (λ (x : NodeLine). x.node) same)
       | inr (inl less) ↦ absurd (never (in_taken nodes i k n less (omega arith) at))
       | inr (inr more) ↦
           let up = ascends i k n more within in
-          omega (arith, up, ap (λ (x : NodeLine). x.node) at, ap (λ (x : NodeLine). x.node) (same_default nodes i n line below ∙ sym is))
+          omega (arith, up, ap (λ (x : NodeLine). x.node) at, ap (λ (x : NodeLine). x.node) (get_or_default nodes i n line below ∙ sym is))
     ]
 
 -- at the place of the first transmission of which a reception is missing
@@ -78,7 +78,7 @@ module _ (s : ScenarioParts) (clocks : ℕ → ℕ → ℕ) (air : List Entry) (
         let here = there.2 in
         elim (cases_order j k) [
           | inl same ↦
-              let eq : y ≡ x = sym here ∙ ap (λ (n : ℕ). get_or sent n y) same ∙ same_default sent k y x below ∙ sym at in
+              let eq : y ≡ x = sym here ∙ ap (λ (n : ℕ). get_or sent n y) same ∙ get_or_default sent k y x below ∙ sym at in
               let by = first.1 w (subst (λ (z : Sending). IsMissing s air w z) eq m) in
               let starts = ap (λ (z : Sending). z.start) eq in
               let nodes = ap (λ (z : Sending). z.node) eq in
@@ -86,7 +86,7 @@ module _ (s : ScenarioParts) (clocks : ℕ → ℕ → ℕ) (air : List Entry) (
           | inr (inl less) ↦ absurd (none j w y less (subst (λ (z : Sending). IsMissing s air w z) (sym here) m))
           | inr (inr more) ↦
               let before = subst (λ (z : Sending). Before x z) here
-              (subst (λ (z : Sending). Before z (get_or sent j y)) (same_default sent k y x below ∙ sym at) (in_order k j y more within)) in
+              (subst (λ (z : Sending). Before z (get_or sent j y)) (get_or_default sent k y x below ∙ sym at) (in_order k j y more within)) in
               record {
                 start = before.start;
                 sender = λ e. before.node e;

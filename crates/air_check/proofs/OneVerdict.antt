@@ -4,7 +4,7 @@ use Rattle.std.proofs.Common.{refl, sym, ap, ◌∙◌, subst, arith}
 use Rattle.std.proofs.lemmas.List.Elements.{Contains-append_right, filter_map-append}
 use Rattle.radio_model.specs.declared.sending.Sending.{Sending}
 use Rattle.radio_model.specs.OnAir.{Hearing}
-use Rattle.radio_model.proofs.Members.{in_head, in_either, not_in_none, pairs_head, pairs_tail}
+use Rattle.lwb_base.proofs.Elements.{contains_head, contains_cases, not_in_none, pairs_head, pairs_tail}
 use Rattle.scenario_text.specs.ScenarioParts.{ScenarioParts}
 use Rattle.air_log.specs.declared.entry.Entry.{Entry}
 use Rattle.air_log.specs.Entries.{hearing_in, hearings_of, heard_entry}
@@ -28,8 +28,8 @@ begins {X} (x ∷ xs) ys (u ∷ us) vs a b is less =
 twice : {X : Type 0} (xs ys : List X) (x : X) → AllPairs (λ a b. a ≢ b) (xs ++ x ∷ ys) → Contains xs x → ⊥
 twice [] ys x differ there = not_in_none x there
 twice {X} (y ∷ xs) ys x differ there =
-    elim (in_either xs y x there) [
-      | inl is ↦ pairs_head (λ (a b : X). a ≢ b) y (xs ++ x ∷ ys) differ x (Contains-append_right xs (x ∷ ys) x (in_head ys x)) is
+    elim (contains_cases y xs x there) [
+      | inl is ↦ pairs_head (λ (a b : X). a ≢ b) y (xs ++ x ∷ ys) differ x (Contains-append_right xs (x ∷ ys) x (contains_head x ys)) is
       | inr later ↦ twice xs ys x (pairs_tail (λ (a b : X). a ≢ b) y (xs ++ x ∷ ys) differ) later
     ]
 
@@ -55,7 +55,7 @@ module _ (s : ScenarioParts) (clocks : ℕ → ℕ → ℕ) (air : List Entry) w
       let vs = hearings_of below in
       let split = hearings_split above below h in
       let there : Contains (hearings_of (above ++ heard_entry h.node h.sending ∷ below)) h =
-      subst (λ (hs : List Hearing). Contains hs h) (sym split) (Contains-append_right us (h ∷ vs) h (in_head vs h)) in
+      subst (λ (hs : List Hearing). Contains hs h) (sym split) (Contains-append_right us (h ∷ vs) h (contains_head h vs)) in
       let once : AllPairs (λ g k. g ≢ k) (us ++ h ∷ vs) = subst (λ (hs : List Hearing). AllPairs (λ g k. g ≢ k) hs) split are.once in
       elim wrong [ inl not ↦ not (are.given h.node h.sending there) | inr before ↦ twice us vs h once before ]
 

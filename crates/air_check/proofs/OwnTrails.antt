@@ -9,7 +9,7 @@ use Rattle.std.proofs.lemmas.List.Sorted.{IsPermutation-refl, IsPermutation-sym,
 use Rattle.std.proofs.lemmas.List.Sorted.{All-permutation, length_permutation}
 use Rattle.radio_model.specs.declared.sending.Sending.{Sending}
 use Rattle.radio_model.specs.OnAir.{Tuning}
-use Rattle.radio_model.proofs.Members.{pairs_tail}
+use Rattle.lwb_base.proofs.Elements.{pairs_tail}
 use Rattle.scenario_text.specs.FloodParts.{knows}
 use Rattle.scenario_text.specs.ScenarioParts.{ScenarioParts}
 use Rattle.air_log.specs.declared.entry.Entry.{Entry}
@@ -19,7 +19,7 @@ use Rattle.air_log.specs.DeviceStates.{tuning_of}
 use Rattle.air_log.specs.TrailsTold.{sending_of}
 use Rattle.air_log.specs.Lawful.{sent_by, tuned_by, trail_in, trail_sent, trail_tuned}
 use Rattle.air_log.specs.Trails.{Reception, trail}
-use Rattle.air_log.proofs.Elements.{reversed}
+use Rattle.lwb_base.proofs.Elements.{reversed}
 use Rattle.air_log.proofs.TrailSendings.{in_order, pairs_push}
 use Rattle.air_log.proofs.TrailTunings.{each_tuned, tuned_in_turn}
 use Rattle.air_check.specs.Verdicts.{FollowsTrail}

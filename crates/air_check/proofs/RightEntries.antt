@@ -7,8 +7,8 @@ use Rattle.std.proofs.lemmas.List.Quantifiers.{all_pairs_push}
 use Rattle.std.proofs.lemmas.List.Elements.{Contains-push_cases, Contains-get_or, filter_map-append}
 use Rattle.scenario_text.specs.ScenarioParts.{ScenarioParts}
 use Rattle.radio_model.specs.OnAir.{Hearing, Sending}
-use Rattle.radio_model.proofs.Members.{not_in_none}
-use Rattle.radio_model.proofs.RivalLists.{one_kept}
+use Rattle.lwb_base.proofs.Elements.{not_in_none}
+use Rattle.lwb_base.proofs.Lists.{one_kept}
 use Rattle.air_log.specs.declared.entry.Entry.{Entry}
 use Rattle.air_log.specs.declared.entry.Entry.TheVariants.{Sent, Heard, Tuned}
 use Rattle.air_log.specs.Entries.{hearing_in, hearings_of, heard_entry}

@@ -2,6 +2,7 @@
 use Rattle.std.proofs.Common.{◌≡◌, ℕ, zero, suc, ◌<◌, List, [], ◌∷◌, true, IsPermutation, length, refl, ap, ◌∙◌, arith}
 use Rattle.std.proofs.lemmas.List.Sorted.{IsPermutation-refl, length_permutation}
 use Rattle.lwb_base.specs.Messages.{least}
+use Rattle.lwb_base.proofs.Orders.{same_list}
 use Rattle.schedule_codec.specs.Packing.{digits, number}
 use Rattle.schedule_codec.specs.Reading.{schedule_of, asks_in}
 use Rattle.bus_rules.specs.Streams.{schedule_heard}
@@ -13,7 +14,7 @@ use Rattle.air_log.specs.Trails.{Reception, trail}
 use Rattle.air_log.specs.FirstRound.{first_round, opening_with, closing_with, sent_by_host, tuned_by_host}
 use Rattle.air_log.specs.TwoNodeLog.{true_time}
 use Rattle.air_log.proofs.ComputedTrails.{goes_through, after_ticks, computed, true_due}
-use Rattle.air_log.proofs.FirstRound.{host_trail}
+use Rattle.air_log.proofs.FirstRound.{host_trail, of_trail, by_ticks}
 use Rattle.air_check.specs.Verdicts.{FollowsTrail, IsFirstAstray}
 use Rattle.air_check.specs.WorkedVerdicts.{first_reception_lost}
 
@@ -51,9 +52,6 @@ other_goes : goes_through (λ x. x) (λ t. t) first_round 2 heard_late 153600000
 unfolding least digits number schedule_of asks_in schedule_heard host_plan plan_round turns
 other_goes = refl
 
-abbrev by_ticks : ℕ → List Reception → List ℕ → Device
-by_ticks v hs ticks = silenced v 1536000000 (after_ticks (λ x. x) (λ t. t) first_round v hs ticks at_rest)
-
 -- both transmit: the host its opening and its closing, the other node three relays
 host_sends : length (by_ticks 1 [] host_ticks).made.sent ≡ 2
 unfolding least digits number schedule_of asks_in schedule_heard host_plan plan_round turns
@@ -62,13 +60,6 @@ host_sends = refl
 other_sends : length (by_ticks 2 heard_late other_ticks).made.sent ≡ 3
 unfolding least digits number schedule_of asks_in schedule_heard host_plan plan_round turns
 other_sends = refl
-
-of_trail : (v : ℕ) (hs : List Reception) (ticks : List ℕ) → goes_through (λ x. x) (λ t. t) first_round v hs 1536000000 0 ticks at_rest ≡ true
-    → trail first_round v (true_time v) hs ≡ by_ticks v hs ticks
-of_trail v hs ticks goes = ap (silenced v 1536000000) (computed (λ t. t) (λ x. x) true_due first_round v hs 1536000000 ticks goes)
-
-same_list : {X : Type 0} (xs ys zs : List X) → xs ≡ zs → ys ≡ zs → IsPermutation xs ys
-same_list xs ys zs a b = rw (a, b) (IsPermutation-refl zs)
 
 pub empty : IsFirstAstray first_round true_time [] 1
 empty = record {

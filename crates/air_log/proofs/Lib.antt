@@ -1,5 +1,4 @@
 -- kept for the crates above
-pub mod Elements
 pub mod StableSorts
 pub mod StrictOrders
 pub mod DeliveryOrder

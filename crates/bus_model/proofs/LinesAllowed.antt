@@ -10,6 +10,8 @@ use Rattle.scenario_text.specs.declared.lines.NodeLine.{NodeLine}
 use Rattle.scenario_text.specs.declared.script.Act.{Act}
 use Rattle.scenario_text.specs.declared.script.Act.TheVariants.{On, Off, Declare, Leave, Put}
 use Rattle.scenario_text.specs.declared.script.ScriptLine.{ScriptLine}
+use Rattle.scenario_text.proofs.BootsTold.{Boots, turned_over}
+use Rattle.scenario_text.proofs.BootsCounted.{never_less}
 use Rattle.bus_rules.specs.Cores.{Setup, as_host, begins_host, frame_ended}
 use Rattle.bus_rules.specs.States.{State, StateOff, StateOn, at_core, refuses, queues}
 use Rattle.bus_rules.specs.declared.tune.Tune.{Tune}
@@ -17,33 +19,8 @@ use Rattle.bus_terms.specs.FloodOfText.{ids}
 use Rattle.bus_terms.specs.Flooding.{has}
 use Rattle.bus_terms.specs.ScriptedStates.{after_act}
 use Rattle.plain_bus.specs.BusNodes.{MayDo, IsEarlyState}
+use Rattle.plain_bus.proofs.TextFloods.{has_known}
 use Rattle.bus_model.specs.FrameNodes.{power}
-
-abbrev Boots : Type 0
-Boots = Bool × ℕ
-
-boots_by : (a : Act) (b : Boots) → b.1 ≤ (turned_by a b).1
-boots_by On (true, k) = omega arith
-boots_by On (false, k) = omega arith
-boots_by Off b = omega arith
-boots_by (Declare i interval) b = omega arith
-boots_by (Leave i) b = omega arith
-boots_by (Put i payload) b = omega arith
-
-boots_up : (v : ℕ) (b : Boots) (ls : List ScriptLine) → b.1 ≤ (turned v b ls).1
-boots_up v b [] = omega arith
-boots_up v b (l ∷ ls) =
-    let c : Boots = if l.node == v then turned_by l.act b else b in
-    let step : b.1 ≤ c.1 = cond_both (l.node == v) (turned_by l.act b) b (λ (x : Boots). b.1 ≤ x.1) (λ mine. boots_by l.act b) (λ other. omega arith) in
-    omega (arith, step, boots_up v c ls)
-
-turned_over : (v : ℕ) (b : Boots) (xs ys : List ScriptLine) → turned v b (xs ++ ys) ≡ turned v (turned v b xs) ys
-turned_over v b [] ys = refl
-turned_over v b (x ∷ xs) ys = turned_over v (if x.node == v then turned_by x.act b else b) xs ys
-
-pub has_known : (ns : List NodeLine) (v : ℕ) → knows ns v ≡ has (ids ns) v
-has_known [] v = refl
-has_known (n ∷ ns) v = ap (λ (b : Bool). (n.node == v) || b) (has_known ns v)
 
 module _ (s : ScenarioParts) (sound : IsSoundScenario s) (n : ℕ) (l : ScriptLine) (below : n < length s.script) (at : l ≡ get_or s.script n l) where
   pub line_act : IsAct s.profile l.act
@@ -65,7 +42,7 @@ module _ (s : ScenarioParts) (sound : IsSoundScenario s) (n : ℕ) (l : ScriptLi
       ap (turned v (false, 0)) (sym (take-append-drop (n + 1) s.script)) ∙ turned_over v (false, 0) (take (n + 1) s.script) (drop (n + 1) s.script)
       ∙ ap (λ (b : Boots). turned v b (drop (n + 1) s.script)) front in
       let most : (turned v (true, boots + 1) (drop (n + 1) s.script)).1 ≤ 200 = subst (λ (b : Boots). b.1 ≤ 200) whole (sound.few_boots v) in
-      omega (arith, most, boots_up v (true, boots + 1) (drop (n + 1) s.script))
+      omega (arith, most, never_less v (true, boots + 1) (drop (n + 1) s.script))
 
   pub may_do : (x : State) → power x ≡ turned l.node (false, 0) (take n s.script) → MayDo l.act x
   may_do x have = by_act l.act refl x have

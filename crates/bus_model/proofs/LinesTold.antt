@@ -3,7 +3,7 @@ use Rattle.std.proofs.Common.{◌≡◌, ◌<◌, ◌≤◌, ◌+◌, ◌++◌, 
 use Rattle.std.proofs.Common.{map, take, drop, get_or, set, filter, fold, option_to_list, refl, sym, ◌∙◌, ap, arith, append-nil, append_assoc}
 use Rattle.std.proofs.Common.{take-append-drop, length-drop}
 use Rattle.std.specs.List.{AllPairs}
-use Rattle.std.proofs.lemmas.Bool.{cases_lt, eq-eqb, ne_eqb}
+use Rattle.std.proofs.lemmas.Bool.{cases_lt, eq-eqb, ne_eqb, and_right}
 use Rattle.std.proofs.lemmas.List.{take_more, length-take-le, get_or-take, get_or-drop, get_or-map}
 use Rattle.std.proofs.lemmas.List.Elements.{filter-append}
 use Rattle.std.proofs.lemmas.List.Sums.{fold_push}
@@ -50,10 +50,6 @@ and_true : (b c : Bool) → c ≡ true → (b && c) ≡ b
 and_true true c is = is
 and_true false c is = refl
 
-and_false : (b c : Bool) → c ≡ false → (b && c) ≡ false
-and_false true c is = is
-and_false false c is = refl
-
 module _ (s : ScenarioParts) (f : ℕ) where
   told_more : (n : ℕ) (l : ScriptLine) → n < length s.script → l ≡ get_or s.script n l → l.frame ≡ f → (v : ℕ)
       → told_at s f (n + 1) v ≡ (if l.node == v then after_line (told_at s f n v) l else told_at s f n v)
@@ -71,7 +67,7 @@ module _ (s : ScenarioParts) (f : ℕ) where
       by_node false = ap (fold after_line (before_frame s f v)) (append-nil (filter (own f v) (take n s.script)))
 
   other_frame : (v k : ℕ) (l : ScriptLine) → (l.frame ≡ f → ⊥) → own f v l ≡ false
-  other_frame v k l other = and_false (l.node == v) (l.frame == f) (ne_eqb l.frame f other)
+  other_frame v k l other = and_right (l.node == v) (l.frame == f) (ne_eqb l.frame f other)
 
   -- before the first line of the frame
   pub none_told : (n : ℕ) → IsCut s.script f n → (v : ℕ) → told_at s f n v ≡ before_frame s f v

@@ -7,8 +7,6 @@ use Rattle.std.specs.Option.{option_and_then}
 use Rattle.std.proofs.lemmas.Bool.{cases_Bool, or_right, or_left, or_cases, eqb-true, and_parts, and_from, false≢true, cond-true, cond-false}
 use Rattle.std.proofs.lemmas.Option.{same_Some}
 use Rattle.bus_terms.specs.Flooding.{has, only_one}
-pub use Rattle.std.proofs.lemmas.Option.{same_Some as some_injective}
-pub use Rattle.lwb_base.proofs.Options.{not_both}
 
 pub inspect : {X : Type 0} (o : Option X) → (o ≡ None) ⊎ ((x : X) × (o ≡ Some x))
 inspect None = inl refl

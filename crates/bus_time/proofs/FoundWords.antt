@@ -13,7 +13,7 @@ use Rattle.lwb_member.specs.Said.{message_of}
 use Rattle.radio_model.specs.declared.sending.Sending.{Sending}
 use Rattle.radio_model.specs.Hearing.{frame_of}
 use Rattle.radio_model.specs.OnAir.{Hearing}
-use Rattle.radio_model.proofs.Members.{in_filter, from_filter}
+use Rattle.lwb_base.proofs.Elements.{in_filter, filter_from}
 use Rattle.scenario_text.specs.ScenarioParts.{ScenarioParts}
 use Rattle.air_log.specs.declared.entry.Entry.{Entry}
 use Rattle.air_log.specs.Entries.{hearing_in, hearings_of, IsHeard}
@@ -74,7 +74,7 @@ module _ (s : ScenarioParts) (air : List Entry) (x : Sending) where
 
   noted_now : (h : Sending) → IsOfFrame s air x h → Contains (filter_map (now_in s.profile) air) (own_round, word_of 0 (heard_as h))
   noted_now h is =
-      let e = from_filter hearing_in air (heard_as h) is.heard.there in
+      let e = filter_from hearing_in air (heard_as h) is.heard.there in
       let read = schedule_read h.packet is.heard.schedule is.heard.says in
       let note : now_in s.profile e.0 ≡ Some (note_of s.profile 0 (heard_as h)) = ap (now_by s.profile) e.2 ∙ ap (note_now s.profile (heard_as h)) read in
       let rank = is.heard.channel in
@@ -88,7 +88,7 @@ module _ (s : ScenarioParts) (air : List Entry) (x : Sending) where
   noted_ahead : (d : ℕ) (h : Sending) → IsAhead s air x d h → Contains (filter_map (ahead_in s.profile) air) (own_round, word_of d (heard_as h))
   noted_ahead d h is =
       let y = is.heard.schedule in
-      let e = from_filter hearing_in air (heard_as h) is.heard.there in
+      let e = filter_from hearing_in air (heard_as h) is.heard.there in
       let read = schedule_read h.packet y is.heard.says in
       let gap = is.heard.gap_is in
       let some = is.some in
@@ -143,7 +143,7 @@ module _ (s : ScenarioParts) (air : List Entry) (x : Sending) where
   now_hearing w e there (Some g) heard is = now_schedule w e there g (schedule_of g.sending.packet) heard refl is
 
   of_now : (w : Word) → Contains (filter_map (now_in s.profile) air) (own_round, w) → IsNoteOf 0 w
-  of_now w there = let e = from_filter (now_in s.profile) air (own_round, w) there in now_hearing w e.0 e.1 (hearing_in e.0) refl e.2
+  of_now w there = let e = filter_from (now_in s.profile) air (own_round, w) there in now_hearing w e.0 e.1 (hearing_in e.0) refl e.2
 
   record IsAheadNote (w : Word) : Type 0 where
     pub ahead : ℕ
@@ -174,7 +174,7 @@ module _ (s : ScenarioParts) (air : List Entry) (x : Sending) where
   ahead_hearing w e there (Some g) heard is = ahead_schedule w e there g (schedule_of g.sending.packet) heard refl is
 
   of_ahead : (w : Word) → Contains (filter_map (ahead_in s.profile) air) (own_round, w) → IsAheadNote w
-  of_ahead w there = let e = from_filter (ahead_in s.profile) air (own_round, w) there in ahead_hearing w e.0 e.1 (hearing_in e.0) refl e.2
+  of_ahead w there = let e = filter_from (ahead_in s.profile) air (own_round, w) there in ahead_hearing w e.0 e.1 (hearing_in e.0) refl e.2
 
   -- ---- the first word is of the reference
 

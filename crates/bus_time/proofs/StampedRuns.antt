@@ -11,7 +11,7 @@ use Rattle.radio_model.specs.declared.sending.Sending.{Sending}
 use Rattle.air_log.specs.declared.entry.Entry.{Entry}
 use Rattle.air_log.specs.Lawful.{Lawful}
 use Rattle.air_log.specs.LogText.{in_order}
-use Rattle.air_log.proofs.Elements.{contains_head, contains_tail}
+use Rattle.lwb_base.proofs.Elements.{contains_head, contains_tail}
 use Rattle.bus_time.specs.Reading.{IsRead, beginning_of, starts_first}
 use Rattle.bus_time.specs.Stamps.{stamped}
 use Rattle.bus_time.specs.Stamping.{MayStamp}

@@ -18,6 +18,7 @@ use Rattle.scenario_text.specs.Network.{Parts, network_parts, is_id}
 use Rattle.scenario_text.specs.declared.flood_line.FloodLine.{FloodLine}
 use Rattle.scenario_text.specs.declared.flood_line.FloodLine.TheVariants.{InNetwork, Lose, Start}
 use Rattle.scenario_text.proofs.FloodKeeps.{text_sound, parts_sound, at_start}
+use Rattle.scenario_text.proofs.SoundScenarios.{id_range}
 
 abbrev pub StartsById : Flood → Type 0
 StartsById f = IfSome f.start (λ i. is_id i ≡ true)
@@ -41,9 +42,6 @@ text_starts f ls is =
 -- sound, and started by a node with an id
 abbrev pub IsWhole : FloodParts → Type 0
 IsWhole f = IsSound f × (1 ≤ f.start) × (f.start ≤ 200)
-
-id_range : (i : ℕ) → is_id i ≡ true → (1 ≤ i) × (i ≤ 200)
-id_range i is = let both = and_parts (nat_le 1 i) (nat_le i 200) is in (leb-true 1 i both.0, leb-true i 200 both.1)
 
 by_parts : (d : Flood) (f : FloodParts) → IsFlood d → StartsById d → (o : Option Parts) → network_parts d.network d.network.sends ≡ o → (q : Option ℕ)
     → d.start ≡ q → ok_or (parts_of o q) Missing ≡ Ok f → IsWhole f

@@ -2,6 +2,7 @@
 use Rattle.std.proofs.Common.{◌≡◌, ◌<◌, ◌+◌, ◌++◌, ℕ, List, true, Option, Some, length, map, take, get_or, set, filter_map, option_to_list, sym}
 use Rattle.std.proofs.Common.{◌∙◌, ap, subst, append_assoc}
 use Rattle.std.proofs.lemmas.List.{get_or-map, get_or_default, take_more_set}
+use Rattle.lwb_base.proofs.Lists.{filter_map_more}
 use Rattle.bus_rules.specs.Slots.{Message}
 use Rattle.bus_rules.specs.declared.delivery.Delivery.{Delivery}
 use Rattle.bus_rules.specs.declared.part.Part.{Part}
@@ -13,7 +14,7 @@ use Rattle.plain_bus.specs.declared.station.Station.{Station}
 use Rattle.plain_bus.specs.declared.window.Window.{Window}
 use Rattle.plain_bus.proofs.ListsInPlace.{one_more_mapped}
 use Rattle.plain_bus.proofs.SaidBehind.{window_at, first_at, as_many}
-use Rattle.plain_bus.proofs.TextFloods.{has_element, kept_more}
+use Rattle.plain_bus.proofs.TextFloods.{has_element}
 
 module _ (b : Behind) (ids : List ℕ) (ws : List Window) (xs : List Station) (behind : IsBehind b ids ws xs) (same : length ws ≡ length xs)
     (n : ℕ → BusNode) (olds : List BusNode) (are : olds ≡ map n ids) (may : AllMay b ids n)
@@ -66,4 +67,4 @@ module _ (b : Behind) (ids : List ℕ) (ws : List Window) (xs : List Station) (b
         more ∙ ap (λ (l : List Delivery). l ++ option_to_list d) so_far
         ∙ append_assoc before (filter_map g (take i ids)) (option_to_list d)
         ∙ ap (λ (l : List Delivery). before ++ l)
-        (ap (λ (e : Option Delivery). filter_map g (take i ids) ++ option_to_list e) same_d ∙ sym (kept_more g ids i v in_ids v_at))
+        (ap (λ (e : Option Delivery). filter_map g (take i ids) ++ option_to_list e) same_d ∙ sym (filter_map_more g ids i v in_ids v_at))

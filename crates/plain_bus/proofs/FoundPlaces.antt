@@ -6,14 +6,9 @@ use Rattle.std.specs.List.Sorted.{IsBinarySearchResult}
 use Rattle.std.specs.Ordering.{nat_cmp}
 use Rattle.std.proofs.lemmas.Bool.{cases_lt, cases_Bool}
 use Rattle.std.proofs.lemmas.List.Sorted.{searched}
+use Rattle.lwb_base.proofs.Orders.{rising}
 use Rattle.bus_terms.specs.Flooding.{has}
 use Rattle.plain_bus.proofs.HeardByMasks.{place_of}
-
-rising : (ids : List ℕ) → AllPairs (λ a b. a < b) ids → (i j : ℕ) → i ≤ j → j < length ids → get_or ids i 0 ≤ get_or ids j 0
-rising ids ascending i j le inside = elim (cases_lt i j) [
-  | inl before ↦ omega (arith, ascending i j 0 before inside)
-  | inr later ↦ (let same : i ≡ j = omega (arith, le, later) in rw same (omega arith))
-]
 
 module _ (ids : List ℕ) (ascending : AllPairs (λ a b. a < b) ids) (v i : ℕ) where
   pub found_there : IsBinarySearchResult (λ y. nat_cmp y v) ids (Ok i) → (i < length ids) × (get_or ids i 0 ≡ v)

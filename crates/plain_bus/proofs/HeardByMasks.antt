@@ -6,6 +6,7 @@ use Rattle.std.specs.Option.{option_and_then}
 use Rattle.std.proofs.lemmas.Bool.{false≢true, or_cases, eqb-true, lt-ltb}
 use Rattle.std.proofs.lemmas.List.{get_or-map, length-map}
 use Rattle.std.proofs.lemmas.Nat.Bits.{bit_at_and}
+use Rattle.lwb_base.proofs.Truths.{of_bit}
 use Rattle.link_trace.specs.Masks.{IsMask}
 use Rattle.link_trace.specs.Passes.{passes}
 use Rattle.link_trace.specs.Sealed.{Traced}
@@ -14,10 +15,6 @@ use Rattle.bus_terms.proofs.Options.{sends_parts}
 use Rattle.plain_bus.specs.FloodMasks.{IsFlood, IsKnown, AreOffers, station_at, sent_at, may_hear_at, takes_at}
 use Rattle.plain_bus.specs.declared.station.Flood.{Flood}
 use Rattle.plain_bus.specs.declared.station.Station.{Station}
-
-of_bit : (b : Bool) → ((if b then 1 else 0) == 1) ≡ b
-of_bit true = refl
-of_bit false = refl
 
 -- a mask tells of the node at a place
 pub bit_tells : (nodes : List ℕ) (test : ℕ → Bool) (mask place : ℕ) → IsMask test nodes mask → place < length nodes

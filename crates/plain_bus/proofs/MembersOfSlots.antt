@@ -71,7 +71,7 @@ mask_of_filtered p xs mask is i = is i ∙ elim (cases_lt i (length xs)) [
   | inr far ↦ rw (le-ltb i (length xs) far) refl
 ]
 
-first_of : (a b : Bool) → (a && b) ≡ true → a ≡ true
+pub first_of : (a b : Bool) → (a && b) ≡ true → a ≡ true
 first_of true b is = refl
 first_of false b is = is
 

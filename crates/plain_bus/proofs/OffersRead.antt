@@ -5,7 +5,9 @@ use Rattle.std.specs.Int.{bit_at}
 use Rattle.std.specs.Option.{option_map_or}
 use Rattle.std.proofs.lemmas.Bool.{false≢true, cond-true, eq-eqb, eqb-true}
 use Rattle.std.proofs.lemmas.List.{get_or_default}
-use Rattle.bus_terms.proofs.Options.{inspect, not_both, sends_parts, some_injective}
+use Rattle.std.proofs.lemmas.Option.{same_Some}
+use Rattle.lwb_base.proofs.Options.{not_both}
+use Rattle.bus_terms.proofs.Options.{inspect, sends_parts}
 use Rattle.plain_bus.specs.FloodMasks.{AreOffers, IsOffer, AllOffer, sent_at}
 use Rattle.plain_bus.specs.declared.station.Station.{Station}
 
@@ -93,7 +95,7 @@ module _ (xs : List Station) (from i : ℕ) (x : Station) (below : i < length xs
 
   agree : (origin o : ℕ) (u : Option ℕ) → option_map_or (λ p. not (p == origin)) u false ≡ false → u ≡ Some o → o ≡ origin
   agree origin o None same is = absurd (cc)
-  agree origin o (Some p) same is = let at : p ≡ o = some_injective p o is in sym at ∙ eqb-true p origin (true_is (p == origin) same)
+  agree origin o (Some p) same is = let at : p ≡ o = same_Some p o is in sym at ∙ eqb-true p origin (true_is (p == origin) same)
     where
       true_is : (b : Bool) → not b ≡ false → b ≡ true
       true_is true is = refl

@@ -2,8 +2,9 @@
 use Rattle.std.proofs.Common.{◌≡◌, ◌≤◌, ◌<◌, ◌+◌, ◌==◌, ◌||◌, ℕ, zero, suc, Bool, true, false, not, nat_lt, inl, inr, Option, Some, None, if◌then◌else◌}
 use Rattle.std.proofs.Common.{refl, sym, ◌∙◌, ap, subst, arith}
 use Rattle.std.proofs.lemmas.Bool.{and_parts, eqb-true, false≢true, cases_lt, ltb-true}
+use Rattle.std.proofs.lemmas.Option.{same_Some}
 use Rattle.bus_terms.specs.Flooding.{Setting, moment, has, agrees, may_hear, takes, hears, pick, first_heard, STEPS}
-use Rattle.bus_terms.proofs.Options.{heard_parts, sends_parts, some_injective}
+use Rattle.bus_terms.proofs.Options.{heard_parts, sends_parts}
 
 module _ (s : Setting) (v : ℕ) where
   kept_as : (k : ℕ) → (moment s (suc k)).heard v ≡ first_heard ((moment s k).heard v) k (hears s (moment s k) k v)
@@ -31,7 +32,7 @@ module _ (s : Setting) (v : ℕ) where
   own_or_not false e is on = absurd (false≢true on)
 
   pub sends_own : has s.initiators v ≡ true → (k o : ℕ) → (moment s k).sends v ≡ Some o → o ≡ v
-  sends_own on zero o is = sym (some_injective v o (sends_parts (has s.initiators v) (Some v) o (sym begins_as ∙ is)).1)
+  sends_own on zero o is = sym (same_Some v o (sends_parts (has s.initiators v) (Some v) o (sym begins_as ∙ is)).1)
   sends_own on (suc k) o is =
       let both = and_parts (not (has s.initiators v) || (v == o)) (agrees ((moment s k).heard v) o) (taken k o (heard_then k o is).1) in
       sym (eqb-true v o (own_or_not (has s.initiators v) (v == o) both.0 on))

@@ -4,23 +4,15 @@ use Rattle.std.specs.Prelude.{◌⊎◌}
 use Rattle.std.specs.List.{list_all, cons_option}
 use Rattle.std.proofs.lemmas.Bool.{cases_Bool, or_cases, or_right, eqb-true, false≢true, cond-true, cond-false}
 use Rattle.bus_terms.specs.Flooding.{Setting, Moment, has, offer, candidates, named, only_one, pick}
-use Rattle.bus_terms.proofs.Options.{only_when, only_from, in_filter, from_filter, sends_parts}
+use Rattle.bus_terms.proofs.Options.{only_when, only_from, in_filter, from_filter, sends_parts, all_are}
 use Rattle.plain_bus.specs.FloodMasks.{IsKnown}
 
 none_given : (give : ℕ → Option ℕ) → ((u : ℕ) → give u ≡ None) → (us : List ℕ) → filter_map give us ≡ []
 none_given give none [] = refl
 none_given give none (u ∷ us) = ap (λ (o : Option ℕ). cons_option o (filter_map give us)) (none u) ∙ none_given give none us
 
--- of several that differ none is the only one
-all_same : (o : ℕ) (os : List ℕ) → list_all (λ x. x == o) os ≡ true → (p : ℕ) → has os p ≡ true → p ≡ o
-all_same o os all p there = of_either (only_from (o ∷ os) None o (cond-true (list_all (λ x. x == o) os) (Some o) None all))
-  where
-    of_either : ((has (o ∷ os) o ≡ true) × ((q : ℕ) → has (o ∷ os) q ≡ true → q ≡ o)) ⊎ (None ≡ Some o) → p ≡ o
-    of_either (inl is) = is.1 p (or_right (o == p) _ there)
-    of_either (inr is) = absurd (cc)
-
 in_all : (c : ℕ) (os : List ℕ) → list_all (λ x. x == c) os ≡ true → (p : ℕ) → has (c ∷ os) p ≡ true → p ≡ c
-in_all c os all p there = elim (or_cases (c == p) _ there) [ inl same ↦ sym (eqb-true c p same) | inr later ↦ all_same c os all p later ]
+in_all c os all p there = elim (or_cases (c == p) _ there) [ inl same ↦ sym (eqb-true c p same) | inr later ↦ all_are c os all p later ]
 
 -- of several that differ none is the only one
 other_one : (cs : List ℕ) (other : Option ℕ) (o p : ℕ) → has cs o ≡ true → has cs p ≡ true → (p ≡ o → ⊥) → only_one cs other ≡ other

@@ -11,17 +11,15 @@ use Rattle.schedule_codec.specs.Spelling.{spelling, in_range}
 use Rattle.schedule_codec.proofs.Readings.{spelled_by, bytes_same, length-spelling}
 use Rattle.bus_rules.specs.Slots.{Message, ScheduleOf, DataOf, RequestOf, message_length}
 use Rattle.lwb_member.specs.Said.{message_of, data_in, request_in}
-
-first : (a b : Bool) → (a && b) ≡ true → a ≡ true
-first a b is = (and_parts a b is).0
+use Rattle.plain_bus.proofs.MembersOfSlots.{first_of}
 
 data_long : (p : List ℕ) → is_data p ≡ true → 8 + length (drop 8 p) ≡ length p
 data_long p is =
-    let long = leb-true 8 (length p) (first _ _ (first _ _ (first _ _ (first _ _ (first _ _ (first _ _ (first _ _ (first _ _ is)))))))) in
+    let long = leb-true 8 (length p) (first_of _ _ (first_of _ _ (first_of _ _ (first_of _ _ (first_of _ _ (first_of _ _ (first_of _ _ (first_of _ _ is)))))))) in
     omega (arith, long, length-drop 8 p)
 
 request_long : (p : List ℕ) → is_request p ≡ true → 7 ≡ length p
-request_long p is = sym (eqb-true (length p) 7 (first _ _ (first _ _ (first _ _ (first _ _ (first _ _ (first _ _ (first _ _ is))))))))
+request_long p is = sym (eqb-true (length p) 7 (first_of _ _ (first_of _ _ (first_of _ _ (first_of _ _ (first_of _ _ (first_of _ _ (first_of _ _ is))))))))
 
 schedule_long : (p : List ℕ) (x : Schedule) → schedule_of p ≡ Some x → length_of x ≡ length p
 schedule_long p x is =

@@ -11,6 +11,7 @@ use Rattle.bus_rules.specs.declared.tune.Tune.TheVariants.{Scan, Hold, Host}
 use Rattle.bus_rules.specs.Cores.{Core}
 use Rattle.bus_rules.specs.States.{State, StateOff, StateOn}
 use Rattle.bus_rules.specs.Tuning.{rank_of, hosts_in, holds_in}
+use Rattle.bus_rules.proofs.Ranks.{hosts_rank, holds_rank}
 use Rattle.bus_terms.specs.FloodOfText.{ids}
 use Rattle.bus_terms.specs.Rounds.{plan_in, rank_in, round_plan}
 use Rattle.bus_terms.specs.ScriptedStates.{is_on}
@@ -69,16 +70,6 @@ find_mapped p g (x ∷ xs) = by_first (p (g x)) (find_mapped p g xs)
         ≡ option_map g (if b then Some x else find (λ x. p (g x)) xs)
     by_first true rest = refl
     by_first false rest = rest
-
-hosts_rank : (rank f : ℕ) (t : Tune) → hosts_in rank f t ≡ true → (rank_of t == rank) ≡ true
-hosts_rank rank f (Host r due) is = (and_parts (r == rank) (due == f) is).0
-hosts_rank rank f (Hold r due) is = absurd (false≢true is)
-hosts_rank rank f (Scan r w) is = absurd (false≢true is)
-
-holds_rank : (rank f : ℕ) (t : Tune) → holds_in rank f t ≡ true → (rank_of t == rank) ≡ true
-holds_rank rank f (Hold r due) is = (and_parts (r == rank) (due == f) is).0
-holds_rank rank f (Host r due) is = absurd (false≢true is)
-holds_rank rank f (Scan r w) is = absurd (false≢true is)
 
 -- a test of a node's tune that only those of this rank pass
 module _ (rank : ℕ) (test : Core → Bool) (ranked : (c : Core) → test c ≡ true → (rank_of c.tune == rank) ≡ true) where

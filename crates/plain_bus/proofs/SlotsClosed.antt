@@ -1,6 +1,6 @@
 -- What the closing of a slot changes and delivers is what the round's definition says of each node.
 use Rattle.std.proofs.Common.{◌≡◌, ℕ, Bool, true, false, ◌&&◌, ◌||◌, ◌==◌, Option, Some, None, is_some, refl, sym, ◌∙◌, ap, if◌then◌else◌, option_map}
-use Rattle.std.proofs.lemmas.Bool.{false≢true, eq-eqb, and_parts}
+use Rattle.std.proofs.lemmas.Bool.{false≢true, eq-eqb, and_parts, and_right}
 use Rattle.lwb_base.specs.Messages.{Schedule, node_of, stream_of}
 use Rattle.bus_rules.specs.Streams.{Waiting, first_waiting, requested}
 use Rattle.scenario_text.specs.ScenarioParts.{ScenarioParts}
@@ -12,6 +12,7 @@ use Rattle.bus_rules.specs.declared.tune.Tune.TheVariants.{Scan, Hold, Host}
 use Rattle.bus_rules.specs.declared.part.Part.{Part}
 use Rattle.bus_rules.specs.declared.part.Part.TheVariants.{Opening, Data as DataSlot, Contention, Closing}
 use Rattle.bus_rules.specs.States.{State, StateOff, StateOn}
+use Rattle.bus_rules.proofs.Ranks.{not_scanner, hosts_own}
 use Rattle.bus_terms.specs.Rounds.{opened_at, said_in, takes_part, closed_by, left_by}
 use Rattle.bus_terms.specs.ScriptedStates.{setup_in}
 use Rattle.bus_terms.proofs.OtherRanks.{IsElsewhere, no_window}
@@ -20,11 +21,6 @@ use Rattle.plain_bus.specs.SlotFloods.{seen_by}
 use Rattle.plain_bus.proofs.MembersOfSlots.{window_at}
 
 -- a node of another rank is seen as one that is off
-not_scanner : (rank : ℕ) (t : Tune) → (rank_of t == rank) ≡ false → scans rank t ≡ false
-not_scanner rank (Scan r w) other = other
-not_scanner rank (Hold r d) other = refl
-not_scanner rank (Host r d) other = refl
-
 pub none_takes : (rank : ℕ) (part : Part) (x : State) → IsElsewhere rank x → takes_part rank part (StateOff 0) None ≡ takes_part rank part x None
 none_takes rank part (StateOff boots) other = refl
 none_takes rank part (StateOn c) other = ap (λ (b : Bool). is_schedule_part part && b) (sym (not_scanner rank c.tune other))
@@ -63,11 +59,6 @@ untouched s f part v (StateOff boots) = refl
 untouched s f part v (StateOn c) = refl
 
 -- a host of this round says its schedule
-hosts_own : (rank f : ℕ) (t : Tune) → hosts_in rank f t ≡ true → hosts_in (rank_of t) f t ≡ true
-hosts_own rank f (Scan r w) is = absurd (false≢true is)
-hosts_own rank f (Hold r d) is = absurd (false≢true is)
-hosts_own rank f (Host r d) is = rw (eq-eqb r r refl) (and_parts (r == rank) (d == f) is).1
-
 host_says : (s : ScenarioParts) (rank f : ℕ) (part : Part) (v : ℕ) (c : Core) → is_schedule_part part ≡ true → hosts_in rank f c.tune ≡ true
     → is_some (opened (setup_in s v) f part c).message ≡ true
 host_says s rank f (DataSlot o) v c sched host = absurd (false≢true sched)
@@ -105,10 +96,6 @@ host_scans_not rank (Host r d) host = refl
 never : (m : Message) → ◌≡◌ {A = Option Message} (Some m) None → ⊥
 never m is = cc
 
-and_false : (a b : Bool) → b ≡ false → (a && b) ≡ false
-and_false true b is = is
-and_false false b is = refl
-
 -- a host accepts no schedule: in its own round it says one itself, and otherwise it takes no part
 pub may_accept : (s : ScenarioParts) (rank f : ℕ) (part : Part) (v : ℕ) (x : State) (heard : Option Message)
     → (is_some (said_in (opened_at s rank f part v x)) ≡ true → heard ≡ None) → (takes_part rank part x (opened_at s rank f part v x) ≡ false → heard ≡ None)
@@ -132,7 +119,7 @@ may_accept s rank f part v (StateOn c) (Some (ScheduleOf m)) quiet outside plain
     by_tests true true true is host sched quiet outside =
         absurd (never (ScheduleOf m) (quiet (host_says s rank f part v c sched (member_host rank f c.tune (is_fresh c) host is))))
     by_tests false true true is host sched quiet outside =
-        absurd (never (ScheduleOf m) (outside (and_false (is_schedule_part part) (scans rank c.tune) (host_scans_not rank c.tune host))))
+        absurd (never (ScheduleOf m) (outside (and_right (is_schedule_part part) (scans rank c.tune) (host_scans_not rank c.tune host))))
 
 -- a schedule is said in the first slot and the last alone
 pub no_schedule : (s : ScenarioParts) (rank f : ℕ) (part : Part) (v : ℕ) (x : State) (m : Schedule) → is_schedule_part part ≡ false

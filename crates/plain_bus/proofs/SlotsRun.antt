@@ -4,6 +4,7 @@ use Rattle.std.proofs.Common.{option_map, option_and_then, subst, map, filter_ma
 use Rattle.std.specs.List.{cons_option}
 use Rattle.std.proofs.lemmas.Bool.{false≢true, or_left, or_right, eq-eqb}
 use Rattle.lwb_base.specs.Messages.{Plan, Schedule}
+use Rattle.lwb_base.proofs.Truths.{and_false}
 use Rattle.scenario_text.specs.ScenarioParts.{ScenarioParts}
 use Rattle.bus_rules.specs.declared.part.Part.{Part}
 use Rattle.bus_rules.specs.Slots.{Message, ScheduleOf, Opened, Closed, part_of, is_schedule_part, delivery_of}
@@ -51,10 +52,6 @@ kept_same_in g h (x ∷ xs) same =
 may_none : (x : State) → MayAcceptIn x None
 may_none (StateOff boots) = tt
 may_none (StateOn c) = tt
-
-sched_none : (b : Bool) → (b && false) ≡ false
-sched_none true = refl
-sched_none false = refl
 
 module _ (s : ScenarioParts) (rank f : ℕ) (p : Plan) (start others : ℕ → State) (j : ℕ) where
   abbrev part : Part
@@ -123,7 +120,7 @@ module _ (s : ScenarioParts) (rank f : ℕ) (p : Plan) (start others : ℕ → S
       let other = other_rank v is in
       outside v there
       (ap (takes_part rank part (states v)) (no_window s rank f part v (states v) other) ∙ sym (none_takes rank part (states v) other)
-      ∙ sched_none (is_schedule_part part))
+      ∙ and_false (is_schedule_part part))
 
   plain : (v : ℕ) → is_schedule_part part ≡ false → (m : Schedule) → heard_at behind v ≡ Some (ScheduleOf m) → ⊥
   plain v no_sched m is = by_first (is_some (said_in (window v))) ((moment x.flood STEPS).heard v) is

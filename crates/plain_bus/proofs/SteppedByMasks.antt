@@ -7,12 +7,13 @@ use Rattle.std.proofs.lemmas.Bool.{false≢true, and_parts}
 use Rattle.std.proofs.lemmas.Bool.Decides.{nat_tests}
 use Rattle.std.proofs.lemmas.List.{get_or-map, length-map, take_more}
 use Rattle.std.proofs.lemmas.Nat.Bits.{bit_at-zero}
+use Rattle.std.proofs.lemmas.Option.{same_Some}
 use Rattle.link_trace.specs.Masks.{IsMaskUpto}
 use Rattle.link_trace.specs.Sealed.{Traced}
 use Rattle.link_trace.proofs.MaskBits.{one_set, one_unset, same_tests}
 use Rattle.bus_terms.specs.Flooding.{Setting, Moment, STEPS, has, offer, pick, may_hear, takes, hears, first_heard, next, beginning, moment}
 use Rattle.bus_terms.proofs.HeardOrigins.{heard_of}
-use Rattle.bus_terms.proofs.Options.{inspect, sends_parts, heard_parts, some_injective}
+use Rattle.bus_terms.proofs.Options.{inspect, sends_parts, heard_parts}
 use Rattle.plain_bus.specs.FloodMasks.{IsFlood, IsKnown, AreAt, station_at, station_after, station_first, with_sender}
 use Rattle.plain_bus.proofs.HeardByMasks.{bit_tells, place_of}
 use Rattle.plain_bus.proofs.Picks.{nothing_picked}
@@ -33,7 +34,7 @@ known_next s k m known = record {
 known_first : (s : Setting) → ((v : ℕ) → has s.initiators v ≡ true → has s.everyone v ≡ true) → IsKnown s (beginning s)
 known_first s inside = record {
   senders = λ v o is. inside v (sends_parts (has s.initiators v) (Some v) o is).0;
-  origins = λ v o is. let p = sends_parts (has s.initiators v) (Some v) o is in subst (λ (u : ℕ). has s.initiators u ≡ true) (some_injective v o p.1) p.0;
+  origins = λ v o is. let p = sends_parts (has s.initiators v) (Some v) o is in subst (λ (u : ℕ). has s.initiators u ≡ true) (same_Some v o p.1) p.0;
 }
 
 pub known_at : (s : Setting) → ((v : ℕ) → has s.initiators v ≡ true → has s.everyone v ≡ true) → (k : ℕ) → IsKnown s (moment s k)

@@ -4,13 +4,10 @@ use Rattle.std.proofs.Common.{◌∙◌, ap, arith, if◌then◌else◌, add-one
 use Rattle.std.specs.Int.{bit_at}
 use Rattle.std.specs.List.{range_with_len, last_or}
 use Rattle.std.proofs.lemmas.List.Elements.{filter-append}
+use Rattle.lwb_base.proofs.Lists.{range_more as range_from}
 use Rattle.plain_bus.specs.FloodMasks.{AreSendersOf}
 use Rattle.plain_bus.specs.SlotCosts.{steps_at, steps_in}
 use Rattle.plain_bus.proofs.HeardByMasks.{bit_tells}
-
-range_from : (a n : ℕ) → range_with_len a (suc n) ≡ range_with_len a n ++ (a + n) ∷ []
-range_from a zero = ap (λ (k : ℕ). k ∷ []) (omega arith)
-range_from a (suc n) = ap (λ (l : List ℕ). a ∷ l) (range_from (a + 1) n ∙ ap (λ (k : ℕ). range_with_len (a + 1) n ++ k ∷ []) (omega arith))
 
 pub range_more : (n : ℕ) → range_with_len 0 (n + 1) ≡ range_with_len 0 n ++ n ∷ []
 range_more n = ap (range_with_len 0) (add-one n) ∙ range_from 0 n ∙ ap (λ (k : ℕ). range_with_len 0 n ++ k ∷ []) (omega arith)

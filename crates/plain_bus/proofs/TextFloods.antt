@@ -6,6 +6,8 @@ use Rattle.std.proofs.lemmas.Bool.{false≢true, eqb-true, eq-eqb, ne_eqb, cases
 use Rattle.std.proofs.lemmas.List.{take_more}
 use Rattle.std.proofs.lemmas.List.Elements.{filter_map-append}
 use Rattle.std.proofs.lemmas.List.Sums.{sum_by-cons}
+use Rattle.std.proofs.lemmas.Option.{same_Some}
+use Rattle.lwb_base.proofs.Lists.{one_kept}
 use Rattle.link_trace.specs.Masks.{IsMask}
 use Rattle.link_trace.specs.Passes.{Lines, passes, captured}
 use Rattle.link_trace.specs.Sealed.{Traced}
@@ -14,7 +16,6 @@ use Rattle.scenario_text.specs.FloodParts.{FloodParts, IsSealed, knows}
 use Rattle.scenario_text.specs.declared.lines.NodeLine.{NodeLine}
 use Rattle.bus_terms.specs.Flooding.{STEPS, has, moment}
 use Rattle.bus_terms.specs.FloodOfText.{ids, setting, acceptance, outcome}
-use Rattle.bus_terms.proofs.Options.{some_injective}
 use Rattle.bus_terms.proofs.SendingCounts.{all_sendings}
 use Rattle.plain_bus.specs.FloodMasks.{IsFlood, station_at, accepted_from}
 use Rattle.plain_bus.specs.declared.station.Flood.{Flood}
@@ -34,7 +35,7 @@ only_start start v = elim (cases_eq v start) [
 is_start : (start v : ℕ) → has (start ∷ []) v ≡ true → v ≡ start
 is_start start v there = eqb-true v start (sym (only_start start v) ∙ there)
 
-has_known : (ns : List NodeLine) (v : ℕ) → knows ns v ≡ has (ids ns) v
+pub has_known : (ns : List NodeLine) (v : ℕ) → knows ns v ≡ has (ids ns) v
 has_known [] v = refl
 has_known (n ∷ ns) v = ap (λ (b : Bool). (n.node == v) || b) (has_known ns v)
 
@@ -67,24 +68,10 @@ module _ (f : FloodParts) (known : knows f.nodes f.start ≡ true) where
     everyone = subst (λ (ns : List ℕ). IsMask (has (ids f.nodes)) ns x.everyone) (sym sealed) (all_here (ids f.nodes) x.everyone everyone);
     here = λ v there. ap (λ (ns : List ℕ). has ns v) sealed ∙ there;
     inside = λ v there. ap (has (ids f.nodes)) (is_start f.start v there) ∙ sym (has_known f.nodes f.start) ∙ known;
-    lone = λ o v at there. is_start f.start v there ∙ some_injective f.start o (sym (ap (λ (y : Flood). y.lone) is) ∙ at);
+    lone = λ o v at there. is_start f.start v there ∙ same_Some f.start o (sym (ap (λ (y : Flood). y.lone) is) ∙ at);
   }
 
 -- the acceptances of the stations
-one_kept : {X Y : Type 0} (g : X → Option Y) (x : X) → filter_map g (x ∷ []) ≡ option_to_list (g x)
-one_kept {X} {Y} g x = of_one (g x)
-  where
-    of_one : (o : Option Y) → filter_map (λ (z : Option Y). z) (o ∷ []) ≡ option_to_list o
-    of_one None = refl
-    of_one (Some y) = refl
-
-pub kept_more : {X Y : Type 0} (g : X → Option Y) (xs : List X) (i : ℕ) (x : X) → i < length xs → x ≡ get_or xs i x → filter_map g (take (i + 1) xs)
-    ≡ filter_map g (take i xs) ++ option_to_list (g x)
-kept_more g xs i x below at =
-    ap (filter_map g) (take_more xs i x below ∙ ap (λ (y : _). take i xs ++ y ∷ []) (sym at))
-    ∙ filter_map-append g (take i xs) (x ∷ [])
-    ∙ ap (λ (l : List _). filter_map g (take i xs) ++ l) (one_kept g x)
-
 kept_of_map : {X Y Z : Type 0} (g : Y → Option Z) (h : X → Y) (w : X → Option Z) → ((x : X) → g (h x) ≡ w x) → (xs : List X)
     → filter_map g (map h xs) ≡ filter_map w xs
 kept_of_map g h w same [] = refl

@@ -3,12 +3,12 @@ use Rattle.std.proofs.Common.{◌≡◌, ◌+◌, ◌<◌, ◌≤◌, ℕ, List,
 use Rattle.std.proofs.Common.{filter_map, refl, sym, ◌∙◌, ap, arith, append-nil, length-append, Bool, true, false, if◌then◌else◌}
 use Rattle.std.proofs.lemmas.List.{take_more, take_all, flat_map_more}
 use Rattle.std.proofs.lemmas.List.Elements.{filter_map-append}
+use Rattle.lwb_base.proofs.Lists.{one_kept, filter_map_more}
 use Rattle.lwb_base.specs.Profile.{Numbers}
 use Rattle.radio_model.specs.Meetings.{rival_to, rivals_in, rivals_to}
 use Rattle.radio_model.specs.declared.sending.Sending.{Sending}
 use Rattle.radio_model.specs.declared.station.Station.{Station}
 use Rattle.radio_model.specs.declared.rivals.Rival.{Rival}
-pub use Rattle.lwb_base.proofs.Lists.{one_kept, filter_map_more}
 
 -- what a list of stations brings, with one more station
 pub rivals_more : (p : Numbers) (x : Sending) (sts : List Station) (i : ℕ) (st : Station) → i < length sts → st ≡ get_or sts i st

@@ -1,6 +1,6 @@
 use Rattle.std.proofs.Common.{◌≡◌, ◌<◌, List, length, sym, ◌∙◌, ap, subst, arith, rules}
 use Rattle.std.proofs.lemmas.Bool.{false≢true}
-use Rattle.radio_model.proofs.Members.{same_default}
+use Rattle.std.proofs.lemmas.List.{get_or_default}
 use Rattle.scenario_text.proofs.SoundScenarios.{sound}
 use Rattle.scenario_clocks.specs.StatedClocks.{scenario_clock}
 use Rattle.scenario_clocks.proofs.StatedDrift.{scenario_states}
@@ -31,7 +31,7 @@ returns-then-not-branch-clause-astray c =
     let inside : l.id < length l.logs.items = omega (arith, l.invariant.ids, c.loop-id-test.true) in
     let logged : c.replace-log.result ≡ log_by c.args.air.now c.unwrap-node.result =
     c.replace-log.ensures.value ∙ c.index_mut.ensures.value
-    ∙ same_default l.logs.items l.id c.index_mut.result.now nothing inside
+    ∙ get_or_default l.logs.items l.id c.index_mut.result.now nothing inside
     ∙ l.invariant.left l.id (omega arith)
     ∙ ap (log_by c.args.air.now) (sym same) in
     record {

@@ -1,5 +1,5 @@
 use Rattle.std.proofs.Common.{◌≡◌, ◌∙◌, sym, subst, not, Bool, ◌↔◌, true, Contains, get_or}
-use Rattle.radio_model.proofs.Members.{same_default}
+use Rattle.std.proofs.lemmas.List.{get_or_default}
 use Rattle.radio_model.specs.OnAir.{Sending}
 use Rattle.air_check.specs.Flags.{IsDue}
 use Rattle.air_check.specs.Verdicts.{IsGiven}
@@ -18,7 +18,7 @@ returns-then-not-is_received c =
     (subst (λ (b : Bool). (b ≡ true) ↔ Contains hs (record { node = v; sending = x })) (sym c.is_received.ensures.value)
     (are.each k v d c.requires.place c.is_received.ensures.range))
     c.if-not-is_received.true c.is_given.result
-    (subst (λ (y : Sending). (c.is_given.result ≡ true) ↔ IsGiven s air v y) (c.index.ensures ∙ same_default sent k c.index.result.now d c.requires.place)
+    (subst (λ (y : Sending). (c.is_given.result ≡ true) ↔ IsGiven s air v y) (c.index.ensures ∙ get_or_default sent k c.index.result.now d c.requires.place)
     (c.is_given.ensures air is))
 
 pub returns-else-not-is_received : goal.returns-else-not-is_received

@@ -1,6 +1,6 @@
 use Rattle.std.proofs.Common.{ℕ, ◌<◌, length, sym, subst, arith, ◌∙◌}
 use Rattle.std.proofs.lemmas.Bool.{both_ways}
-use Rattle.radio_model.proofs.Members.{same_default}
+use Rattle.std.proofs.lemmas.List.{get_or_default}
 use Rattle.air_log.specs.Courses.{hearing_of}
 use Rattle.air_check.proofs.Marked.{IsMarked, passed, marked, flags_more}
 use Rattle.air_check.proofs.flags.receive.Goals as goal
@@ -21,10 +21,10 @@ loop-k-preserved c =
     elim c.if-is_of.branch [
       | then-is_of w ↦ rw (w.flags-is, w.set_flag.ensures.value)
           (marked sent old h.node h.sending begin k flags w.set_flag.ensures.range (omega arith) below c.requires.size c.loop-k.invariant
-          (λ d. same_default sent k d c.index-sent-k.result below ∙ sym c.index-sent-k.is ∙ c.is_of.ensures.0 w.if-is_of.true))
+          (λ d. get_or_default sent k d c.index-sent-k.result below ∙ sym c.index-sent-k.is ∙ c.is_of.ensures.0 w.if-is_of.true))
       | else-is_of w ↦ rw w.flags-is
           (passed sent old h.node h.sending begin k flags c.loop-k.invariant
-          (λ d is. both_ways c.is_of.result w.if-is_of.false (c.is_of.ensures.1 (c.index-sent-k.is ∙ same_default sent k c.index-sent-k.result d below ∙ is))))
+          (λ d is. both_ways c.is_of.result w.if-is_of.false (c.is_of.ensures.1 (c.index-sent-k.is ∙ get_or_default sent k c.index-sent-k.result d below ∙ is))))
     ]
 
 pub returns : goal.returns

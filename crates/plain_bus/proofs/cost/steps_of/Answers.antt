@@ -1,6 +1,6 @@
 use Rattle.std.proofs.Common.{◌+◌, ◌∷◌, [], ℕ, None, length, sym, ◌∙◌, ap, arith, length-append}
 use Rattle.std.specs.List.{last_or}
-use Rattle.bus_terms.proofs.Options.{some_injective}
+use Rattle.std.proofs.lemmas.Option.{same_Some}
 use Rattle.plain_bus.specs.SlotCosts.{steps_at}
 use Rattle.plain_bus.proofs.StepsCounted.{one_step_more, no_step_more, last_pushed}
 use Rattle.plain_bus.proofs.cost.steps_of.Goals as goal
@@ -20,7 +20,7 @@ loop-step-preserved c =
             count = w.count-is ∙ ap (λ (k : ℕ). k + 1) sofar.count ∙ sym (ap length more ∙ length-append ks (n ∷ []));
             last = w.last-is ∙ sym (ap (last_or None) more ∙ last_pushed None ks n);
             few = omega (arith, w.count-is, sofar.few);
-            early = λ k is. (let same = some_injective n k (sym w.last-is ∙ is) in omega (arith, same));
+            early = λ k is. (let same = same_Some n k (sym w.last-is ∙ is) in omega (arith, same));
           }
           )
       | else-has_bit w ↦ (

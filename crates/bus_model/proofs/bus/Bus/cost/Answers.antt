@@ -4,9 +4,8 @@ use Rattle.bus_terms.specs.Bus.{Cost, bus_cost}
 use Rattle.bus_terms.specs.FloodOfText.{ids}
 use Rattle.bus_terms.specs.Flooding.{has}
 use Rattle.plain_bus.specs.Networks.{Network}
-use Rattle.plain_bus.proofs.TextFloods.{has_element}
+use Rattle.plain_bus.proofs.TextFloods.{has_element, has_known}
 use Rattle.bus_model.specs.BusRuns.{BusRun}
-use Rattle.bus_model.proofs.LinesAllowed.{has_known}
 use Rattle.bus_model.proofs.bus.Bus.cost.Goals as goal
 
 pub returns-in-Some : goal.returns-in-Some
