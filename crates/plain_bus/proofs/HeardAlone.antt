@@ -1,14 +1,14 @@
 -- What is heard where one origin alone is sent, read off the masks.
-use Rattle.std.proofs.Common.{◌≡◌, ◌≢◌, ◌<◌, ℕ, Bool, true, false, ◌&&◌, ◌||◌, not, ◌==◌, inl, inr, Option, Some, None, is_some, nat_lt, if◌then◌else◌, refl}
-use Rattle.std.proofs.Common.{length, get_or, map, ◌+◌, sym, ◌∙◌, ap, subst, arith, add-zero}
+use Rattle.std.proofs.Common.{◌≡◌, ◌≢◌, ◌<◌, ℕ, Bool, true, false, ◌&&◌, not, ◌==◌, inl, inr, Option, Some, None, is_some, if◌then◌else◌, refl}
+use Rattle.std.proofs.Common.{length, get_or, sym, ◌∙◌, ap, arith}
 use Rattle.std.specs.Int.{bit_at}
-use Rattle.std.proofs.lemmas.Bool.{cases_Bool, cases_eq, and_parts, eq-eqb, eqb-true, false≢true, cond-true}
+use Rattle.std.proofs.lemmas.Bool.{cases_Bool, cases_eq, eq-eqb, eqb-true, false≢true}
 use Rattle.std.proofs.lemmas.Nat.Bits.{bit_at-lt, bit_at-zero}
 use Rattle.link_trace.specs.Passes.{passes}
 use Rattle.link_trace.specs.Sealed.{Traced}
-use Rattle.bus_terms.specs.Flooding.{Setting, Moment, STEPS, has, offer, pick, hears, first_heard}
-use Rattle.bus_terms.proofs.Options.{inspect, some_injective, sends_parts}
-use Rattle.plain_bus.specs.FloodMasks.{AreAt, AreReached, IsFlood, IsKnown, IsLone, heard_alone, may_hear_at, station_after, station_at, takes_at}
+use Rattle.bus_terms.specs.Flooding.{Setting, Moment, has, offer, pick, hears}
+use Rattle.bus_terms.proofs.Options.{inspect}
+use Rattle.plain_bus.specs.FloodMasks.{AreAt, AreReached, IsFlood, IsKnown, IsLone, heard_alone, may_hear_at, station_at, takes_at}
 use Rattle.plain_bus.proofs.HeardByMasks.{bit_tells, place_of, deaf, unreached, refused, heard}
 use Rattle.plain_bus.proofs.Picks.{nothing_picked, only_picked, alone}
 use Rattle.plain_bus.specs.declared.station.Flood.{Flood}

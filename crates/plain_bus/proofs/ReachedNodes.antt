@@ -1,15 +1,14 @@
 -- Whom the senders of a step reach, by masks.
-use Rattle.std.proofs.Common.{◌≡◌, ◌≢◌, ◌<◌, ℕ, Bool, true, false, ◌&&◌, ◌==◌, inl, inr, length, get_or, if◌then◌else◌, bit_or, nat_lt, sym, ◌∙◌, ap, subst, arith}
+use Rattle.std.proofs.Common.{◌≡◌, ◌≢◌, ◌<◌, ℕ, Bool, true, false, ◌&&◌, ◌==◌, inl, inr, length, get_or, if◌then◌else◌, bit_or, nat_lt, sym, ◌∙◌, ap, arith}
 use Rattle.std.specs.Int.{bit_at}
-use Rattle.std.proofs.lemmas.Bool.{and_parts, cases_eq, eq-eqb}
+use Rattle.std.proofs.lemmas.Bool.{and_parts, cases_eq}
 use Rattle.std.proofs.lemmas.Nat.Bits.{bit_at_or, bit_at-lt, bit_at-zero}
 use Rattle.link_trace.specs.Masks.{IsMask}
 use Rattle.link_trace.specs.Passes.{passes}
 use Rattle.link_trace.specs.Sealed.{Traced}
-use Rattle.plain_bus.specs.FloodMasks.{AreReached}
 use Rattle.plain_bus.specs.declared.station.Flood.{Flood}
 use Rattle.plain_bus.proofs.HeardByMasks.{bit_tells}
-use Rattle.plain_bus.proofs.PlacesSeen.{AreSeen, none_seen, one_seen}
+use Rattle.plain_bus.proofs.PlacesSeen.{AreSeen, one_seen}
 
 module _ (t : Traced) (f : Flood) (k : ℕ) where
   abbrev reaches : ℕ → ℕ → Bool

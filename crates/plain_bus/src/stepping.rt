@@ -88,11 +88,13 @@ fn pass(station: &mut Station, flood: &Flood, step: u8, place: u8, reached: u64,
     requires times { station.old.times ≤ step }
     ensures { station.new ≡ station_after step station.old (heard_alone flood.now reached place origin station.old) }
 {
-    if station.sends.is_none() && !has_bit(reached, place) {
+    if station.sends.is_some() {
+        *station = after(station, step, None);
         return;
     }
-    let heard = hears_alone(flood, station, place, reached, origin);
-    *station = after(station, step, heard);
+    if let Some(origin) = hears_alone(flood, station, place, reached, origin) {
+        *station = after(station, step, Some(origin));
+    }
 }
 
 impl Stations {

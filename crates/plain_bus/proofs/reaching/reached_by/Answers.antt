@@ -1,4 +1,4 @@
-use Rattle.std.proofs.Common.{◌≡◌, ◌≤◌, ◌<◌, ℕ, bit_or, length, sym, ap, subst, arith}
+use Rattle.std.proofs.Common.{◌≡◌, ◌≤◌, ◌<◌, length, arith}
 use Rattle.std.specs.Int.{bit_at}
 use Rattle.plain_bus.proofs.PlacesSeen.{all_seen, none_seen, seen_below}
 use Rattle.plain_bus.proofs.ReachedNodes.{IsWithin, more_from, more_within, nobody_reached}

@@ -1,4 +1,4 @@
-use Rattle.std.proofs.Common.{◌≡◌, ◌≤◌, ◌+◌, All, length, map, take, drop, is_some}
+use Rattle.std.proofs.Common.{◌≡◌, ◌≤◌, ◌+◌, All, map, take, drop, is_some}
 use Rattle.link_trace.specs.Masks.{IsMaskUpto}
 use Rattle.bus_terms.specs.Flooding.{Setting, Moment, next}
 use Rattle.plain_bus.specs.FloodMasks.{AreAt, IsFlood, IsKnown, IsLone, station_at}
