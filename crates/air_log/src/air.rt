@@ -38,8 +38,7 @@ impl Air {
         ensures ok { OnOk result (self.new ≡ self.old ++ e ∷ []) }
         ensures err { OnErr result (self.new ≡ self.old) }
     {
-        self.entries.reserve(1)?;
-        self.entries.push_reserved(e);
+        self.entries.push(e)?;
         Ok(())
     }
 
