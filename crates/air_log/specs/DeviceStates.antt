@@ -15,7 +15,6 @@ use Rattle.node_core.specs.Nodes.{Node, NodeState}
 use Rattle.node_core.specs.Rows.{Stepped, row}
 use Rattle.node_core.specs.Rows.{node_after}
 use Rattle.air_log.specs.declared.entry.TunedEntry.{TunedEntry}
-use Rattle.air_log.specs.Trails.{sending_from}
 use Rattle.air_log.specs.WindowLogs.{windows_after}
 use Rattle.air_log.specs.Devices.{Device, Power, PowerOff, PowerOn, Listening, Ordered, Made, delivery_by, event}
 
@@ -108,11 +107,10 @@ abbrev pub with_sent : Option Sending → Made → Made
 with_sent None made = made
 with_sent (Some x) made = record made { sent = made.sent ++ x ∷ [] }
 
--- the sending of this packet that starts at tick t, if one does, and the sending that ends at it
-abbrev pub started_by : Setup → ℕ → List ℕ → Option Listening → Option Sending → Option Sending
-started_by s t packet None sending = None
-started_by s t packet (Some l) (Some x) = None
-started_by s t packet (Some l) None = Some (sending_from s t packet l)
+-- the packet that is to be sent at this tick, and the sending that ends at it
+abbrev pub packet_due : ℕ → Option Ordered → Option (List ℕ)
+packet_due t None = None
+packet_due t (Some o) = if o.tick == t then Some o.packet else None
 
 abbrev pub ending_at : ℕ → Option Sending → Option Sending
 ending_at t None = None

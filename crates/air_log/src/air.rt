@@ -38,7 +38,8 @@ impl Air {
         ensures ok { OnOk result (self.new ≡ self.old ++ e ∷ []) }
         ensures err { OnErr result (self.new ≡ self.old) }
     {
-        self.entries.push(e)?;
+        self.entries.reserve(1)?;
+        self.entries.push_reserved(e);
         Ok(())
     }
 

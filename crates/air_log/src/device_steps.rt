@@ -6,7 +6,7 @@ ghost use Rattle.node_core.specs.Rows.{orders_by};
 ghost use Rattle.lwb_base.specs.Orders.{Gives};
 ghost use Rattle.air_log.specs.Devices.{Made, obeyed, event as event_at};
 ghost use Rattle.air_log.specs.Trails.{is_due, begun, ended};
-ghost use Rattle.air_log.specs.DeviceStates.{whole, IsSameNode, row_of, after_row, made_by, with_sent, started_by, ending_at, told_of, HappenedBy, IsTimely};
+ghost use Rattle.air_log.specs.DeviceStates.{whole, IsSameNode, row_of, after_row, made_by, with_sent, packet_due, ending_at, told_of, HappenedBy, IsTimely};
 
 use crate::device::Device;
 use bus_rules::Delivery;
@@ -79,33 +79,34 @@ impl Device {
         ensures node { IsSameNode self.old self.new }
         ensures core { self.new.core ≡ self.old.core }
     {
-        let started = match &self.ordered {
-            Some(ordered) if ordered.tick == t => self.started(t, &ordered.packet),
-            Some(_) | None => return None,
-        };
-        self.ordered = None;
-        if let Some(x) = &started {
-            self.sending = Some(copy_of(x));
-        }
-        started
-    }
-
-    // The transmission of this packet that starts at tick t, if the radio is on and the node does not send.
-    fn started(&self, t: u64, packet: &Packet) -> Option<Sending>
-        requires early { t ≤ 2 ^ 45 }
-        ensures { result ≡ started_by self.now.setup t packet.now self.now.listening self.now.sending }
-    {
+        let packet = self.take_ordered(t)?;
         let listening = self.listening?;
         if self.sending.is_some() {
             return None;
         }
-        Some(Sending {
+        let x = Sending {
             rank: listening.rank,
             node: self.node,
             start: t,
             end: t + self.profile.airtime(packet.length()),
-            packet: packet.copy(),
-        })
+            packet,
+        };
+        self.sending = Some(copy_of(&x));
+        Some(x)
+    }
+
+    // The packet that is to be sent at tick t.
+    fn take_ordered(&mut self, t: u64) -> Option<Packet>
+        ensures packet { result ≡ packet_due t self.old.ordered }
+        ensures after { self.new ≡ record self.old { ordered = if is_some result then None else self.old.ordered } }
+    {
+        match &self.ordered {
+            Some(ordered) if ordered.tick == t => {
+                let ordered = self.ordered.take()?;
+                Some(ordered.packet)
+            }
+            Some(_) | None => None,
+        }
     }
 
     /// The own transmission that ends at tick t, of which the node has to be notified. Returns `None` if and only if none does.
