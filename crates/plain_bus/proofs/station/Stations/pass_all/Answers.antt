@@ -1,4 +1,5 @@
-use Rattle.std.proofs.Common.{◌≡◌, ◌<◌, ◌≤◌, ◌+◌, ℕ, List, Bool, All, length, map, take, drop, get_or, set, is_some, if◌then◌else◌, subst, refl, sym, ◌∙◌, ap, arith, bit_or, ◌*◌, ◌^◌, ◌%◌}
+use Rattle.std.proofs.Common.{◌≡◌, ◌<◌, ◌≤◌, ◌+◌, ℕ, List, Bool, All, length, map, take, drop, get_or, set, is_some, if◌then◌else◌, subst}
+use Rattle.std.proofs.Common.{refl, sym, ◌∙◌, ap, arith, bit_or, ◌*◌, ◌^◌, ◌%◌}
 use Rattle.std.specs.List.{refill}
 use Rattle.std.proofs.lemmas.List.{take_all, take_at, length-map, get_or_default, take_more_set}
 use Rattle.std.proofs.lemmas.List.Elements.{All-push}
