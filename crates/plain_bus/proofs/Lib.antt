@@ -9,6 +9,8 @@ pub mod Picks
 pub mod PlacesSeen
 pub mod OffersRead
 pub mod HeardByMasks
+pub mod ReachedNodes
+pub mod HeardAlone
 pub mod SteppedByMasks
 pub mod SaidBehind
 pub mod ClosedBehind

@@ -81,6 +81,21 @@ may_hear_at f x place = (bit_at f.everyone place == 1) && is_none x.sends && nat
 abbrev pub takes_at : Flood → Station → ℕ → ℕ → Bool
 takes_at f x place o = (not (bit_at f.initiators place == 1) || (x.node == o)) && agrees x.heard o
 
+-- the mask has just the nodes that one of the senders' mask reaches in step k
+pub record AreReached (t : Traced) (f : Flood) (k senders mask : ℕ) : Type 0 where
+  pub some : (i : ℕ) → bit_at mask i ≡ 1
+      → (j : ℕ) × (j < length t.nodes) × (bit_at senders j ≡ 1) × (passes t.lines f.frame f.slot k (slice_index t.nodes j) (slice_index t.nodes i) ≡ true)
+  pub none : (i j : ℕ) → i < length t.nodes → bit_at mask i ≡ 0 → j < length t.nodes → bit_at senders j ≡ 1
+      → passes t.lines f.frame f.slot k (slice_index t.nodes j) (slice_index t.nodes i) ≡ false
+
+-- no other initiates
+abbrev pub IsLone : Setting → ℕ → Type 0
+IsLone s o = (v : ℕ) → has s.initiators v ≡ true → v ≡ o
+
+-- what a node hears where this origin alone is sent, and reaches the nodes of the mask
+abbrev pub heard_alone : Flood → ℕ → ℕ → ℕ → Station → Option ℕ
+heard_alone f mask place o x = if (bit_at mask place == 1) && may_hear_at f x place && takes_at f x place o then Some o else None
+
 -- the mask of the senders with the node at this place
 abbrev pub with_sender : ℕ → ℕ → Station → ℕ
 with_sender mask place x = if is_some x.sends then bit_or mask (1 * 2 ^ place % 2 ^ 64) else mask

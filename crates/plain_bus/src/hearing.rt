@@ -2,7 +2,7 @@
 
 ghost use Rattle.std.specs.Prelude.{◌≡◌, ◌<◌, ◌≤◌, length, slice_index};
 ghost use Rattle.bus_terms.specs.Flooding.{Setting, Moment, hears as hears_in, agrees as agrees_with};
-ghost use Rattle.plain_bus.specs.FloodMasks.{AreAt, IsFlood, IsKnown, may_hear_at, takes_at};
+ghost use Rattle.plain_bus.specs.FloodMasks.{AreAt, IsFlood, IsKnown, heard_alone, may_hear_at, takes_at};
 
 use crate::bits::has_bit;
 use crate::offers::picked;
@@ -28,6 +28,27 @@ pub fn hears(trace: &Trace, flood: &Flood, now: &Stations, step: u8, place: u8) 
         return None;
     };
     if takes(flood, &station, place, origin) {
+        Some(origin)
+    } else {
+        None
+    }
+}
+
+/// The same where this origin alone is sent, and reaches the nodes of the mask.
+pub(crate) fn hears_alone(
+    flood: &Flood,
+    station: &Station,
+    place: u8,
+    reached: u64,
+    origin: NodeId,
+) -> Option<NodeId>
+    requires { place < 64 }
+    ensures { result ≡ heard_alone flood.now reached place origin station.now }
+{
+    if has_bit(reached, place)
+        && may_hear(flood, station, place)
+        && takes(flood, station, place, origin)
+    {
         Some(origin)
     } else {
         None

@@ -13,6 +13,7 @@ mod network;
 mod node;
 mod offers;
 mod places;
+mod reaching;
 mod slot_flood;
 mod slot_windows;
 mod station;

@@ -4,10 +4,12 @@ ghost use Rattle.std.specs.Prelude.{◌≡◌, ◌<◌, ◌≤◌, ◌+◌, ◌+
 ghost use Rattle.bus_terms.specs.Flooding.{Setting, Moment, moment, beginning, next as next_moment, STEPS};
 ghost use Rattle.link_trace.specs.Sealed.{Traced};
 ghost use Rattle.scenario_text.specs.FloodParts.{IsSealed};
-ghost use Rattle.plain_bus.specs.FloodMasks.{AreAt, AreSenders, IsFlood, IsKnown, station_at, station_after, station_first, with_sender};
+ghost use Rattle.plain_bus.specs.FloodMasks.{AreAt, AreSenders, IsFlood, IsKnown, IsLone, heard_alone, station_at, station_after, station_first};
+ghost use Rattle.plain_bus.specs.FloodMasks.{with_sender};
 
-use crate::bits::has_bit;
-use crate::hearing::hears;
+use crate::bits::{has_bit, lowest, without_bit};
+use crate::hearing::{hears, hears_alone};
+use crate::reaching::reached_by;
 use crate::station::{Flood, Station, Stations};
 use arrayvec::ArrayVec;
 use link_trace::Trace;
@@ -79,23 +81,83 @@ impl Stations {
     }
 }
 
+// A node goes behind a step in which this origin alone is sent, and reaches the nodes of the mask.
+fn pass(station: &mut Station, flood: &Flood, step: u8, place: u8, reached: u64, origin: NodeId)
+    requires step { step ≤ 11 }
+    requires place { place < 64 }
+    requires times { station.old.times ≤ step }
+    ensures { station.new ≡ station_after step station.old (heard_alone flood.now reached place origin station.old) }
+{
+    if station.sends.is_some() {
+        *station = after(station, step, None);
+        return;
+    }
+    if let Some(origin) = hears_alone(flood, station, place, reached, origin) {
+        *station = after(station, step, Some(origin));
+    }
+}
+
 impl Stations {
-    // All nodes behind a step: as they are where nobody sends in it.
-    fn behind(self, trace: &Trace, flood: &Flood, step: u8) -> Stations
+    // All nodes go behind a step in which this origin alone is sent.
+    fn pass_all(&mut self, trace: &Trace, flood: &Flood, step: u8, origin: NodeId)
         requires step { step ≤ 11 }
-        requires sealed { length self.each.items ≡ length trace.now.nodes }
+        requires sealed { length self.old.each.items ≡ length trace.now.nodes }
         requires few { length trace.now.nodes ≤ 64 }
-        requires times { All (λ x. x.times ≤ step) self.each.items }
-        ensures at { (s : Setting) (m : Moment) → IsFlood s trace.now flood.now → IsKnown s m → AreAt m trace.now.nodes self
-            → AreAt (next_moment s step m) trace.now.nodes result }
-        ensures length { length result.each.items ≡ length trace.now.nodes }
-        ensures times { All (λ x. x.times ≤ step + 1) result.each.items }
+        requires times { All (λ x. x.times ≤ step) self.old.each.items }
+        ensures at { (s : Setting) (m : Moment) → IsFlood s trace.now flood.now → IsLone s origin → IsKnown s m → AreAt m trace.now.nodes self.old
+            → AreAt (next_moment s step m) trace.now.nodes self.new }
+        ensures length { length self.new.each.items ≡ length trace.now.nodes }
+        ensures times { All (λ x. x.times ≤ step + 1) self.new.each.items }
+    {
+        let reached = reached_by(trace, flood, step, self.senders, self.each.len());
+        let mut senders = 0;
+        let mut place = 0;
+        for station in self.each.iter_mut() {
+            pass(station, flood, step, place, reached, origin);
+            if station.sends.is_some() {
+                senders |= 1 << place;
+            }
+            place += 1;
+        }
+        self.senders = senders;
+    }
+
+    // All nodes go behind a step: they stay as they are where nobody sends in it. One initiator alone has its origin sent
+    // and no other.
+    fn go_on(&mut self, trace: &Trace, flood: &Flood, step: u8)
+        requires step { step ≤ 11 }
+        requires sealed { length self.old.each.items ≡ length trace.now.nodes }
+        requires few { length trace.now.nodes ≤ 64 }
+        requires times { All (λ x. x.times ≤ step) self.old.each.items }
+        ensures at { (s : Setting) (m : Moment) → IsFlood s trace.now flood.now → IsKnown s m → AreAt m trace.now.nodes self.old
+            → AreAt (next_moment s step m) trace.now.nodes self.new }
+        ensures length { length self.new.each.items ≡ length trace.now.nodes }
+        ensures times { All (λ x. x.times ≤ step + 1) self.new.each.items }
     {
         if self.senders == 0 {
-            return self;
+            return;
         }
-        self.next(trace, flood, step)
+        match flood.lone {
+            Some(origin) => self.pass_all(trace, flood, step, origin),
+            None => *self = self.next(trace, flood, step),
+        }
     }
+}
+
+// The flood with its initiator, if there is one alone.
+fn with_lone(flood: &Flood, nodes: &[NodeLine]) -> Flood
+    requires { length nodes.now ≤ 64 }
+    ensures { (s : Setting) (t : Traced) → t.nodes ≡ map (λ n. n.node) nodes.now → IsFlood s t flood.now → IsFlood s t result }
+{
+    let mut flood = *flood;
+    if flood.initiators == 0 {
+        return flood;
+    }
+    let place = lowest(flood.initiators);
+    if without_bit(flood.initiators, place) == 0 && usize::from(place) < nodes.len() {
+        flood.lone = Some(nodes[usize::from(place)].node);
+    }
+    flood
 }
 
 // All nodes at the beginning of the flood: the initiators send.
@@ -148,11 +210,12 @@ pub fn flooded(trace: &Trace, flood: &Flood, nodes: &[NodeLine]) -> FloodEnd
     ensures steps { length result.senders.items ≡ STEPS }
     ensures times { All (λ x. x.times ≤ STEPS) result.stations.each.items }
 {
-    let mut now = first(flood, nodes);
+    let flood = with_lone(flood, nodes);
+    let mut now = first(&flood, nodes);
     let mut senders = ArrayVec::new();
     for step in 0..12 {
         senders.push(now.senders);
-        now = now.behind(trace, flood, step);
+        now.go_on(trace, &flood, step);
     }
     FloodEnd {
         stations: now,

@@ -1,6 +1,6 @@
 //! The windows of a node of the bus in the slots of a round.
 
-ghost use Rattle.std.specs.Prelude.{◌≡◌, ◌≤◌, ◌↔◌, IfSome, is_some, false, None};
+ghost use Rattle.std.specs.Prelude.{◌≡◌, ◌≤◌, ◌↔◌, IfSome, is_some, true, false, None, Some};
 ghost use Rattle.std.specs.Option.{option_map, option_and_then};
 ghost use Rattle.bus_rules.specs.Cores.{is_member as is_core_member};
 ghost use Rattle.bus_rules.specs.Tuning.{hosts, scans as scans_rank};
@@ -36,6 +36,35 @@ impl Window {
         Window {
             is_open: false,
             takes_part: false,
+            initiates: false,
+            said: None,
+        }
+    }
+}
+
+impl Window {
+    // Of a member that says this.
+    fn saying(packet: Packet) -> Window
+        ensures is_open { result.is_open ≡ true }
+        ensures takes_part { result.takes_part ≡ true }
+        ensures initiates { result.initiates ≡ is_some (message_of packet) }
+        ensures said { result.said ≡ Some packet }
+    {
+        Window {
+            is_open: true,
+            takes_part: true,
+            initiates: message_in(&packet).is_some(),
+            said: Some(packet),
+        }
+    }
+
+    // Of a member that says nothing.
+    fn silent() -> Window
+        ensures { seen result ≡ record { is_open = true; takes_part = true; initiates = false; message = None } }
+    {
+        Window {
+            is_open: true,
+            takes_part: true,
             initiates: false,
             said: None,
         }
@@ -80,12 +109,9 @@ impl BusNode {
                 said: None,
             };
         }
-        let said = self.member.say(part, frame);
-        Window {
-            is_open: true,
-            takes_part: true,
-            initiates: reads(&said),
-            said,
+        match self.member.say(part, frame) {
+            Some(packet) => Window::saying(packet),
+            None => Window::silent(),
         }
     }
 
@@ -177,16 +203,6 @@ fn is_host(member: &Member) -> bool
     match member.tune() {
         Tune::Host(..) => true,
         Tune::Hold(..) | Tune::Scan(..) => false,
-    }
-}
-
-// Whether something is said.
-fn reads(said: &Option<Packet>) -> bool
-    ensures { result ≡ is_some (option_and_then message_of said.now) }
-{
-    match said {
-        Some(packet) => message_in(packet).is_some(),
-        None => false,
     }
 }
 

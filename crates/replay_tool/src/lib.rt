@@ -15,6 +15,7 @@ mod numbers;
 mod report;
 mod run_answer;
 mod run_report;
+mod short_words;
 mod summary;
 mod top_call;
 

@@ -4,10 +4,11 @@ ghost use Rattle.std.specs.Prelude.{◌≡◌, [], ◌∷◌, ◌++◌, IfOk, On
 ghost use Rattle.text_writers.specs.HexWords.{payload_word};
 ghost use Rattle.replay_tool.specs.RunReport.{delivery_line, drop_line, report_lines};
 
+use crate::short_words::write_short_words;
 use bus_rules::{Delivery, DropLine};
 use lwb_base::Payload;
 use std::alloc::{AllocError, Global};
-use text_writers::{end_line, write_line, write_lines, write_payload, write_words};
+use text_writers::{end_line, write_line, write_lines, write_payload};
 
 /// The report of a run: a `deliver` line for each delivery, then a `drop` line for each packet that was lost before it
 /// was queued.
@@ -40,7 +41,7 @@ fn write_drops(text: &mut String, drops: &[DropLine]) -> Result<(), AllocError>
 fn write_delivery(text: &mut String, delivery: &Delivery) -> Result<(), AllocError>
     ensures { OnOk result (string_bytes text.new ≡ string_bytes text.old ++ delivery_line delivery.now) }
 {
-    write_words(
+    write_short_words(
         text,
         "deliver",
         &[

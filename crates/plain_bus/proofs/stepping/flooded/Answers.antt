@@ -21,22 +21,24 @@ loop-step-init c = record {
 pub loop-step-preserved : goal.loop-step-preserved
 loop-step-preserved c = record {
   at = λ s flood.
-      subst (λ (m : Moment). AreAt m c.args.trace.now.nodes c.behind-now.result) (sym (moment_more s c.loop-step.step))
-      (c.behind-now.ensures.at s (moment s c.loop-step.step) flood (known_at s flood.inside c.loop-step.step) (c.loop-step.invariant.at s flood));
+      subst (λ (m : Moment). AreAt m c.args.trace.now.nodes c.go_on.new.self) (sym (moment_more s c.loop-step.step))
+      (c.go_on.ensures.at s (moment s c.loop-step.step) flood (known_at s flood.inside c.loop-step.step) (c.loop-step.invariant.at s flood));
   senders = λ s flood. senders_more s c.args.trace.now.nodes c.loop-step.senders.items c.push.new.self.items c.loop-step.now.senders
       c.loop-step.step (c.loop-step.invariant.senders s flood) c.loop-step.invariant.steps (c.loop-step.invariant.at s flood).senders (search rules);
   steps = (let pushed : c.push.new.self.items ≡ c.loop-step.senders.items ++ c.loop-step.now.senders ∷ [] = search rules in
       ap length pushed ∙ omega (arith, length-append c.loop-step.senders.items (c.loop-step.now.senders ∷ []), c.loop-step.invariant.steps));
-  length = c.behind-now.ensures.length;
-  times = c.behind-now.ensures.times;
+  length = c.go_on.ensures.length;
+  times = c.go_on.ensures.times;
 }
 
 pub returns : goal.returns
 returns c =
     let all : c.loop-step.step ≡ 12 = omega (arith, c.loop-step-test.false, c.loop-step.auto.step-end) in
     record {
-      each = λ s flood. (subst (λ (k : ℕ). AreAt (moment s k) c.args.trace.now.nodes c.loop-step.now) all (c.loop-step.invariant.at s flood)).each;
-      senders = c.loop-step.invariant.senders;
+      each = λ s first.
+          (let flood = c.with_lone-flood.ensures s c.args.trace.now c.requires.sealed first in
+          subst (λ (k : ℕ). AreAt (moment s k) c.args.trace.now.nodes c.loop-step.now) all (c.loop-step.invariant.at s flood)).each;
+      senders = λ s first. c.loop-step.invariant.senders s (c.with_lone-flood.ensures s c.args.trace.now c.requires.sealed first);
       steps = c.loop-step.invariant.steps ∙ all;
       length = c.loop-step.invariant.length ∙ ap length c.requires.sealed ∙ length-map c.args.nodes.now (λ (n : NodeLine). n.node);
       times = subst (λ (k : ℕ). All (λ (x : Station). x.times ≤ k) c.loop-step.now.each.items) all c.loop-step.invariant.times;

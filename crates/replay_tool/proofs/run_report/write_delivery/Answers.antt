@@ -11,7 +11,7 @@ returns c =
     let ended = c.end_with_payload in
     let payload : List ℕ = payload_word c.args.delivery.now.payload in
     let numbers : List (List ℕ) = map decimal (delivery_numbers c.args.delivery.now) in
-    let wrote : string_bytes c.write_words.new.text ≡ old ++ join_with_byte 32 (codes "deliver" ∷ numbers) = search rules in
+    let wrote : string_bytes c.write_short_words.new.text ≡ old ++ join_with_byte 32 (codes "deliver" ∷ numbers) = search rules in
     subst (λ (l : List ℕ). OnOk ended.result (string_bytes ended.new.text ≡ l))
     (ap (λ (l : List ℕ). l ++ 32 ∷ payload ++ 10 ∷ []) wrote
     ∙ ap (λ (l : List ℕ). l ++ 10 ∷ [])

@@ -1,0 +1,27 @@
+//! Whom the senders of a step reach.
+
+ghost use Rattle.std.specs.Prelude.{◌≡◌, ◌≤◌, length};
+ghost use Rattle.plain_bus.specs.FloodMasks.{AreReached};
+
+use crate::bits::{lowest, without_bit};
+use crate::station::Flood;
+use link_trace::Trace;
+
+/// The nodes that a node of the senders' mask reaches in that step, among so many nodes.
+pub fn reached_by(trace: &Trace, flood: &Flood, step: u8, senders: u64, count: usize) -> u64
+    requires sealed { count ≡ length trace.now.nodes }
+    requires few { length trace.now.nodes ≤ 64 }
+    ensures { AreReached trace.now flood.now step senders result }
+{
+    let mut reached = 0;
+    let mut rest = senders;
+    while rest != 0 {
+        let place = lowest(rest);
+        if usize::from(place) >= count {
+            return reached;
+        }
+        reached |= trace.to_mask(flood.frame, flood.slot, step, place);
+        rest = without_bit(rest, place);
+    }
+    reached
+}
