@@ -17,5 +17,6 @@ mod Gathered
 mod Marked
 mod DueOnes
 mod RightEntries
+mod LinksFound
 mod MissingOnes
 mod Extended

@@ -17,6 +17,7 @@ mod node_log;
 mod node_logs;
 mod own_trail;
 mod packet_words;
+mod reach;
 mod receives;
 mod same_entries;
 mod tuned_index;

@@ -1,7 +1,6 @@
 //! The first reception that is missing in a log.
 
 ghost use Rattle.std.specs.Prelude.{◌≡◌, ◌*◌, ◌<◌, ◌++◌, ◌∷◌, [], ℕ, List, IfOk, IfSome, IfNone, AllPairs, length, slice_index_or};
-ghost use Rattle.scenario_text.specs.ScenarioGrammar.{IsScenario};
 ghost use Rattle.scenario_clocks.specs.StatedClocks.{scenario_clock};
 ghost use Rattle.air_log.specs.declared.entry.Entry.{Entry};
 ghost use Rattle.air_log.specs.Entries.{hearings_of, IsHeard};
@@ -14,11 +13,12 @@ ghost use Rattle.air_check.specs.Verdicts.{IsGiven, AreGiven, IsFirstMissing};
 
 use crate::due::is_due;
 use crate::flags::{heard_in, none_received, receive};
-use crate::index::{Index, entry_at, index_of};
+use crate::index::{Index, entry_at, index_of, near_to};
+use crate::reach::links_from;
 use air_log::{Air, Entry};
 use lwb_base::{Memory, NodeId};
 use radio_model::sending::Sending;
-use scenario_text::{NodeLine, Scenario};
+use scenario_text::Scenario;
 use std::alloc::Global;
 
 /// A reception that is given and not there: who would receive it, from whom, and the tick of 1/64 µs at which it starts.
@@ -42,9 +42,8 @@ pub(crate) fn first_missing(
 {
     let index = index_of(alloc, s, air)?;
     let flags = received(alloc, &index.sent, air)?;
-    let nodes = s.nodes();
     for k in 0..index.sent.len() {
-        if let Some(receiver) = first_of(s, nodes, &index, &flags, k) {
+        if let Some(receiver) = first_of(s, &index, &flags, k) {
             let x = &index.sent[k];
             return Ok(Some(Missed {
                 receiver,
@@ -81,25 +80,20 @@ fn receive_in(sent: &[Sending], flags: &mut Vec<bool>, entry: &Entry)
     }
 }
 
-// The least node that should have received the transmission at that place and hasn't.
-fn first_of(
-    s: &Scenario,
-    nodes: &[NodeLine],
-    index: &Index,
-    flags: &[bool],
-    k: usize,
-) -> Option<NodeId>
-    requires said { IsScenario s.now }
-    requires nodes { nodes.now ≡ s.now.nodes }
+// The least node that should have received the transmission at that place and hasn't: it has a link from the sender.
+fn first_of(s: &Scenario, index: &Index, flags: &[bool], k: usize) -> Option<NodeId>
     requires searchable { IsSearchable s.now index.now }
     requires size { length flags.now ≡ length index.now.sent.items * 201 }
     requires place { k < length index.now.sent.items }
     ensures { (air : List Entry) (d : Sending) → IsIndex air index.now → AreFlags index.now.sent.items (hearings_of air) flags.now
         → IsFirstOf s.now air (slice_index_or index.now.sent.items k d) result }
 {
-    for line in nodes {
-        if is_due(s, index, flags, line.node, k) {
-            return Some(line.node);
+    let x = &index.sent[k];
+    let near = near_to(index, x);
+    let links = links_from(s.trace().links(), x.node);
+    for link in links {
+        if is_due(s, index, near, flags, link.to, k) {
+            return Some(link.to);
         }
     }
     None

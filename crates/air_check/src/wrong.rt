@@ -13,7 +13,7 @@ ghost use Rattle.air_check.specs.Verdicts.{IsFirstWrong, AreGiven};
 
 use crate::due::is_due;
 use crate::flags::{heard_in, none_received, place_of, receive};
-use crate::index::{Index, entry_at, index_of};
+use crate::index::{Index, entry_at, index_of, near_to};
 use air_log::{Air, Entry, HeardEntry};
 use lwb_base::Memory;
 use scenario_text::Scenario;
@@ -59,7 +59,8 @@ fn take_in(s: &Scenario, index: &Index, flags: &mut Vec<bool>, h: &HeardEntry) -
     let Some(k) = place_of(&index.sent, h) else {
         return false;
     };
-    if !is_due(s, index, flags, h.node, k) {
+    let near = near_to(index, &index.sent[k]);
+    if !is_due(s, index, near, flags, h.node, k) {
         return false;
     }
     receive(&index.sent, flags, h);
