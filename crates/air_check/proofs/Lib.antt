@@ -18,5 +18,6 @@ mod Marked
 mod DueOnes
 mod RightEntries
 mod LinksFound
+mod SameStart
 mod MissingOnes
 mod Extended

@@ -1,6 +1,6 @@
 -- The links from one node are a stretch of all links.
-use Rattle.std.proofs.Common.{◌≡◌, ℕ, ◌+◌, ◌-◌, ◌<◌, ◌≤◌, List, length, take, drop, inl, inr, true, false, nat_lt, nat_le, sym, ◌∙◌, ap, subst, refl, arith}
-use Rattle.std.proofs.Common.{AllPairs, Contains, get_or, true≢false, length-drop, length-take-le}
+use Rattle.std.proofs.Common.{◌≡◌, ℕ, ◌+◌, ◌-◌, ◌<◌, ◌≤◌, List, length, take, drop, inl, inr, true, false, nat_lt, nat_le, sym, ◌∙◌, ap, refl, arith}
+use Rattle.std.proofs.Common.{get_or, true≢false, length-drop, length-take-le}
 use Rattle.std.proofs.lemmas.Bool.{cases_lt, ltb-true, ltb-false, leb-true, le-leb}
 use Rattle.std.proofs.lemmas.Cmp.{ranked}
 use Rattle.std.proofs.lemmas.List.{get_or-take, get_or-drop}
