@@ -17,6 +17,7 @@ mod Gathered
 mod Marked
 mod DueOnes
 mod RightEntries
+mod ChainsAdded
 mod LinksFound
 mod SameStart
 mod MissingOnes
