@@ -17,4 +17,5 @@ returns c =
     (omega (arith, length-drop first links)) in
     let end = IsPartitionPoint-from_clause (λ (l : LinkLine). nat_le l.from u) (take (length links - first) (drop first links)) count
     c.partition_point-count.ensures.partitioned (rw rest (rest_up_to links u c.requires first)) (λ a r g called. search rules) in
-    rw rest (have_links links u c.requires first count c.partition_point-first.ensures.bound (rw rest at c.partition_point-count.ensures.bound) begin (rw rest at end))
+    let few = rw rest at c.partition_point-count.ensures.bound in
+    rw rest (have_links links u c.requires first count c.partition_point-first.ensures.bound few begin (rw rest at end))
