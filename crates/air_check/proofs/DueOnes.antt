@@ -4,7 +4,7 @@ use Rattle.std.proofs.lemmas.Bool.{false≢true, both_ways}
 use Rattle.scenario_text.specs.ScenarioParts.{ScenarioParts}
 use Rattle.radio_model.specs.OnAir.{Hearing, Sending}
 use Rattle.air_log.specs.declared.entry.Entry.{Entry}
-use Rattle.air_log.specs.Entries.{hearings_of}
+use Rattle.air_log.specs.Entries.{hearings_of, IsHeard}
 use Rattle.air_check.specs.Flags.{IsDue}
 use Rattle.air_check.specs.Verdicts.{IsGiven, IsMissing}
 
@@ -20,6 +20,6 @@ module _ (s : ScenarioParts) (air : List Entry) (hs : List Hearing) (v : ℕ) (x
 pub missing_so : (s : ScenarioParts) (air : List Entry) (v : ℕ) (x : Sending) → IsDue s air (hearings_of air) v x true → IsMissing s air v x
 missing_so s air v x due = record { given = due.0; absent = due.1 }
 
-pub not_missing : (s : ScenarioParts) (air : List Entry) (v : ℕ) (x : Sending) → IsDue s air (hearings_of air) v x false → IsMissing s air v x → ⊥
-not_missing s air v x (inl never) missing = never missing.given
-not_missing s air v x (inr there) missing = missing.absent there
+pub heard_so : (s : ScenarioParts) (air : List Entry) (v : ℕ) (x : Sending) → IsDue s air (hearings_of air) v x false → IsGiven s air v x → IsHeard air v x
+heard_so s air v x (inl never) given = absurd (never given)
+heard_so s air v x (inr there) given = there

@@ -1,11 +1,13 @@
 -- What is received by an index of a log is given.
-use Rattle.std.proofs.Common.{◌≡◌, ℕ, ◌<◌, ◌≤◌, ◌^◌, ◌↔◌, List, All, get_or, true, Bool, arith, ap, inl, inr}
+use Rattle.std.proofs.Common.{◌≡◌, ℕ, ◌-◌, ◌<◌, ◌≤◌, ◌^◌, ◌↔◌, List, [], ◌∷◌, All, get_or, length, take, drop, true, Bool, arith, ap, sym, subst, inl, inr}
+use Rattle.std.proofs.lemmas.List.{take_all}
 use Rattle.std.proofs.lemmas.List.Elements.{All-contains, Contains-get_or}
 use Rattle.std.proofs.Math.Nat.{mul-le-mul_right, mul-le-mul_left}
 use Rattle.lwb_base.specs.Profile.{Numbers}
 use Rattle.scenario_text.specs.ScenarioGrammar.{IsScenario}
 use Rattle.scenario_text.proofs.SoundScenarios.{sound}
 use Rattle.scenario_text.specs.ScenarioParts.{ScenarioParts}
+use Rattle.radio_model.proofs.Members.{in_tail, in_either}
 use Rattle.radio_model.specs.Hearing.{Hears}
 use Rattle.radio_model.specs.OnAir.{Sending}
 use Rattle.air_log.specs.declared.entry.Entry.{Entry}
@@ -21,6 +23,25 @@ pub near_early : (sent near : List Sending) (x : Sending) (end : ℕ) → AreNea
 near_early sent near x end are early by k d below =
     let so = All-contains (λ (y : Sending). y.start < end) sent (get_or near k d) early (are.among (get_or near k d) (Contains-get_or near k d below)) in
     omega (arith, so, by)
+
+-- without the first, which has ended when x starts
+pub fewer_near : (sent near : List Sending) (x : Sending) → 0 < length near → ((d : Sending) → (get_or near 0 d).end ≤ x.start) → AreNear sent x near
+    → AreNear sent x (take (length near - 1) (drop 1 near))
+fewer_near sent [] x some ended are = absurd (omega arith)
+fewer_near sent (y ∷ ys) x some ended are =
+    subst (λ (ns : List Sending). AreNear sent x ns) (sym (take_all (length (y ∷ ys) - 1) ys (omega arith)))
+    (record {
+      among = λ z there. are.among z (in_tail ys y z there);
+      all = λ z there meets.
+          elim (in_either ys y z (are.all z there meets)) [
+            | inl same ↦
+                let before = meets.before in
+                let first = ended y in
+                let end = ap (λ (w : Sending). w.end) same in
+                absurd (omega (arith, before, first, end))
+            | inr rest ↦ rest
+          ];
+    })
 
 pub near_in_air : (air : List Entry) (s : ScenarioParts) (i : Index) (near : List Sending) (x : Sending) → IsIndex air i → AreNear i.sent.items x near
     → AreNear (scene_of s.profile s.trace air).sendings x near

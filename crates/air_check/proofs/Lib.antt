@@ -17,5 +17,8 @@ mod Gathered
 mod Marked
 mod DueOnes
 mod RightEntries
+mod ChainsAdded
+mod LinksFound
+mod SameStart
 mod MissingOnes
 mod Extended

@@ -4,7 +4,7 @@ use Rattle.std.specs.Prelude.{Contains, length, slice_index_or}
 use Rattle.scenario_text.specs.ScenarioParts.{ScenarioParts}
 use Rattle.radio_model.specs.OnAir.{Hearing, Sending}
 use Rattle.air_log.specs.declared.entry.Entry.{Entry}
-use Rattle.air_log.specs.Entries.{hearings_of, heard_entry}
+use Rattle.air_log.specs.Entries.{hearings_of, heard_entry, IsHeard}
 use Rattle.air_check.specs.Verdicts.{IsGiven, AreGiven, IsMissing}
 
 -- the flag of transmission k and node v
@@ -38,7 +38,7 @@ abbrev pub GoesOn : ScenarioParts → List Entry → List Sending → List Entry
 GoesOn s air sent above e flags true = AreFlags sent (hearings_of (above ++ e ∷ [])) flags × (AreGiven s air above → AreGiven s air (above ++ e ∷ []))
 GoesOn s air sent above e flags false = IsWrong s air above e
 
--- the least id that has no reception of x and should have one
+-- the least id that has no reception of x and should have one. Without it each reception that is given is there
 abbrev pub IsFirstOf : ScenarioParts → List Entry → Sending → Option ℕ → Type 0
-IsFirstOf s air x None = (w : ℕ) → IsMissing s air w x → ⊥
+IsFirstOf s air x None = (w : ℕ) → IsGiven s air w x → IsHeard air w x
 IsFirstOf s air x (Some v) = IsMissing s air v x × ((w : ℕ) → IsMissing s air w x → v ≤ w)

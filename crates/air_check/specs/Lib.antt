@@ -8,3 +8,4 @@ pub mod WorkedVerdicts
 pub mod Tunings
 pub mod Indexes
 pub mod Flags
+pub mod SenderLinks

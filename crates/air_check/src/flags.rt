@@ -89,9 +89,11 @@ fn starting_at(sent: &[Sending], t: u64) -> (usize, usize)
     ensures all { (k : ℕ) (d : Sending) → k < length sent.now → (slice_index_or sent.now k d).start ≡ t → (result.0 ≤ k) × (k < result.1) }
 {
     let begin = sent.partition_point(|y| y.start < t);
-    let rest = &sent[begin..];
-    let count = rest.partition_point(|y| y.start <= t);
-    (begin, begin + count)
+    let mut end = begin;
+    while end < sent.len() && sent[end].start == t {
+        end += 1;
+    }
+    (begin, end)
 }
 
 // Whether it is the transmission that is received.

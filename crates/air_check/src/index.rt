@@ -1,7 +1,9 @@
 //! The transmissions and tunings of a log, in the orders in which they are searched.
 
-ghost use Rattle.std.specs.Prelude.{◌≡◌, nat_lt, ◌↔◌, ◌<◌, ◌≤◌, ◌^◌, length, slice_index_or, IfOk, OnOk, IsPermutation, AllPairs, Contains, ◌++◌, option_to_list, true};
+ghost use Rattle.std.specs.Prelude.{◌≡◌, nat_lt, ◌↔◌, ◌<◌, ◌≤◌, ◌^◌, ◌+◌, length, slice_index_or, IfOk, OnOk, IsPermutation, All, AllPairs, Contains, ◌++◌, option_to_list, true};
 ghost use Rattle.radio_model.specs.Hearing.{Before};
+ghost use Rattle.radio_model.specs.OnAir.{Sending};
+ghost use Rattle.radio_model.specs.Receptions.{AreNear};
 ghost use Rattle.scenario_clocks.specs.StatedClocks.{scenario_clock};
 ghost use Rattle.std.specs.Prelude.{List};
 ghost use Rattle.air_log.specs.declared.entry.Entry.{Entry};
@@ -47,16 +49,43 @@ pub(crate) fn index_of(alloc: Global, s: &Scenario, air: &Air) -> Result<Index, 
     })
 }
 
-/// Whether the rules of the medium give the node a reception of x, a transmission of the log.
-pub(crate) fn is_given(s: &Scenario, index: &Index, node: NodeId, x: &Sending) -> bool
+/// The transmissions of the log that can overlap x.
+pub(crate) fn near_to<'a>(index: &'a Index, x: &Sending) -> &'a [Sending]
+    requires in_order { AllPairs Before index.now.sent.items }
+    requires longest { All (λ y. y.end ≤ y.start + index.now.longest) index.now.sent.items }
+    ensures { AreNear index.now.sent.items x.now result.now }
+{
+    without_ended(near(&index.sent, index.longest, x), x)
+}
+
+// Without those at the front that have ended when x starts.
+fn without_ended<'a>(near: &'a [Sending], x: &Sending) -> &'a [Sending]
+    ensures { (sent : List Sending) → AreNear sent x.now near.now → AreNear sent x.now result.now }
+{
+    let mut rest = near;
+    while !rest.is_empty() && rest[0].end <= x.start {
+        rest = &rest[1..];
+    }
+    rest
+}
+
+/// Whether the rules of the medium give the node a reception of x, a transmission of the log, where all are near that
+/// overlap it.
+pub(crate) fn is_given(
+    s: &Scenario,
+    index: &Index,
+    near: &[Sending],
+    node: NodeId,
+    x: &Sending,
+) -> bool
     requires searchable { IsSearchable s.now index.now }
     requires there { Contains index.now.sent.items x.now }
+    requires near { AreNear index.now.sent.items x.now near.now }
     ensures { (air : List Entry) → IsIndex air index.now → (result ≡ true ↔ IsGiven s.now air node x.now) }
 {
     if !ends_in_run(s, x) {
         return false;
     }
-    let near = near(&index.sent, index.longest, x);
     receives(&s.profile(), s.trace(), near, &index.tuned, node, x)
 }
 

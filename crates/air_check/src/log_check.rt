@@ -8,6 +8,8 @@ ghost use Rattle.air_check.specs.declared.verdict.Verdict.TheVariants.{Lawful as
 
 use crate::Verdict;
 use crate::astray::first_astray;
+use crate::flags::none_received;
+use crate::index::index_of;
 use crate::missing::{Missed, first_missing};
 use crate::wrong::first_wrong;
 use air_log::Air;
@@ -24,10 +26,12 @@ pub fn check(alloc: Global, s: &Scenario, air: &Air) -> Result<Verdict, Memory>
     if let Some(node) = first_astray(alloc, s, air)? {
         return Ok(Verdict::Trail(node));
     }
-    if let Some(place) = first_wrong(alloc, s, air)? {
+    let index = index_of(alloc, s, air)?;
+    let mut flags = none_received(alloc, &index.sent)?;
+    if let Some(place) = first_wrong(s, air, &index, &mut flags) {
         return Ok(Verdict::Heard(place));
     }
-    match first_missing(alloc, s, air)? {
+    match first_missing(s, &index, &flags) {
         Some(
             Missed {
                 receiver,

@@ -7,12 +7,12 @@ ghost use Rattle.air_check.specs.LogGrammar.{after_words, after_log_line, is_rep
 
 use crate::entries::knows_ids;
 use crate::line::LogLine;
+use crate::line_words::split_into;
 use air_log::Air;
 use scenario_text::{NodeLine, Scenario};
 use std::alloc::Global;
 use text_readers::{
-    FaultKind, ParseFault, Refusal, first_line, is, is_skipped, is_text, refuse_unless,
-    split_words, word,
+    FaultKind, ParseFault, Refusal, first_line, is, is_skipped, is_text, refuse_unless, word,
 };
 
 /// Why a log is not read: the line, counted over the whole input, and the kind, or too little memory.
@@ -32,11 +32,12 @@ pub fn parse_log(alloc: Global, s: &Scenario, bytes: &[u8], before: u32) -> Resu
     ensures { Gives result (log_of s.now before bytes.now) }
 {
     let mut air = Air::new(alloc);
+    let mut words = Vec::new(alloc);
     let mut rest = bytes;
     let mut count = before;
     while !rest.is_empty() {
         let (line, others) = first_line(rest);
-        match read_line(alloc, s.nodes(), &mut air, line) {
+        match read_line(s.nodes(), &mut words, &mut air, line) {
             Ok(()) => {}
             Err(refusal) => return Err(refusal.in_line(count + 1)),
         }
@@ -46,17 +47,23 @@ pub fn parse_log(alloc: Global, s: &Scenario, bytes: &[u8], before: u32) -> Resu
     Ok(air)
 }
 
-// Goes on by one line, unless it is refused.
+// Goes on by one line, unless it is refused. Its words take the place of those of the line before.
 #[tactic(auto, unfolding(crate::specs::LogGrammar::after_log_line))]
-fn read_line(alloc: Global, nodes: &[NodeLine], air: &mut Air, line: &[u8]) -> Result<(), Refusal>
+fn read_line<'a>(
+    nodes: &[NodeLine],
+    words: &mut Vec<&'a [u8]>,
+    air: &mut Air,
+    line: &'a [u8],
+) -> Result<(), Refusal>
     ensures { Reads result air.new (after_log_line nodes.now air.old line.now) }
 {
-    let words = split_words(alloc, line)?;
-    if is_report(&words) || is_skipped(&words) {
+    split_into(words, line)?;
+    let words = words.as_slice();
+    if is_report(words) || is_skipped(words) {
         return Ok(());
     }
     refuse_unless(is_text(line), FaultKind::NotUtf8)?;
-    add_entry(nodes, air, &words)
+    add_entry(nodes, air, words)
 }
 
 fn is_report(words: &[&[u8]]) -> bool

@@ -1,39 +1,42 @@
 //! The first reception of a log that is wrong.
 
-ghost use Rattle.std.specs.Prelude.{◌≡◌, ◌*◌, List, IfOk, IfSome, IfNone, length};
-ghost use Rattle.scenario_clocks.specs.StatedClocks.{scenario_clock};
+ghost use Rattle.std.specs.Prelude.{◌≡◌, ◌*◌, List, [], IfSome, IfNone, length};
 ghost use Rattle.air_log.specs.declared.entry.Entry.{Entry};
 ghost use Rattle.air_log.specs.Entries.{hearings_of};
 ghost use Rattle.air_log.specs.Courses.{hearing_of};
-ghost use Rattle.air_log.specs.Lawful.{FollowsTrails};
 ghost use Rattle.radio_model.specs.OnAir.{Hearing};
 ghost use Rattle.air_check.specs.Flags.{AreFlags, TakesIn, GoesOn};
 ghost use Rattle.air_check.specs.Indexes.{IsIndex, IsSearchable};
 ghost use Rattle.air_check.specs.Verdicts.{IsFirstWrong, AreGiven};
 
 use crate::due::is_due;
-use crate::flags::{heard_in, none_received, place_of, receive};
-use crate::index::{Index, entry_at, index_of};
+use crate::flags::{heard_in, place_of, receive};
+use crate::index::{Index, entry_at, near_to};
 use air_log::{Air, Entry, HeardEntry};
-use lwb_base::Memory;
 use scenario_text::Scenario;
-use std::alloc::Global;
 
 /// The first entry, counted from 1, that is a reception which the rules of the medium don't give, or which is above already.
-/// None where each reception is given, and is there once. `Err` means out of memory.
-pub(crate) fn first_wrong(alloc: Global, s: &Scenario, air: &Air) -> Result<Option<usize>, Memory>
-    requires { FollowsTrails s.now (scenario_clock s.now) air.now }
-    ensures some { IfOk result (λ o. IfSome o (λ i. IsFirstWrong s.now air.now i)) }
-    ensures none { IfOk result (λ o. IfNone o (AreGiven s.now air.now air.now)) }
+/// None where each reception is given, and is there once. The index is of the log, and no flag is set yet; where the answer
+/// is None, each reception has its flag.
+pub(crate) fn first_wrong(
+    s: &Scenario,
+    air: &Air,
+    index: &Index,
+    flags: &mut Vec<bool>,
+) -> Option<usize>
+    requires searchable { IsSearchable s.now index.now }
+    requires holds { IsIndex air.now index.now }
+    requires none { AreFlags index.now.sent.items [] flags.old.items }
+    ensures some { IfSome result (λ i. IsFirstWrong s.now air.now i) }
+    ensures none { IfNone result (AreGiven s.now air.now air.now) }
+    ensures flags { IfNone result (AreFlags index.now.sent.items (hearings_of air.now) flags.new.items) }
 {
-    let index = index_of(alloc, s, air)?;
-    let mut flags = none_received(alloc, &index.sent)?;
     for i in 0..air.len() {
-        if !is_right(s, &index, &mut flags, entry_at(air, i)) {
-            return Ok(Some(i + 1));
+        if !is_right(s, index, flags, entry_at(air, i)) {
+            return Some(i + 1);
         }
     }
-    Ok(None)
+    None
 }
 
 // Whether an entry is no reception, or one that is given and new.
@@ -59,7 +62,8 @@ fn take_in(s: &Scenario, index: &Index, flags: &mut Vec<bool>, h: &HeardEntry) -
     let Some(k) = place_of(&index.sent, h) else {
         return false;
     };
-    if !is_due(s, index, flags, h.node, k) {
+    let near = near_to(index, &index.sent[k]);
+    if !is_due(s, index, near, flags, h.node, k) {
         return false;
     }
     receive(&index.sent, flags, h);

@@ -43,7 +43,7 @@ pub fn is_spoiled(
     ensures { result ≡ list_any (spoils profile.now trace.now.lines node x.now) near.now }
 {
     for y in near {
-        if repeats(x, y) && !comes_in_time(profile, x, y) && arrives(profile, trace, node, y) {
+        if !comes_in_time(profile, x, y) && repeats(x, y) && arrives(profile, trace, node, y) {
             return true;
         }
     }

@@ -1,10 +1,15 @@
 use Rattle.std.proofs.Common.{◌≡◌, ◌∙◌, sym, subst, not, Bool, ◌↔◌, true, Contains, get_or}
 use Rattle.std.proofs.lemmas.List.{get_or_default}
 use Rattle.radio_model.specs.OnAir.{Sending}
+use Rattle.radio_model.specs.Receptions.{AreNear}
 use Rattle.air_check.specs.Flags.{IsDue}
 use Rattle.air_check.specs.Verdicts.{IsGiven}
 use Rattle.air_check.proofs.DueOnes.{where_not, where_there}
 use Rattle.air_check.proofs.due.is_due.Goals as goal
+
+pub is_given-requires-clause-near : goal.is_given-requires-clause-near
+is_given-requires-clause-near c =
+    subst (λ (y : Sending). AreNear c.args.index.now.sent.items y c.args.near.now) (sym c.index.ensures) (c.requires.near c.index.result.now)
 
 pub returns-then-not-is_received : goal.returns-then-not-is_received
 returns-then-not-is_received c =

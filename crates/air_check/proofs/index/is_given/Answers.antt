@@ -4,16 +4,14 @@ use Rattle.radio_model.specs.OnAir.{Sending}
 use Rattle.std.proofs.lemmas.List.Elements.{All-contains}
 use Rattle.air_log.specs.Trails.{run_end}
 use Rattle.air_log.specs.HearsAir.{scene_of}
-use Rattle.radio_model.specs.Receptions.{AreNear}
 use Rattle.air_check.specs.Tunings.{AreTuned}
 use Rattle.air_check.proofs.Given.{near_early, near_in_air, given_so}
 use Rattle.air_check.proofs.index.is_given.Goals as goal
 
 pub receives-requires-clause-starts : goal.receives-requires-clause-starts
 receives-requires-clause-starts c =
-    near_early c.args.index.now.sent.items c.near-near.result.now c.args.x.now (run_end c.args.s.now)
-    (subst (λ xs. AreNear xs c.args.x.now c.near-near.result.now) c.deref.ensures.value c.near-near.ensures)
-    c.requires.searchable.early c.ends_in_run.ensures.range
+    near_early c.args.index.now.sent.items c.args.near.now c.args.x.now (run_end c.args.s.now) c.requires.near c.requires.searchable.early
+    c.ends_in_run.ensures.range
 
 pub receives-requires-clause-start : goal.receives-requires-clause-start
 receives-requires-clause-start c =
@@ -36,7 +34,6 @@ returns c =
     let i = c.args.index.now in
     given_so s air c.args.node c.args.x.now c.receives.result (ltb-true c.args.x.now.end (run_end s) (sym c.ends_in_run.ensures.value ∙ c.if-not-ends_in_run.false))
     (c.receives.ensures (scene_of s.profile s.trace air) (sym c.profile.ensures.value) (sym c.trace.ensures.value)
-    (near_in_air air s i c.near-near.result.now c.args.x.now is
-    (subst (λ xs. AreNear xs c.args.x.now c.near-near.result.now) c.deref.ensures.value c.near-near.ensures))
-    (subst (λ es. AreTuned (scene_of s.profile s.trace air).tunings es) (sym c.deref-2.ensures.value) is.tuned)
+    (near_in_air air s i c.args.near.now c.args.x.now is c.requires.near)
+    (subst (λ es. AreTuned (scene_of s.profile s.trace air).tunings es) (sym c.deref.ensures.value) is.tuned)
     (is.sent c.args.x.now c.requires.there))

@@ -13,10 +13,10 @@ returns-then-not-is_right-clause-some c =
     let air = c.args.air.now in
     let i = c.loop-i.i in
     let e = c.entry_at.result.now in
-    let sent = c.in_ok-index.index.sent.items in
+    let sent = c.args.index.now.sent.items in
     wrong_at s air i e (omega (arith, c.loop-i-test.true, c.len-i-end.ensures)) c.entry_at.ensures c.loop-i.invariant.right
     (subst (λ (b : Bool). GoesOn s air sent (take i air) e c.is_right.new.flags.items b) c.if-not-is_right.true
-    (c.is_right.ensures air (take i air) c.in_ok-index.ensures.holds c.loop-i.invariant.flags))
+    (c.is_right.ensures air (take i air) c.requires.holds c.loop-i.invariant.flags))
 
 pub loop-i-preserved : goal.loop-i-preserved
 loop-i-preserved c =
@@ -24,9 +24,9 @@ loop-i-preserved c =
     let air = c.args.air.now in
     let i = c.loop-i.i in
     let e = c.entry_at.result.now in
-    let sent = c.in_ok-index.index.sent.items in
+    let sent = c.args.index.now.sent.items in
     let goes = subst (λ (b : Bool). GoesOn s air sent (take i air) e c.is_right.new.flags.items b) c.if-not-is_right.false
-    (c.is_right.ensures air (take i air) c.in_ok-index.ensures.holds c.loop-i.invariant.flags) in
+    (c.is_right.ensures air (take i air) c.requires.holds c.loop-i.invariant.flags) in
     let more : take (i + 1) air ≡ take i air ++ e ∷ [] =
     take_more air i e (omega (arith, c.loop-i-test.true, c.len-i-end.ensures)) ∙ ap (λ (x : Entry). take i air ++ x ∷ []) (sym c.entry_at.ensures) in
     record {
