@@ -128,6 +128,8 @@ rejected_texts() {
         rejects "97 bytes" $word 11 Range $'profile 2\n'"$payload$bytes$bytes${bytes}00"$'\n'
         rejects "a link that is there" $word 6 Twice $'frames 1\nsends 1\nnode 1 0\nnode 2 0\npair 1 2\nlink 1 2\n'
     done
+    run_on "$payload$bytes"$'\n' run
+    says "32 bytes in the first profile: status $status, not 0" [ "$status" -eq 0 ]
     rejects "an empty text" deadlines 1 Missing ""
     rejects "an owner twice" deadlines 4 Twice $'slots 1\nframes 4\nstream 2 0 0 2 2\nstream 2 0 0 2 1\n'
     rejects "an empty text" check 1 Missing ""
@@ -156,6 +158,9 @@ too_many() {
     run_on "$script" run
     says "20,000 lines of a script: status $status, not 0" [ "$status" -eq 0 ]
     rejects "the 20,001st line of a script" run 20007 TooMany "$script"$'rate 1 0 0\n'
+    # 64 nodes and 257 frames, in 150 lines.
+    rejects "more nodes than the frames allow" run 151 TooBig \
+        $'sends 1\nframes 257\n'"$(seq -f 'node %.0f 0' 64)"$'\nhost 0 1\n'"$(again 82 '# ')"$'\n# the last of 150 lines'
     rejects "the 65th node" flood 65 TooMany "$(seq -f 'node %.0f 0' 65)"
 }
 
