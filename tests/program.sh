@@ -1,7 +1,8 @@
 #!/usr/bin/env bash
 # Runs the built program and says what it does other than it should: on each example, whose report in examples/expected was
-# worked out from the rules; on texts that bench/made.py draws; on words that are no command, texts that are rejected, streams
-# that fail, and the greatest sizes; built by the second compiler, on each example again; and by the front end ./foldcairn.
+# worked out from the rules; on texts that bench/made.py draws; on streams that fail, and the greatest sizes; built by the second
+# compiler, on each example again; on worked scenarios, words that are no command, texts that are rejected (tests/worked.sh) and
+# recorded logs (tests/verdicts.sh); and by the front end ./foldcairn (tests/front_end.sh).
 # The last line is 'N passed, M failed', and the status is 0 where M is 0.
 # Usage: tests/program.sh [PROGRAM [OTHER]]. OTHER is the same program as the second compiler builds it. By default they are
 # what the gate built, or they are built.
@@ -96,7 +97,7 @@ examples() {
 # What the second compiler's program writes, to the byte. A log is compared too.
 by_both() {
     local file name words word theirs
-    for file in "$top"/examples/*.flood "$top"/examples/*.scenario "$top"/examples/*.deadlines; do
+    for file in "$top"/examples/*.flood "$top"/{examples,tests/worked}/*.scenario "$top"/examples/*.deadlines; do
         name=$(basename "$file")
         words=${name##*.}
         [ "$words" = scenario ] && words="run log bus"
@@ -144,29 +145,9 @@ line=$'sends 2\nnode 1 0\nnode 2 0\nnode 3 0\npair 1 2\npair 2 3\nstart 1\n'
 base=$'sends 2\nnode 1 0\nnode 2 0\nhost 0 1\npair 1 2\n'
 
 words_and_texts() {
-    run_on "$line"
-    ends "no word" 2 "$usage"
-    run_on "$line" flood x
-    ends "a word behind the command" 2 "$usage"
-    run_on "$line" floods
-    ends "an unknown word" 2 "$usage"
-    run_on "$line" ""
-    ends "an empty word" 2 "$usage"
-    run_on "" demo 07 2 1
-    ends "a seed with a leading zero" 2 "$usage"
-    run_on "" demo 7 64 257
-    ends "a demo that is too big" 2 "$usage"
     # Such words are no text, so the program cannot say what they ask for.
     run_on "$line" $'\xff'
     ends "a word that is no UTF-8" 6 ""
-    run_on "" run
-    ends "an empty text" 1 $'fault line 1: Missing\n'
-    run_on $'frames 6\n'"$base"$'rate 1 0 21\n' run
-    ends "a rate out of range" 1 $'fault line 7: Range\n'
-    run_on $'frames 1\nsends 1\nnode 1 0\nnode 2 0\npair 1 2\nlink 1 2\n' log
-    ends "a link that is there" 1 $'fault line 6: Twice\n'
-    run_on $'node 1 \xff\n' flood
-    ends "a line that is no UTF-8" 1 $'fault line 1: NotUtf8\n'
     head -c 4194305 /dev/zero | tr '\0' '#' > "$folder/long"
     "$program" run < "$folder/long" > "$folder/out"
     status=$?
@@ -230,6 +211,7 @@ little_memory() {
 
 examples
 demos "a demo of two nodes" $'deliveries 0\ndrops 0\nsent 0\non 512000000\n' 7 2 1
+demos "a demo of the greatest seed" $'deliveries 0\ndrops 0\nsent 0\non 512000000\n' 9999999999999 2 1
 demos "a demo of twenty nodes" $'deliveries 295\ndrops 0\nsent 52015104\non 111995785254\n' 7 20 50
 if command -v python3 > /dev/null; then
     drawn "a drawn text of two nodes" $'deliveries 0\ndrops 0\nsent 0\non 512000000\n' 7 2 1
@@ -243,6 +225,10 @@ ends_that_fail
 greatest_sizes
 little_memory
 [ -n "$other" ] && by_both
+. "$top/tests/worked.sh"
+worked_texts
+. "$top/tests/verdicts.sh"
+checked_logs
 . "$top/tests/front_end.sh"
 front_end
 echo "$passed passed, $failed failed"

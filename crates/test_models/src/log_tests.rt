@@ -2,55 +2,8 @@
 
 use air_log::{Air, Entry, HeardEntry, SentEntry, TunedEntry, text};
 use lwb_base::{NodeId, Packet, Rank};
+use std::alloc::Global;
 use std::test::Fail;
-
-#[test]
-fn entries_stand_in_the_order_in_which_they_came(rt: HostRuntime) -> Result<(), Fail> {
-    let rank = Rank::new(0).ok_or("rank")?;
-    let one = NodeId::new(1).ok_or("id")?;
-    let two = NodeId::new(2).ok_or("id")?;
-    let mut air = Air::new(rt.alloc());
-    assert_eq!(rt; air.len(), 0);
-    let packet = Packet::new(&[2, 1, 0, 1, 1, 0, 0, 0]).ok_or("packet")?;
-    air.push(Entry::Sent(SentEntry {
-        rank,
-        node: one,
-        start: 1_344_064_000,
-        end: 1_344_096_768,
-        packet,
-    }))?;
-    let packet = Packet::new(&[2, 1, 0, 1, 1, 0, 0, 0]).ok_or("packet")?;
-    air.push(Entry::Heard(HeardEntry {
-        rank,
-        node: two,
-        from: one,
-        start: 1_344_064_000,
-        end: 1_344_096_768,
-        packet,
-    }))?;
-    assert_eq!(rt; air.len(), 2);
-    let first_is_sent = matches!(air.at(0), Some(Entry::Sent(_)));
-    assert!(rt; first_is_sent);
-    let second_is_heard = matches!(air.at(1), Some(Entry::Heard(_)));
-    assert!(rt; second_is_heard);
-    let no_third = air.at(2).is_none();
-    assert!(rt; no_third);
-    Ok(())
-}
-
-fn sent(node: u8, times: (u64, u64), bytes: &[u8]) -> Result<Entry, Fail> {
-    let rank = Rank::new(0).ok_or("rank")?;
-    let node = NodeId::new(node).ok_or("id")?;
-    let (start, end) = times;
-    let packet = Packet::new(bytes).ok_or("packet")?;
-    Ok(Entry::Sent(SentEntry {
-        rank,
-        node,
-        start,
-        end,
-        packet,
-    }))
-}
 
 fn heard(rank: u8, node: u8, from: u8, times: (u64, u64), bytes: &[u8]) -> Result<Entry, Fail> {
     let rank = Rank::new(rank).ok_or("rank")?;
@@ -80,26 +33,6 @@ fn tuned(rank: u8, node: u8, start: u64, end: u64) -> Result<Entry, Fail> {
 }
 
 #[test]
-fn lines_of_the_first_round(rt: HostRuntime) -> Result<(), Fail> {
-    let schedule = [1, 0, 0, 0, 1, 0, 0, 0, 0, 0];
-    let times = (1_344_064_000, 1_344_100_864);
-    let mut air = Air::new(rt.alloc());
-    air.push(tuned(0, 1, 1_344_000_000, 1_344_199_168)?)?;
-    air.push(heard(0, 2, 1, times, &schedule)?)?;
-    air.push(tuned(0, 2, 0, 1_344_248_320)?)?;
-    air.push(sent(1, times, &schedule)?)?;
-    air.push(tuned(0, 1, 0, 1_228_800_000)?)?;
-    let text = text(rt.alloc(), &air)?;
-    assert_eq!(rt;
-        text.as_str(),
-        "tuned 0 1 0 1228800000\ntuned 0 2 0 1344248320\ntuned 0 1 1344000000 1344199168\n\
-         sent 0 1 1344064000 1344100864 01000000010000000000\n\
-         heard 0 2 1 1344064000 1344100864 01000000010000000000\n"
-    );
-    Ok(())
-}
-
-#[test]
 fn equal_entries_keep_their_order(rt: HostRuntime) -> Result<(), Fail> {
     let times = (64, 30_784);
     let mut air = Air::new(rt.alloc());
@@ -112,5 +45,35 @@ fn equal_entries_keep_their_order(rt: HostRuntime) -> Result<(), Fail> {
         text.as_str(),
         "heard 1 3 9 64 30784 ab0aff\nheard 0 3 4 64 30784 010203\ntuned 1 1 64 9\ntuned 0 1 64 8\n"
     );
+    Ok(())
+}
+
+// A log of so many transmissions of 125 bytes.
+fn long_log(alloc: Global, count: u64) -> Result<Air, Fail> {
+    let node = NodeId::new(1).ok_or("id")?;
+    let rank = Rank::new(0).ok_or("rank")?;
+    let mut air = Air::new(alloc);
+    for i in 0..count {
+        let start = 1_000_000_000 + i % 1_000_000;
+        air.push(Entry::Sent(SentEntry {
+            rank,
+            node,
+            start,
+            end: start + 272_384,
+            packet: Packet::new(&[7; 125]).ok_or("length")?,
+        }))?;
+    }
+    Ok(air)
+}
+
+#[test]
+fn text_of_a_long_log(rt: HostRuntime) -> Result<(), Fail> {
+    let alloc = rt.alloc();
+    let air = long_log(alloc, 10_000)?;
+    let text = text(alloc, &air)?;
+    // `sent 0 1`, two numbers of ten digits, 250 digits, and what stands between them.
+    assert_eq!(rt; text.len(), 10_000 * 282);
+    assert!(rt; text.starts_with("sent 0 1 1000000000 1000272384 070707"));
+    assert!(rt; text.ends_with("0707\n"));
     Ok(())
 }

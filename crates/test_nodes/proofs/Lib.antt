@@ -1,4 +1,3 @@
-pub mod Accepting
 pub mod FewOrders
 pub mod LeftDeliveries
 mod WorkedOrders

@@ -9,10 +9,6 @@ pub use call::Call;
 pub use whole_runs::follow;
 
 #[cfg(test)]
-mod failover_tests;
-#[cfg(test)]
-mod member_tests;
-#[cfg(test)]
 mod node_tests;
 #[cfg(test)]
 mod round_tests;

@@ -46,21 +46,3 @@ fn windows_of_a_first_round(rt: HostRuntime) {
         );
     }
 }
-
-// The longest round: 40 owners and 4 contention slots.
-#[test]
-fn slots_of_the_longest_round(rt: HostRuntime) {
-    let profile = Profile::contended(4);
-    let round = Round::new(&profile, Reference::of_host(&profile, 9), 40, 4);
-    assert_eq!(rt; round.last(), 45);
-    for (slot, kind) in [
-        (0, Kind::Schedule),
-        (1, Kind::Payload),
-        (40, Kind::Payload),
-        (41, Kind::Request),
-        (44, Kind::Request),
-        (45, Kind::Schedule),
-    ] {
-        assert_eq!(rt; round.kind(slot), kind, "at {slot}");
-    }
-}

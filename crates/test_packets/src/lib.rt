@@ -11,8 +11,6 @@ mod packet_tests;
 #[cfg(test)]
 mod reference_tests;
 #[cfg(test)]
-mod relay_tests;
-#[cfg(test)]
 mod schedule_tests;
 #[cfg(test)]
 mod trace_tests;

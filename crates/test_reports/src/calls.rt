@@ -1,4 +1,4 @@
-//! Calls of `top`, and their words and texts.
+//! Calls of `top`, and their words.
 
 use lwb_base::{MemorySink, MemorySource};
 use replay_tool::top;
@@ -26,13 +26,4 @@ pub fn owned(alloc: Global, words: &[&str]) -> Result<Vec<String>, AllocError> {
         owned.push(String::from_str(alloc, word)?)?;
     }
     Ok(owned)
-}
-
-/// The text of these parts.
-pub fn joined(alloc: Global, parts: &[&str]) -> Result<String, AllocError> {
-    let mut text = String::new(alloc);
-    for part in parts {
-        text.push_str(part)?;
-    }
-    Ok(text)
 }

@@ -3,7 +3,7 @@
 ghost use Rattle.std.specs.Prelude.{◌≡◌, IfOk, OnOk};
 ghost use Rattle.lwb_base.specs.Profile.{one};
 
-use crate::cases::ONE_PACKET;
+use crate::texts::ONE_PACKET;
 use crate::worlds::{scenario, stated_world};
 use air_log::{Air, Entry, HeardEntry, SentEntry};
 use lwb_base::{Event, NodeId, Order, Packet, Payload, Profile, Rank, RecordingRadio};

@@ -1,7 +1,7 @@
 //! Texts that are cut off, and ends that fail, at each place: the scenario of one stream and one packet.
 
-use crate::calls::{answer, joined, owned};
-use crate::cases::ONE_PACKET;
+use crate::calls::{answer, owned};
+use crate::texts::{ONE_PACKET, THREE_IN_A_LINE};
 use lwb_base::{MemorySink, MemorySource};
 use replay_tool::top;
 use std::alloc::{AllocError, Global};
@@ -85,10 +85,9 @@ fn each_prefix_of_a_scenario_from_a_source_of_one_byte_a_call(rt: HostRuntime) -
 #[test]
 fn source_that_fails_at_each_call(rt: HostRuntime) -> Result<(), Fail> {
     let alloc = rt.alloc();
-    let text = joined(alloc, ONE_PACKET)?;
     let words = owned(alloc, &["run"])?;
     for call in 1..9u64 {
-        let mut source = MemorySource::new(alloc, text.as_bytes(), 16, &[call])?;
+        let mut source = MemorySource::new(alloc, ONE_PACKET.as_bytes(), 16, &[call])?;
         let mut sink = MemorySink::new(alloc, 4096, 4096, &[])?;
         let outcome = top(alloc, &words, &mut source, &mut sink);
         let (status, written) = if call < 8 { (3, "") } else { (0, RUN_REPORT) };
@@ -102,10 +101,9 @@ fn source_that_fails_at_each_call(rt: HostRuntime) -> Result<(), Fail> {
 #[test]
 fn sink_that_fails_at_each_call(rt: HostRuntime) -> Result<(), Fail> {
     let alloc = rt.alloc();
-    let text = joined(alloc, ONE_PACKET)?;
     let words = owned(alloc, &["run"])?;
     for call in 1..17u64 {
-        let mut source = MemorySource::new(alloc, text.as_bytes(), 4096, &[])?;
+        let mut source = MemorySource::new(alloc, ONE_PACKET.as_bytes(), 4096, &[])?;
         let mut sink = MemorySink::new(alloc, 7, 4096, &[call])?;
         let outcome = top(alloc, &words, &mut source, &mut sink);
         let gone = RUN_REPORT.len().min(7 * (call as usize - 1));
@@ -120,5 +118,24 @@ fn sink_that_fails_at_each_call(rt: HostRuntime) -> Result<(), Fail> {
             "at call {call}"
         );
     }
+    Ok(())
+}
+
+// The flood along a line of three nodes.
+#[test]
+fn flood_from_a_source_and_into_a_sink_that_fail(rt: HostRuntime) -> Result<(), Fail> {
+    let alloc = rt.alloc();
+    let words = owned(alloc, &["flood"])?;
+    let text = THREE_IN_A_LINE.as_bytes();
+    let mut failing = MemorySource::new(alloc, text, 4096, &[1])?;
+    let mut sink = MemorySink::new(alloc, 10, 4096, &[2])?;
+    let outcome = top(alloc, &words, &mut failing, &mut sink);
+    assert_eq!(rt; (outcome.status, outcome.air.len()), (3, 0));
+    assert_eq!(rt; sink.bytes().len(), 0);
+
+    let mut source = MemorySource::new(alloc, text, 4096, &[])?;
+    let outcome = top(alloc, &words, &mut source, &mut sink);
+    assert_eq!(rt; (outcome.status, outcome.air.len()), (4, 14));
+    assert_eq!(rt; sink.bytes(), b"accept 2 0".as_slice());
     Ok(())
 }

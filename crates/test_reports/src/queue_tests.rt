@@ -3,7 +3,7 @@
 ghost use Rattle.std.specs.Prelude.{◌≡◌, IfOk, length, replicate};
 ghost use Rattle.event_calendar.specs.Orders.{nothing_due};
 
-use crate::cases::ONE_PACKET;
+use crate::texts::ONE_PACKET;
 use crate::worlds::{scenario, stated_world};
 use air_log::{Air, Entry};
 use event_calendar::{Calendar, Class, Orders};

@@ -1,6 +1,6 @@
 //! What each node does in a worked run, by its log: the trace and the account.
 
-use crate::cases::FIRST_ROUND;
+use crate::texts::FIRST_ROUND;
 use crate::worlds::{clocks_of, scenario, world_after};
 use air_log::{Air, Trail, trail_of};
 use bus_rules::Tune;

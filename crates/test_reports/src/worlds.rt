@@ -7,7 +7,6 @@ ghost use Rattle.scenario_clocks.specs.StatedClocks.{scenario_clock};
 ghost use Rattle.air_log.specs.Lawful.{Lawful};
 ghost use Rattle.world_engine.specs.Worlds.{new_world};
 
-use crate::calls::joined;
 use lwb_base::{INPUT_LIMIT, Memory};
 use lwb_world::World;
 use scenario_clocks::stated_clocks;
@@ -16,9 +15,8 @@ use std::alloc::Global;
 use std::test::Fail;
 use tick_clock::SegmentClock;
 
-/// The scenario of a text in parts.
-pub fn scenario(alloc: Global, parts: &[&str]) -> Result<Scenario, Fail> {
-    let text = joined(alloc, parts)?;
+/// The scenario of a text.
+pub fn scenario(alloc: Global, text: &str) -> Result<Scenario, Fail> {
     let bytes = text.as_bytes();
     if bytes.len() > INPUT_LIMIT {
         return Err("length")?;

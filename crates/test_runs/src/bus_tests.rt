@@ -1,24 +1,24 @@
 //! What is delivered and dropped over any clocks is what the bus delivers and drops.
 
-use crate::made::small;
-use crate::runs::{Speeds, bus_lines, differing, run_lines, scenario, scenario_between};
-use crate::texts::{BACKUP_HOST, ONE_PACKET, WORKED};
+use crate::runs::{bus_lines, differing, scenario_between};
+use crate::texts::{BACKUP_HOST, ONE_PACKET};
 use std::alloc::{AllocError, Global};
 use std::fmt::Write;
 use std::test::Fail;
 
+// Whether that is delivered on the bus and over all kinds of clocks, with lines before and after those of one stream and one
+// packet.
+fn delivers(alloc: Global, first: &str, last: &str, lines: &str) -> Result<bool, Fail> {
+    let s = scenario_between(alloc, first, ONE_PACKET, last)?;
+    Ok(bus_lines(alloc, &s)?.as_str() == lines && differing(alloc, &s)?.is_none())
+}
+
 #[test]
-fn worked_scenarios(rt: HostRuntime) -> Result<(), Fail> {
+fn worked_faults(rt: HostRuntime) -> Result<(), Fail> {
     let alloc = rt.alloc();
-    for worked in WORKED {
-        let name = worked.name;
-        let s = scenario(alloc, worked.text)?;
-        assert_eq!(rt; bus_lines(alloc, &s)?.as_str(), worked.lines, "of {name}");
-        for speeds in Speeds::ALL {
-            let lines = run_lines(alloc, &s, speeds)?;
-            assert_eq!(rt; lines.as_str(), worked.lines, "of {name}, {speeds:?}");
-        }
-    }
+    let late = "deliver 14 0 1 1 2 1 0 0 aa\n";
+    assert!(rt; delivers(alloc, "frames 16\n", "off 5 1\non 5 1\n", late)?);
+    assert!(rt; delivers(alloc, "frames 12\n", "cut 9 1 0 2\n", "")?);
     Ok(())
 }
 
@@ -63,16 +63,6 @@ fn lost_directions(rt: HostRuntime) -> Result<(), Fail> {
         let lines = losses(alloc, from, to)?;
         let s = scenario_between(alloc, "", BACKUP_HOST, lines.as_str())?;
         assert_eq!(rt; differing(alloc, &s)?, None, "from {from} to {to}");
-    }
-    Ok(())
-}
-
-#[test]
-fn made_scenarios(rt: HostRuntime) -> Result<(), Fail> {
-    let alloc = rt.alloc();
-    for seed in 0..40u64 {
-        let s = small(alloc, seed)?;
-        assert_eq!(rt; differing(alloc, &s)?, None, "of seed {seed}");
     }
     Ok(())
 }

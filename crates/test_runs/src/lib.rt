@@ -4,10 +4,6 @@
 #[cfg(test)]
 mod bus_tests;
 #[cfg(test)]
-mod cost_tests;
-#[cfg(test)]
-mod made;
-#[cfg(test)]
 mod moves;
 #[cfg(test)]
 mod runs;
@@ -17,5 +13,3 @@ mod safe;
 mod safe_tests;
 #[cfg(test)]
 mod texts;
-#[cfg(test)]
-mod turn_tests;

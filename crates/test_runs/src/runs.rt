@@ -33,24 +33,17 @@ impl Speeds {
     }
 }
 
-/// The scenario of a text in parts.
-pub fn scenario(alloc: Global, parts: &[&str]) -> Result<Scenario, Fail> {
-    scenario_between(alloc, "", parts, "")
-}
-
-/// The same with a line before its text and lines after it.
+/// The scenario of a text with lines before and after it.
 pub fn scenario_between(
     alloc: Global,
     first: &str,
-    parts: &[&str],
+    text: &str,
     last: &str,
 ) -> Result<Scenario, Fail> {
-    let mut text = String::from_str(alloc, first)?;
-    for part in parts {
-        text.push_str(part)?;
-    }
-    text.push_str(last)?;
-    let bytes = text.as_bytes();
+    let mut whole = String::from_str(alloc, first)?;
+    whole.push_str(text)?;
+    whole.push_str(last)?;
+    let bytes = whole.as_bytes();
     if bytes.len() > INPUT_LIMIT {
         return Err("length")?;
     }
