@@ -139,7 +139,7 @@ drawn() {
     ends "$name" 0 "$text"
 }
 
-usage=$'usage: flood | run | log | bus | demo SEED NODES FRAMES | check | deadlines\n'
+usage=$'usage: flood | run | log | bus | demo SEED NODES FRAMES | check | deadlines | times\n'
 line=$'sends 2\nnode 1 0\nnode 2 0\nnode 3 0\npair 1 2\npair 2 3\nstart 1\n'
 base=$'sends 2\nnode 1 0\nnode 2 0\nhost 0 1\npair 1 2\n'
 

@@ -66,6 +66,7 @@ def pictures():
     yield "guard", drawings.guard_picture()
     yield "states", drawings.states_picture()
     yield "crates", drawings.crates_picture()
+    yield "times", drawings.times_picture()
     line = example("packets-along-a-line")
     yield "frame", drawings.frame_picture(line, 9)
     yield "round", window(line, 9, 0, 0.132, "The round of frame 9 of packets-along-a-line: what each radio does")

@@ -4,6 +4,7 @@ pub mod BusReport
 pub mod Summary
 pub mod DeadlineReport
 pub mod CheckReport
+pub mod TimesReport
 pub mod Commands
 pub mod Reports
 pub mod CommandLine

@@ -26,6 +26,8 @@ pub enum Command {
     Check,
     /// What becomes of streams with deadlines, and the rounds of those that are admitted.
     Deadlines,
+    /// When each data packet of the run of a scenario was sent first, in the time of the host.
+    Times,
 }
 
 impl Command {
@@ -40,7 +42,8 @@ impl Command {
             | Command::Log
             | Command::Bus
             | Command::Check
-            | Command::Deadlines => true,
+            | Command::Deadlines
+            | Command::Times => true,
         }
     }
 }
@@ -61,6 +64,8 @@ pub fn command_of(words: &[String]) -> Option<Command>
         Some(Command::Check)
     } else if is_word(words, b"deadlines") {
         Some(Command::Deadlines)
+    } else if is_word(words, b"times") {
+        Some(Command::Times)
     } else {
         demo_of(words)
     }

@@ -16,6 +16,7 @@ mod report;
 mod run_answer;
 mod run_report;
 mod summary;
+mod times_answer;
 mod top_call;
 
 pub use scenario_clocks::scenario_clocks_keep_the_drift_law;

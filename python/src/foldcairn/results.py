@@ -229,7 +229,8 @@ def check(scenario: Scenario | str | bytes, log_text: str, *, program: Path | No
 
 def times(scenario: Scenario | str | bytes, *, program: Path | None = None) -> pd.DataFrame:
     """When each data packet was initiated, in the time of the host that planned the round, by what its node received: a row
-    for each with `frame`, `rank`, `slot`, `node`, `stream`, `number`, `host_ticks` and `host_seconds`, by frame, rank and slot."""
+    for each with `frame`, `rank`, `slot`, `node`, `stream`, `number`, `host_ticks` and `host_seconds`, by frame, rank and slot
+    (docs/TIMES.md)."""
     output = programs.execute(["times"], _text(scenario), program=program)
     stamps = columns.read(BytesIO(output), {"stamp": _STAMP})["stamp"]
     return stamps.assign(host_seconds=stamps["host_ticks"] / TICKS_A_SECOND)
