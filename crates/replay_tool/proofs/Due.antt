@@ -10,7 +10,7 @@ use Rattle.replay_tool.specs.Commands.{Asks, reads, IsTextOf, HasFault}
 use Rattle.replay_tool.specs.CommandLine.{PartWritten, WholeRead, IsInput, IsFaultLine, IsComplete}
 use Rattle.replay_tool.specs.Reports.{IsReport}
 use Rattle.replay_tool.specs.declared.command.Command.{Command}
-use Rattle.replay_tool.specs.declared.command.Command.TheVariants.{Flood, Run, Log, Bus, Demo, Check, Deadlines, Times}
+use Rattle.replay_tool.specs.declared.command.Command.TheVariants.{Flood, Run, Log, Bus, Demo, Check, Deadlines, Times, Return}
 
 -- a part of a text that is due
 pub part_due : (a b : Option (List ℕ)) (Due : List ℕ → Type 0) (text : List ℕ) → Due text → PartWritten a b (λ t. t ≡ text) → PartWritten a b Due
@@ -45,6 +45,7 @@ is_text (Demo seed nodes frames) b air text report = refl
 is_text Check b air text report = ap result_err report.2
 is_text Deadlines b air text report = ap result_err report.1
 is_text Times b air text report = ap result_err report.1
+is_text Return b air text report = ap result_err report.1
 
 -- a text has no fault
 text_or_fault : (c : Command) (b : List ℕ) (n : ℕ) (k : FaultKind) → IsTextOf c b → HasFault c b n k → ⊥
@@ -62,6 +63,7 @@ faulty_reads Bus b n k fault = refl
 faulty_reads Check b n k fault = refl
 faulty_reads Deadlines b n k fault = refl
 faulty_reads Times b n k fault = refl
+faulty_reads Return b n k fault = refl
 faulty_reads (Demo seed nodes frames) b n k fault = absurd (text_or_fault (Demo seed nodes frames) b n k refl fault)
 
 -- words ask for one command

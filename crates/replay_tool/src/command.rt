@@ -28,6 +28,8 @@ pub enum Command {
     Deadlines,
     /// When each data packet of the run of a scenario was sent first, in the time of the host.
     Times,
+    /// The run of a scenario in which backup hosts go back to a lower host that runs again.
+    Return,
 }
 
 impl Command {
@@ -43,7 +45,8 @@ impl Command {
             | Command::Bus
             | Command::Check
             | Command::Deadlines
-            | Command::Times => true,
+            | Command::Times
+            | Command::Return => true,
         }
     }
 }
@@ -66,6 +69,8 @@ pub fn command_of(words: &[String]) -> Option<Command>
         Some(Command::Deadlines)
     } else if is_word(words, b"times") {
         Some(Command::Times)
+    } else if is_word(words, b"return") {
+        Some(Command::Return)
     } else {
         demo_of(words)
     }

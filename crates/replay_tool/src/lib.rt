@@ -13,6 +13,8 @@ mod energy_lines;
 mod flood_answer;
 mod numbers;
 mod report;
+mod return_answer;
+mod return_lines;
 mod run_answer;
 mod run_report;
 mod summary;

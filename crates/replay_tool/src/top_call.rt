@@ -16,6 +16,7 @@ use crate::command::{Command, command_of};
 use crate::deadline_answer::deadline_answer;
 use crate::demo_answer::demo_answer;
 use crate::flood_answer::flood_answer;
+use crate::return_answer::return_answer;
 use crate::run_answer::{log_answer, run_answer};
 use crate::times_answer::times_answer;
 use air_log::Air;
@@ -33,8 +34,8 @@ pub struct Outcome {
     pub air: Air,
 }
 
-const USAGE: &[u8; 84] =
-    b"usage: flood | run | log | bus | demo SEED NODES FRAMES | check | deadlines | times\n";
+const USAGE: &[u8; 93] =
+    b"usage: flood | run | log | bus | demo SEED NODES FRAMES | check | deadlines | times | return\n";
 
 const TOO_LONG: &[u8; 15] = b"fault too long\n";
 
@@ -128,6 +129,7 @@ fn answer(alloc: Global, command: Command, bytes: &[u8]) -> Result<Answer, Memor
         Command::Check => check_answer(alloc, bytes),
         Command::Deadlines => deadline_answer(alloc, bytes),
         Command::Times => times_answer(alloc, bytes),
+        Command::Return => return_answer(alloc, bytes),
     }
 }
 
