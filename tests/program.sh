@@ -178,6 +178,15 @@ words_and_texts() {
     ends "as many bytes as may come" 0 $'accept 2 0\naccept 3 1\nsent 6\n'
 }
 
+# A packet is sent at the nominal time of its slot by what its sender received, and so is its stamp, whatever its clock is.
+stamps() {
+    local packet=$'frames 12\non 0 1\non 0 2\nstream 0 2 0 4\nput 0 2 0 aa\n'
+    run_on "${base/node 2 0/node 2 9000}$packet" times
+    ends "a stamp over an offset" 0 $'stamp 9 0 1 2 0 0 2370176000\n'
+    run_on "${base}rate 2 0 20"$'\n'"$packet" times
+    ends "a stamp by a fast clock" 0 $'stamp 9 0 1 2 0 0 2370176000\n'
+}
+
 ends_that_fail() {
     "$program" flood < "$folder" > "$folder/out" 2> "$folder/err"
     status=$?
@@ -239,6 +248,7 @@ else
     echo "left out: the texts that bench/made.py draws, since there is no python3" >&2
 fi
 words_and_texts
+stamps
 ends_that_fail
 greatest_sizes
 little_memory
