@@ -38,6 +38,7 @@ pub fn return_answer(alloc: Global, bytes: &[u8]) -> Result<Answer, Memory>
 }
 
 // A world for each run, over the clocks that its scenario states.
+#[derive(Drop)]
 struct Worlds;
 
 impl Runner for Worlds {

@@ -1,8 +1,12 @@
-//! Tests of `times`, a command that reports a run in other words than `run`: worked texts, and what is written of them.
+//! Tests of the commands `times` and `return`: worked texts, and what is written of them.
 #![tactic(auto)]
 
 #[cfg(test)]
 mod calls;
+#[cfg(test)]
+mod return_cases;
+#[cfg(test)]
+mod return_tests;
 #[cfg(test)]
 mod times_cases;
 #[cfg(test)]
