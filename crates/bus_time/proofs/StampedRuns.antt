@@ -12,6 +12,7 @@ use Rattle.air_log.specs.declared.entry.Entry.{Entry}
 use Rattle.air_log.specs.Lawful.{Lawful}
 use Rattle.air_log.specs.LogText.{in_order}
 use Rattle.air_log.proofs.Elements.{contains_head, contains_tail}
+use Rattle.law_safety.specs.Invariant.{IsDrivenWell}
 use Rattle.bus_time.specs.Reading.{IsRead, beginning_of, starts_first}
 use Rattle.bus_time.specs.Stamps.{stamped}
 use Rattle.bus_time.specs.Stamping.{MayStamp}
@@ -31,6 +32,10 @@ found_at g (x ∷ xs) zero y less = record { it = x; place = refl; image = refl;
 found_at g (x ∷ xs) (suc i) y less =
     let rest = found_at g xs i y (omega (arith, less)) in
     record { it = rest.it; place = rest.place; image = rest.image; there = contains_tail x xs rest.it rest.there }
+
+-- over the clocks that a scenario states
+pub driven : (s : ScenarioParts) → IsScenario s → IsDrivenWell s (scenario_clock s)
+driven s said = record { sound = sound s said; drift = λ v known. scenario_clocks_drift s said v known }
 
 module _ (s : ScenarioParts) (said : IsScenario s) (air : List Entry) (lawful : Lawful s (scenario_clock s) air) (p : Numbers) (own : p ≡ s.profile)
     (now ahead : Words) (bs sorted : List Beginning) (read : IsRead p air now ahead bs) (order : sorted ≡ in_order starts_first bs) where
@@ -57,7 +62,7 @@ module _ (s : ScenarioParts) (said : IsScenario s) (air : List Entry) (lawful : 
         it = found.it;
         place = found.place;
         may = record {
-          driven = record { sound = sound s said; drift = λ v known. scenario_clocks_drift s said v known };
+          driven = driven s said;
           lawful = lawful;
           now_is = is_read.now_is;
           ahead_is = is_read.ahead_is;

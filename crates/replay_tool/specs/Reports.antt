@@ -17,6 +17,7 @@ use Rattle.air_log.specs.FloodLaw.{FloodLaw}
 use Rattle.air_log.specs.Lawful.{Lawful}
 use Rattle.air_log.specs.Safe.{Safe}
 use Rattle.air_log.specs.LogText.{log_text}
+use Rattle.bus_time.specs.StampErrors.{AllErrLittle}
 use Rattle.bus_time.specs.Stamps.{AreStamps}
 use Rattle.bus_time.specs.declared.stamp.Stamp.{Stamp}
 use Rattle.host_return.specs.AfterReturns.{AllProbed, AllQuiet}
@@ -70,10 +71,11 @@ pub record IsOfRun (told : Telling) (s : ScenarioParts) (air : List Entry) (text
 abbrev pub log_report : List Delivery → List DropLine → ScenarioParts → (ℕ → ℕ → ℕ) → List Entry → List ℕ
 log_report made lost s clocks air = run_report made lost s clocks air ++ log_text air
 
--- a run that is told by its stamps
+-- a run that is told by its stamps, which err little
 pub record IsTimesReport (s : ScenarioParts) (air : List Entry) (text : List ℕ) : Type 0 where
   pub stamps : List Stamp
   pub are : AreStamps s (scenario_clock s) air stamps
+  pub errors : AllErrLittle s (scenario_clock s) air stamps
   pub of_run : IsOfRun (stamp_report stamps) s air text
 
 -- The run of a scenario to which the returns of its backup hosts were added. In it each of them has received a schedule as it

@@ -8,12 +8,13 @@ use Rattle.scenario_text.proofs.SoundScenarios.{sound}
 use Rattle.scenario_clocks.specs.StatedClocks.{scenario_clock}
 use Rattle.scenario_clocks.proofs.StatedDrift.{scenario_states}
 use Rattle.energy_account.proofs.StatedPlaces.{stated_place}
-use Rattle.bus_time.specs.Stamps.{IsStamp, stamped}
+use Rattle.bus_time.specs.Stamps.{AreStamps, IsStamp, stamped}
 use Rattle.bus_time.specs.declared.beginning.Beginning.{Beginning}
 use Rattle.bus_time.specs.declared.stamp.Stamp.{Stamp}
 use Rattle.bus_time.proofs.StampTimes.{known}
 use Rattle.bus_time.proofs.StampedLists.{zip_more}
-use Rattle.bus_time.proofs.StampedRuns.{may_stamp, long}
+use Rattle.bus_time.proofs.StampedRuns.{driven, may_stamp, long}
+use Rattle.bus_time.proofs.StampsErr.{all_err_little}
 use Rattle.bus_time.proofs.stamping.stamps.Goals as goal
 
 pub stated_clocks-requires : goal.stated_clocks-requires
@@ -81,5 +82,10 @@ returns c =
     let r = c.in_ok-reading.reading in
     let many = long s c.nodes-nodes.ensures.said air c.requires.lawful c.profile-profile.result c.profile-profile.ensures.value r.present r.ahead
     r.beginnings.items c.sort.new.beginnings.items c.in_ok-reading.ensures c.in_ok-sort.ensures in
+    let made : AreStamps s (scenario_clock s) air c.loop-i.stamps.items =
     subst (λ (l : List Sending). AllZip (IsStamp s (scenario_clock s) air) l c.loop-i.stamps.items) (take_all c.loop-i.i (stamped s.profile air)
-    (let end = c.len-i-end.ensures in let test = c.loop-i-test.false in omega (arith, end, test, many))) c.loop-i.invariant
+    (let end = c.len-i-end.ensures in let test = c.loop-i-test.false in omega (arith, end, test, many))) c.loop-i.invariant in
+    record {
+      stamps = made;
+      errors = all_err_little s (scenario_clock s) air (driven s c.nodes-nodes.ensures.said) c.requires.lawful c.loop-i.stamps.items made;
+    }
