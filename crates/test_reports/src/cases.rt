@@ -94,7 +94,7 @@ const LONG_PAYLOAD_OF_THE_FIRST: &[&str] = &[
 const RATE_OUT_OF_RANGE: &[&str] = &["frames 6\n", BASE, "rate 1 0 21\n"];
 
 pub const USAGE: &str =
-    "usage: flood | run | log | bus | demo SEED NODES FRAMES | check | deadlines | times\n";
+    "usage: flood | run | log | bus | demo SEED NODES FRAMES | check | deadlines | times | return\n";
 
 pub const CASES: &[Case] = &[
     Case {

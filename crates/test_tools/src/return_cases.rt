@@ -1,6 +1,6 @@
 //! Worked texts in which a host comes back, and what `return` writes of them before the energy lines.
 
-/// Three nodes that all hear each other. Node 1 is the host of rank 0, and node 2 that of rank 1.
+/// Three nodes within reach of each other. Node 1 is the host of rank 0, and node 2 that of rank 1.
 pub const THREE: &str = "sends 2\nnode 1 0\nnode 2 0\nnode 3 0\nhost 0 1\nhost 1 2\npair 1 2\npair 1 3\npair 2 3\n";
 
 /// Node 1 goes off in frame 6. Nodes 2 and 3 come to the round of frame 9, scan for rank 0 from frame 10 to 21 and for rank 1
@@ -15,7 +15,7 @@ pub const FIRST_TWO: &str = "deliver 9 0 1 2 3 1 0 0 aa\ndeliver 31 1 1 2 3 1 0 
 /// Node 3 comes to the round of frame 39, which has no host, scans for rank 1 from frame 40 to 51, and then for rank 0.
 pub const LAST_TWO: &str = "deliver 56 0 1 1 3 1 0 2 cc\ndeliver 56 0 1 2 3 1 0 2 cc\n";
 
-/// Nodes that go back. Node 2 is idle in frames 28 to 30, 32 to 34 and 36, and in the last of them it hears node 1.
+/// Nodes that go back. Node 2 is idle in frames 28 to 30, 32 to 34 and 36, and in the last of them it receives node 1.
 pub const RETURNS: &[(&str, &[&str], &[&str])] = &[
     (
         "backup goes back",
@@ -44,8 +44,8 @@ pub const RETURNS: &[(&str, &[&str], &[&str])] = &[
         &["frames 58\n", FAILOVER, BACK, "off 37 2\non 37 2\nput 40 3 0 cc\n"],
         &["probe 2 7\n", FIRST_TWO, LAST_TWO],
     ),
-    // Node 2 restarts in frame 37 with boot 2 and streams 1 and 3, the interval of the latter being that of frame 37. It hears
-    // the round of frame 40 and requests stream 1 in it, and stream 3 in the round of frame 44. Stream 1 has two slots in that
+    // Node 2 restarts in frame 37 with boot 2 and streams 1 and 3, the interval of the latter being that of frame 37. It comes
+    // to the round of frame 40 and requests stream 1 in it, and stream 3 in the round of frame 44. Stream 1 has two slots in that
     // of frame 44, 16 s over 8 s, and in that of frame 48 too; stream 3 has four slots in it, behind these.
     (
         "streams that are wished again",
@@ -80,7 +80,7 @@ pub const RETURNS: &[(&str, &[&str], &[&str])] = &[
 pub const CHAIN: &str = "host 2 3\non 0 1\non 0 2\non 0 3\noff 6 1\noff 32 2\non 54 2\non 88 1\n";
 
 /// Node 3, whose host went, comes to the round of frame 95, scans for rank 1 from frame 96 on and for rank 2 from frame 108 on,
-/// and hosts it from frame 113 on, in the same frames as node 1. So in its 6 idle frames up to frame 120 it hears nobody.
+/// and hosts it from frame 113 on, in the same frames as node 1. So in its 6 idle frames up to frame 120 it receives nobody.
 pub const CHAINS: &[(&str, &str, &str)] = &[
     (
         "two backup hosts",

@@ -132,7 +132,7 @@ class DeadlineReport:
 
 @dataclass(frozen=True)
 class ReturnReport(Report):
-    """The report of a run in which backup hosts go back, and when they do. `scenario` is the one that was
+    """The report of a run in which backup hosts go back, and when they do (docs/RETURN.md). `scenario` is the one that was
     asked for, without the lines of the returns.
 
     returns  A row for each return: in `frame` the backup host `node` received a schedule of `rank`, the lower rank that it
