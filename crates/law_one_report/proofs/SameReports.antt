@@ -19,14 +19,17 @@ use Rattle.law_terms.specs.LawfulRuns.{IsLawfulRun}
 use Rattle.air_log.specs.declared.entry.Entry.{Entry}
 use Rattle.air_log.specs.Lawful.{Lawful}
 use Rattle.air_log.specs.LogText.{log_text}
-use Rattle.replay_tool.specs.Reports.{IsOfRun, IsFloodReport, IsTimesReport, Telling, OfScenario, log_report}
+use Rattle.replay_tool.specs.Reports.{IsOfRun, IsFloodReport, IsReturnReport, IsTimesReport, Telling, OfScenario, log_report}
 use Rattle.replay_tool.specs.RunReport.{report_lines, run_report, node_energy, energy_line}
 use Rattle.replay_tool.specs.Summary.{summary, number_line, sent_ticks, on_ticks}
 use Rattle.replay_tool.specs.BusReport.{bus_report}
 use Rattle.replay_tool.specs.CheckReport.{IsCheckReport, verdict_line}
 use Rattle.replay_tool.specs.DeadlineReport.{IsDeadlineReport}
+use Rattle.replay_tool.specs.ReturnReport.{node_probes, return_line, return_report}
 use Rattle.replay_tool.specs.TimesReport.{stamp_line}
-use Rattle.replay_tool.specs.declared.command.Command.TheVariants.{Flood, Run, Log, Bus, Demo, Check, Deadlines, Times}
+use Rattle.replay_tool.specs.declared.command.Command.TheVariants.{Flood, Run, Log, Bus, Demo, Check, Deadlines, Times, Return}
+use Rattle.host_return.specs.OneReturned.{OneReturnedLaw}
+use Rattle.host_return.specs.declared.returned.Return.{Return as HostReturn}
 use Rattle.bus_time.specs.StampLaws.{OneListLaw}
 use Rattle.bus_time.specs.declared.stamp.Stamp.{Stamp}
 use Rattle.air_check.specs.CheckedText.{checked_text}
@@ -48,6 +51,7 @@ pub record Laws : Type 0 where
   pub said : (seed n frames : ℕ) → IsSize n frames → IsSaid (made seed n frames)
   pub sound : (s : ScenarioParts) → IsScenario s → IsSoundScenario s
   pub stamps : OneListLaw
+  pub returned : OneReturnedLaw
   pub verdict : (s : ScenarioParts) (clocks : ℕ → ℕ → ℕ) (air : List Entry) (a b : Verdict) → IsVerdict s clocks air a → IsVerdict s clocks air b → a ≡ b
 
 -- what a text says, it says alone
@@ -105,6 +109,23 @@ module _ (laws : Laws) (s : ScenarioParts) (said : IsScenario s) where
       is.stamps also.stamps is.are also.are in
       (is.of_run.is ∙ ap (λ (ms : List Stamp). flat_map stamp_line ms) same ∙ sym also.of_run.is, moved)
 
+-- two runs of a scenario go back in the same frames, and end in runs of one scenario
+module _ (laws : Laws) (read : ScenarioParts) (said : IsScenario read) where
+  one_return : (a b : List Entry) (text other : List ℕ) → IsReturnReport read a text → IsReturnReport read b other → (text ≡ other) × IsPermutation a b
+  one_return a b text other is also =
+      let x = is.returned in
+      let y = also.returned in
+      let same = laws.returned read said x y is.is also.is in
+      let alike : ToldAlike laws x.scenario is.said (return_report x.returns x.counts) =
+      λ m n of_m of_n. ap (λ (l : List ℕ). flat_map return_line x.returns ++ flat_map node_probes x.counts ++ l) (run_alike laws x.scenario is.said m n of_m of_n) in
+      let scenario : IsOfRun (return_report y.returns y.counts) x.scenario b other =
+      subst (λ (s : ScenarioParts). IsOfRun (return_report y.returns y.counts) s b other) (sym same.scenario) also.of_run in
+      let returns : IsOfRun (return_report x.returns y.counts) x.scenario b other =
+      subst (λ (rs : List HostReturn). IsOfRun (return_report rs y.counts) x.scenario b other) (sym same.returns) scenario in
+      let counts : IsOfRun (return_report x.returns x.counts) x.scenario b other =
+      subst (λ (cs : List (ℕ × ℕ)). IsOfRun (return_report x.returns cs) x.scenario b other) (sym same.counts) returns in
+      one_run laws x.scenario is.said (return_report x.returns x.counts) alike a b text other is.of_run counts
+
 -- a log has one verdict
 one_check : Laws → (s : ScenarioParts) (log : List Entry) (text other : List ℕ) → IsCheckReport s log text → IsCheckReport s log other → text ≡ other
 one_check laws s log text other is also =
@@ -154,3 +175,5 @@ one_report laws Deadlines asked bytes a b text other is also =
     (one_plan_report is.0 text other is.2.1 here, no_logs laws bytes a b text other is.2.0 also.2.0)
 one_report laws Times asked bytes a b text other is also =
     of_scenario laws bytes a b text other IsTimesReport (λ s said. one_times laws s said a b text other) is also
+one_report laws Return asked bytes a b text other is also =
+    of_scenario laws bytes a b text other IsReturnReport (λ s said. one_return laws s said a b text other) is also

@@ -13,7 +13,7 @@ use scenario_clocks::scenario_clocks_keep_the_drift_law;
 use scenario_maker::laws::made_scenarios_are_accepted;
 use scenario_text::laws::scenarios_are_sound;
 
-/// Two reports of one command on one input are the same bytes, for all eight commands, and the logs that come with them have
+/// Two reports of one command on one input are the same bytes, for all nine commands, and the logs that come with them have
 /// the same entries, each as often. A law: the function does nothing.
 pub fn a_command_has_one_report()
     ensures { OneReportLaw }

@@ -1,5 +1,5 @@
-"""What the program writes, as tables: `run`, `log`, `bus`, `flood`, `deadlines`, and `times` and `returns` where the program has
-these commands. `check` is in `verdicts`.
+"""What the program writes, as tables: of `run`, `log`, `bus`, `flood`, `deadlines`, `times` and `return`. What `check` answers is
+in `verdicts`.
 
 Each function runs the program on a scenario and reads its lines, which docs/OUTPUT.md has. Nothing is simulated here.
 Columns are named in full: those that end in `_ticks` are true time in ticks of 1/64 µs, those that end in `_seconds` true
