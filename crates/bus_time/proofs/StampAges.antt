@@ -32,7 +32,7 @@ use Rattle.bus_time.specs.Stamps.{IsReference, tick_by}
 use Rattle.bus_time.specs.StampErrors.{BeganFlood, DifferByLess, StampsStayClose, drifted, never_reached, slack}
 use Rattle.bus_time.specs.StampLaws.{BeginsData}
 use Rattle.bus_time.proofs.DataHosts.{whole_run}
-use Rattle.bus_time.proofs.StampErrors.{before, clock, early, errs, flood, host_clock, in_run, later_frame, slot_short, starts}
+use Rattle.bus_time.proofs.StampErrors.{before, clock, errs, flood, host_clock, later_frame, slot_short, starts}
 
 -- ---- by the numbers of a budget
 
@@ -65,7 +65,7 @@ module _ (p : Numbers) (b : Budget) (fits : Fits p b) where
       let t0 : ℕ = started p H g i in
       let t : ℕ = started p H f j in
       elim (cases_lt t0 t) [
-        | inr early ↦ omega (arith, early, window, age)
+        | inr before ↦ omega (arith, before, window, age)
         | inl late ↦ (
             let d0 : ℕ = t - t0 in
             let long : t ≡ t0 + d0 = omega (arith, late) in
@@ -116,7 +116,7 @@ few_ahead s air x d h reference = elim reference.by [
 module _ (s : ScenarioParts) (clocks : ℕ → ℕ → ℕ) (air : List Entry) (whole : EndsInOrder s clocks air) (x : Sending) (begun : BeginsData air x)
     (d : ℕ) (h : Sending) (reference : IsReference s air x d h) (y : Schedule) (says : message_of h.packet ≡ Some (ScheduleOf y))
     (o : Sending) (began : BeganFlood s air h o) (host : ℕ) (named : IsHostOf s x.rank host) where
-  own_flood : IsOfFlood s clocks air x
+  abbrev own_flood : IsOfFlood s clocks air x
   own_flood = of_flood s clocks air whole x begun.there
 
   begins : BeginsFlood s clocks air own_flood.zero x

@@ -37,7 +37,7 @@ zip_weaker R Q (x ∷ xs) (y ∷ ys) gives all = (
 
 module _ (s : ScenarioParts) (clocks : ℕ → ℕ → ℕ) (air : List Entry) (whole : EndsInOrder s clocks air) (x : Sending) (begun : BeginsData air x)
     (stamp : Stamp) (is : IsStamp s clocks air x stamp) where
-  host : ℕ
+  abbrev host : ℕ
   host = slice_index s.hosts x.rank
 
   named : IsHostOf s x.rank host
@@ -74,8 +74,9 @@ module _ (s : ScenarioParts) (clocks : ℕ → ℕ → ℕ) (air : List Entry) (
     guest_close : DifferByLess stamp.tick (clocks host x.start) (never_reached s.profile)
     guest_close =
         let age = by_age in
-        subst (λ (t : ℕ). DifferByLess t (clocks host x.start) (never_reached s.profile)) (sym by.is)
-        (close s clocks air whole x begun by.ahead by.heard by.reference age.schedule age.says age.first age.began host named)
+        let r = age.by in
+        subst (λ (t : ℕ). DifferByLess t (clocks host x.start) (never_reached s.profile)) (sym r.is)
+        (close s clocks air whole x begun r.ahead r.heard r.reference age.schedule age.says age.first age.began host named)
 
   close_by : (b : Bool) → by_host s clocks air x ≡ b → DifferByLess stamp.tick (clocks host x.start) (never_reached s.profile)
   close_by true hosting = at_once (own hosting) (some_ticks (s.profile.seconds == 4))

@@ -13,7 +13,7 @@ ghost use Rattle.air_log.specs.Safe.{by_host};
 ghost use Rattle.bus_time.specs.Stamps.{AreStamps, IsStamp, IsTick};
 ghost use Rattle.bus_time.specs.StampErrors.{AllErrLittle};
 ghost use Rattle.bus_time.specs.Stamping.{MayStamp, IsWordFor};
-ghost use Rattle.std.specs.Prelude.{slice_get, length, get_or, position, ◌==◌};
+ghost use Rattle.std.specs.Prelude.{slice_get, length, get_or};
 ghost use Rattle.scenario_text.specs.declared.lines.NodeLine.{NodeLine as NodeLineOf};
 ghost use Rattle.lwb_base.specs.Profile.{airtime};
 ghost use Rattle.scenario_text.specs.ScenarioParts.{ScenarioParts};
@@ -25,7 +25,7 @@ use crate::words::{Round, Word};
 use air_log::Air;
 use lwb_base::{Memory, NodeId, Profile};
 use scenario_clocks::stated_clocks;
-use scenario_text::{NodeLine, Scenario};
+use scenario_text::Scenario;
 use std::alloc::Global;
 use tick_clock::DriftClock;
 use time_reference::Reference;
@@ -40,14 +40,13 @@ pub fn stamps(alloc: Global, s: &Scenario, air: &Air) -> Result<Vec<Stamp>, Memo
     ensures errors { IfOk result (λ made. AllErrLittle s.now (scenario_clock s.now) air.now made.items) }
 {
     let profile = s.profile();
-    let nodes = s.nodes();
-    let clocks = stated_clocks(alloc, nodes, s.rates())?;
+    let clocks = stated_clocks(alloc, s.nodes(), s.rates())?;
     let mut reading = Reading::of(alloc, &profile, air)?;
     sort(&mut reading.beginnings)?;
     let mut stamps = Vec::new(alloc);
     for i in 0..reading.beginnings.len() {
         let begun = reading.beginnings[i];
-        let clock = &clocks[place_of(nodes, begun.node)];
+        let clock = &clocks[place_of(s, begun.node)];
         stamps.push(stamp_of(s, &reading, &begun, clock))?;
     }
     Ok(stamps)
@@ -132,20 +131,14 @@ fn stamp_of<C: DriftClock>(s: &Scenario, reading: &Reading, begun: &Beginning, c
     }
 }
 
-// The place of a node among all.
-fn place_of(nodes: &[NodeLine], node: NodeId) -> usize
-    requires { knows nodes.now node ≡ true }
-    ensures place { result < length nodes.now }
-    ensures node { (d : NodeLineOf) → (get_or nodes.now result d).node ≡ node }
+// The place of a node among all, which stand by ascending ids.
+fn place_of(s: &Scenario, node: NodeId) -> usize
+    requires { knows s.now.nodes node ≡ true }
+    ensures place { result < length s.now.nodes }
+    ensures node { (d : NodeLineOf) → (get_or s.now.nodes result d).node ≡ node }
 {
-    match position_of(nodes, node) {
-        Some(place) => place,
-        None => unreachable!(),
+    match s.nodes().binary_search_by_key(&node, |line| line.node) {
+        Ok(place) => place,
+        Err(_) => unreachable!(),
     }
-}
-
-fn position_of(nodes: &[NodeLine], node: NodeId) -> Option<usize>
-    ensures { result ≡ position (λ (n : NodeLineOf). n.node == node) nodes.now }
-{
-    nodes.iter().position(|line| line.node == node)
 }

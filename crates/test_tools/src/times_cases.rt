@@ -9,7 +9,8 @@ const BACKUP: &str = "sends 2\nhost 0 1\nhost 1 2\npair 1 2\npair 1 3\npair 2 3\
     on 0 1\non 0 2\non 0 3\nstream 0 3 0 4\nput 0 3 0 aa\noff 6 1\nput 20 3 0 bb\n";
 
 /// Two nodes contend in slots of their own, and are both acknowledged in frame 5.
-const TWO_SLOTS: &str = "profile 2\ncontend 2\nsends 2\nnode 1 0\nnode 2 0\nnode 3 256000\nhost 0 1\n\
+const TWO_SLOTS: &str =
+    "profile 2\ncontend 2\nsends 2\nnode 1 0\nnode 2 0\nnode 3 256000\nhost 0 1\n\
     pair 1 2\npair 1 3\nframes 12\non 0 1\non 0 2\non 0 3\n\
     stream 0 2 0 5\nstream 0 3 0 5\nput 0 2 0 aa\nput 0 3 0 bb\n";
 
@@ -58,7 +59,11 @@ pub const STAMPS: &[(&str, &[&str], &str)] = &[
     ),
     (
         "no packet",
-        &["node 1 0\nnode 2 0\n", NETWORK, "frames 6\non 0 1\non 0 2\n"],
+        &[
+            "node 1 0\nnode 2 0\n",
+            NETWORK,
+            "frames 6\non 0 1\non 0 2\n",
+        ],
         "",
     ),
 ];
