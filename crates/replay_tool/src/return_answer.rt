@@ -4,6 +4,7 @@ ghost use Rattle.std.specs.Prelude.{◌≡◌, ◌<◌, ◌^◌, IfOk, length, s
 ghost use Rattle.bus_terms.specs.Bus.{bus_deliveries, bus_drops};
 ghost use Rattle.host_return.specs.Returned.{IsReturned};
 ghost use Rattle.scenario_clocks.specs.StatedClocks.{scenario_clock};
+ghost use Rattle.scenario_text.specs.ScenarioGrammar.{IsScenario};
 ghost use Rattle.scenario_text.specs.ScenarioParts.{ScenarioParts};
 ghost use Rattle.replay_tool.specs.Answers.{Answers};
 ghost use Rattle.replay_tool.specs.ReturnReport.{return_report as report_of};
@@ -51,13 +52,14 @@ impl Runner for Worlds {
 // What is delivered and lost comes from the bus, which has it without clocks: a log has the radios alone.
 fn return_report(alloc: Global, returned: &Returned) -> Result<String, Memory>
     requires { (read : ScenarioParts) × IsReturned read returned.now }
-    ensures { IfOk result (λ text. string_bytes text ≡ report_of returned.now.returns returned.now.counts (bus_deliveries returned.now.scenario)
+    ensures said { IfOk result (λ text. IsScenario returned.now.scenario) }
+    ensures bytes { IfOk result (λ text. string_bytes text ≡ report_of returned.now.returns returned.now.counts (bus_deliveries returned.now.scenario)
         (bus_drops returned.now.scenario) returned.now.scenario (scenario_clock returned.now.scenario) returned.now.air) }
 {
     let scenario = returned.scenario();
     let mut text = String::new(alloc);
     write_returns(&mut text, returned.returns())?;
-    write_probes(&mut text, returned)?;
+    write_probes(&mut text, scenario.nodes(), returned)?;
     let bus = Bus::run(alloc, scenario)?;
     write_report(&mut text, bus.deliveries(), bus.drops())?;
     write_energies_of_log(alloc, &mut text, scenario, returned.air())?;

@@ -23,12 +23,16 @@ fn write_return(text: &mut String, r: &Return) -> Result<(), AllocError>
     write_line(text, "return", &[r.frame, node, u32::from(r.rank.number())])
 }
 
-/// Writes a line for each node that probed in some frame: `probe NODE COUNT`.
-pub fn write_probes(text: &mut String, returned: &Returned) -> Result<(), AllocError>
-    requires { returned.now.counts ≡ counts_in returned.now.scenario returned.now.air }
+/// Writes a line for each of the nodes, which are those of the scenario, that probed in some frame: `probe NODE COUNT`.
+pub fn write_probes(
+    text: &mut String,
+    nodes: &[NodeLine],
+    returned: &Returned,
+) -> Result<(), AllocError>
+    requires nodes { nodes.now ≡ returned.now.scenario.nodes }
+    requires counts { returned.now.counts ≡ counts_in returned.now.scenario returned.now.air }
     ensures { OnOk result (string_bytes text.new ≡ string_bytes text.old ++ flat_map node_probes returned.now.counts) }
 {
-    let nodes = returned.scenario().nodes();
     write_lines(text, nodes, |text, line| write_probe(text, returned, line))
 }
 
