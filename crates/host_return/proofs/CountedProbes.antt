@@ -10,7 +10,7 @@ use Rattle.scenario_text.specs.declared.lines.NodeLine.{NodeLine}
 use Rattle.air_log.specs.declared.entry.Entry.{Entry}
 use Rattle.air_log.specs.TrailsTold.{TrailTold}
 use Rattle.host_return.specs.NodeTrails.{trail_for, all_trails}
-use Rattle.host_return.specs.Probes.{probed_with, probed_rank, probes}
+use Rattle.host_return.specs.Probes.{probed_with, probes}
 use Rattle.host_return.specs.Returned.{counts_in}
 use Rattle.host_return.specs.declared.trails.NodeTrail.{NodeTrail}
 use Rattle.host_return.proofs.NodesProbing.{told_probe}

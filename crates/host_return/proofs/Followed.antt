@@ -1,19 +1,17 @@
 -- One return after another.
-use Rattle.std.proofs.Common.{◌≡◌, ℕ, ◌+◌, ◌<◌, ◌≤◌, List, [], ◌∷◌, ◌++◌, length, reverse, refl, sym, ◌∙◌, ap, subst, arith}
+use Rattle.std.proofs.Common.{◌≡◌, ◌<◌, List, [], ◌∷◌, length, reverse, Result, Ok, Err, IfOk, refl, sym, ◌∙◌, ap, subst, arith}
 use Rattle.std.proofs.lemmas.List.{length_push, append-nil, reverse-append, reverse-reverse}
+use Rattle.lwb_base.specs.declared.outside.Memory.{Memory}
 use Rattle.scenario_text.specs.AddedLines.{IsWithScript, HasRoom, IsMerged, in_frame}
 use Rattle.scenario_text.specs.ScenarioGrammar.{IsScenario}
 use Rattle.scenario_text.specs.ScenarioParts.{ScenarioParts}
-use Rattle.scenario_text.specs.declared.script.ScriptLine.{ScriptLine}
 use Rattle.scenario_text.proofs.LinesAdded.{one_with_script}
 use Rattle.scenario_text.proofs.OrderedParts.{in_order_said}
 use Rattle.scenario_clocks.specs.StatedClocks.{scenario_clock}
-use Rattle.air_log.specs.declared.entry.Entry.{Entry}
 use Rattle.air_log.specs.Lawful.{Lawful}
 use Rattle.host_return.specs.Candidates.{IsNext}
 use Rattle.host_return.specs.Courses.{IsFollowed, IsOneMore}
-use Rattle.host_return.specs.Restarts.{lines_of}
-use Rattle.host_return.specs.Returned.{Becomes, GoesBack}
+use Rattle.host_return.specs.Returned.{Becomes, GoesBack, Ends, ReturnedParts, counts_in, IsReturned}
 use Rattle.host_return.specs.declared.follow.Course.{Course}
 use Rattle.host_return.specs.declared.returned.Return.{Return}
 
@@ -56,3 +54,19 @@ one_more read old new less was more =
       lawful = more.lawful;
       frames = was.frames ∙ sym (ap (λ (s : ScenarioParts). s.frames) more.added.parts);
     }
+
+-- what is handed on at the end
+abbrev pub parts_of : Course → ReturnedParts
+parts_of c = record { scenario = c.scenario; returns = c.returns.items; air = c.air; counts = counts_in c.scenario c.air }
+
+pub ended : (read : ScenarioParts) (c : Course) → IsFollowed read c → Ends read c.scenario c.air c.returns.items → IsReturned read (parts_of c)
+ended read c followed ends = record { becomes = followed.becomes; few = followed.few; lawful = followed.lawful; ends = ends; counts = refl }
+
+pub ended_early : (read : ScenarioParts) (old new : Course) → IsFollowed read old → new ≡ old → Ends read old.scenario old.air old.returns.items
+    → IsReturned read (parts_of new)
+ended_early read old new followed same ends = subst (λ (c : Course). IsReturned read (parts_of c)) (sym same) (ended read old followed ends)
+
+pub finished : (read : ScenarioParts) (c : Course) (o : Result ReturnedParts Memory) → IfOk o (λ x. x ≡ parts_of c) → IsReturned read (parts_of c)
+    → IfOk o (IsReturned read)
+finished read c (Ok x) is whole = subst (IsReturned read) (sym is) whole
+finished read c (Err e) is whole = tt

@@ -1,29 +1,17 @@
 -- What a log holds, one entry more at a time, and in what order it is put.
-use Rattle.std.proofs.Common.{◌≡◌, ℕ, ◌+◌, ◌<◌, ◌≤◌, List, [], ◌++◌, take, map, length, get_or, Bool, true, false, ◌==◌}
-use Rattle.std.proofs.Common.{if◌then◌else◌, Option, Some, None, option_map, option_to_list, filter_map, refl, sym, ◌∙◌, ap, arith, inl, inr}
-use Rattle.std.proofs.Common.{true≢false, eq-eqb, Contains, All, AllPairs}
-use Rattle.std.specs.Prelude.{IsPermutation}
+use Rattle.std.proofs.Common.{◌≡◌, ℕ, ◌+◌, ◌<◌, ◌≤◌, List, ◌++◌, take, length, get_or, Bool, true}
+use Rattle.std.proofs.Common.{Option, option_to_list, filter_map, sym, ◌∙◌, ap, arith, inl, inr}
+use Rattle.std.proofs.Common.{true≢false, AllPairs}
 use Rattle.std.specs.List.Sorted.{IsSortedBy}
 use Rattle.std.specs.Cmp.{IsStrictWeakOrder, nat_cmp_total, on_total, then_total}
 use Rattle.std.specs.Ordering.{nat_cmp, ordering_then, is_lt}
-use Rattle.std.proofs.lemmas.Bool.{cases_order, cases_lt}
+use Rattle.std.proofs.lemmas.Bool.{cases_lt}
 use Rattle.std.proofs.lemmas.Bool.Decides.{nat_tests}
-use Rattle.std.proofs.lemmas.List.{map-append}
-use Rattle.std.proofs.lemmas.List.Sorted.{ranks_by, sorted_far, Contains-permutation, IsPermutation-sym}
-use Rattle.std.proofs.lemmas.List.Elements.{All-contains, Contains-get_or}
-use Rattle.scenario_text.specs.FloodParts.{knows}
-use Rattle.scenario_text.specs.ScenarioParts.{ScenarioParts}
+use Rattle.std.proofs.lemmas.List.Sorted.{ranks_by, sorted_far}
 use Rattle.radio_model.specs.Hearing.{Before}
 use Rattle.radio_model.specs.OnAir.{Sending}
-use Rattle.radio_model.proofs.Members.{not_in_none}
 use Rattle.radio_model.proofs.RivalLists.{filter_map_more}
-use Rattle.air_log.specs.Entries.{sendings_of}
-use Rattle.air_log.specs.Lawful.{FollowsTrails, trail_sent, trail_in, sent_by, heard_by}
-use Rattle.air_log.specs.TrailEntries.{IsSentBefore}
-use Rattle.air_log.specs.Trails.{run_end}
 use Rattle.air_log.specs.declared.entry.Entry.{Entry}
-use Rattle.air_log.proofs.Elements.{in_filtered}
-use Rattle.air_log.proofs.TrailSendings.{in_order, each_sent}
 
 pub one_more : {Y : Type 0} (f : Entry → Option Y) (air : List Entry) (i : ℕ) (e : Entry) (old new : List Y) (o : Option Y) → i < length air
     → e ≡ get_or air i e → o ≡ f e → old ≡ filter_map f (take i air) → new ≡ old ++ option_to_list o → new ≡ filter_map f (take (i + 1) air)

@@ -1,28 +1,27 @@
 -- Schedules that a node hears as it probes their channel.
-use Rattle.std.proofs.Common.{◌≡◌, ℕ, ◌+◌, ◌*◌, ◌<◌, ◌≤◌, ◌^◌, ◌↔◌, List, [], ◌∷◌, ◌++◌, zero, suc, Bool, true, false, take, get_or, length, length-take, min, inl, inr, Contains, All, AllPairs, refl, sym, ◌∙◌, ap, subst, arith}
+use Rattle.std.proofs.Common.{◌≡◌, ℕ, ◌+◌, ◌*◌, ◌<◌, ◌≤◌, ◌^◌, List, [], ◌∷◌, ◌++◌, zero, suc, take, get_or, length, length-take, inl, inr, Contains, All, AllPairs, refl, sym, ◌∙◌, ap, subst, arith}
 use Rattle.std.proofs.lemmas.Bool.{cases_lt}
 use Rattle.std.proofs.lemmas.List.{take_more, get_or-take, get_or_default}
 use Rattle.std.proofs.lemmas.List.Elements.{All-contains, Contains-get_or, Contains-append_cases}
 use Rattle.std.proofs.Math.Nat.{mul-le-mul_right, mul-le-mul_left}
-use Rattle.schedule_codec.specs.Reading.{is_schedule}
 use Rattle.scenario_text.specs.ScenarioGrammar.{IsScenario}
 use Rattle.scenario_text.specs.ScenarioParts.{ScenarioParts}
 use Rattle.scenario_text.proofs.CanonicalGoes.{frame_bound}
 use Rattle.scenario_text.proofs.SoundScenarios.{sound}
 use Rattle.scenario_clocks.specs.StatedClocks.{scenario_clock}
-use Rattle.radio_model.specs.Hearing.{Before, Meets, Hears, IsTuned, TunedThrough}
+use Rattle.radio_model.specs.Hearing.{Before, TunedThrough}
 use Rattle.radio_model.specs.OnAir.{Tuning}
 use Rattle.radio_model.specs.Receptions.{AreNear}
 use Rattle.radio_model.specs.declared.sending.Sending.{Sending}
 use Rattle.radio_model.proofs.Members.{in_head}
 use Rattle.air_log.specs.declared.entry.Entry.{Entry}
-use Rattle.air_log.specs.Entries.{sendings_of, tunings_of}
+use Rattle.air_log.specs.Entries.{tunings_of}
 use Rattle.air_log.specs.HearsAir.{scene_of}
 use Rattle.air_log.specs.Lawful.{Lawful}
 use Rattle.air_log.specs.Trails.{frame_start, run_end}
 use Rattle.law_trails.proofs.SentInTrails.{sent_lasts}
-use Rattle.host_return.specs.Probes.{Brings, HearsIn, IsOfFrame, with_probe}
-use Rattle.host_return.specs.Transmissions.{AreSent, IsSearchable}
+use Rattle.host_return.specs.Probes.{Brings, IsOfFrame, with_probe}
+use Rattle.host_return.specs.Transmissions.{AreSent}
 use Rattle.host_return.specs.declared.transmissions.Transmissions.{Transmissions}
 
 -- it is tuned there all the time

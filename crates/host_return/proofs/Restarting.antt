@@ -1,5 +1,5 @@
 -- The lines by which a node restarts.
-use Rattle.std.proofs.Common.{◌≡◌, ℕ, zero, suc, ◌+◌, ◌<◌, ◌≤◌, List, [], ◌∷◌, ◌++◌, Bool, true, false, ◌==◌, if◌then◌else◌, All, AllPairs, Contains, get_or, refl, sym, ◌∙◌, ap, subst, arith}
+use Rattle.std.proofs.Common.{◌≡◌, ℕ, zero, suc, ◌+◌, ◌<◌, ◌≤◌, List, [], ◌∷◌, ◌++◌, true, false, ◌==◌, All, AllPairs, Contains, refl, sym, arith}
 use Rattle.std.proofs.lemmas.Bool.{cond_both}
 use Rattle.std.proofs.lemmas.List.Elements.{All-append, All-cons, All-nil, All-contains}
 use Rattle.scenario_text.specs.FloodParts.{knows}
@@ -57,7 +57,7 @@ restart_in_range s f v sound within known =
     (record { in_run = within; known = known; act = tt }) (record { in_run = within; known = known; act = tt })
     (λ i least some.
     let few = few_wished s f v i sound in
-    record { in_run = within; known = known; act = (least, (above_none (wish i) some, few)) })
+    record { in_run = within; known = known; act = (least, above_none (wish i) some, few) })
 
 -- and all are of one frame
 pub restart_ascends : (f v : ℕ) (wish : ℕ → ℕ) (s : ScenarioParts) → AllPairs (λ a b. a.frame ≤ b.frame) (restart f v wish)

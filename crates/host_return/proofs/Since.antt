@@ -1,5 +1,5 @@
 -- The transmissions that start at a tick or after it.
-use Rattle.std.proofs.Common.{◌≡◌, ℕ, ◌+◌, ◌-◌, ◌<◌, ◌≤◌, List, length, drop, inl, inr, Bool, true, false, nat_lt, sym, ◌∙◌, ap, arith, Contains, AllPairs, get_or}
+use Rattle.std.proofs.Common.{◌≡◌, ℕ, ◌+◌, ◌-◌, ◌≤◌, List, length, drop, inl, inr, true, false, nat_lt, sym, ◌∙◌, ap, arith, Contains, AllPairs, get_or}
 use Rattle.std.proofs.Common.{length-drop}
 use Rattle.std.proofs.lemmas.Bool.{cases_lt, ltb-true, ltb-false}
 use Rattle.std.proofs.lemmas.List.{get_or-drop}

@@ -1,6 +1,6 @@
 -- No row but that of a boot changes what the streams of a node wish.
-use Rattle.std.proofs.Common.{◌≡◌, ℕ, zero, suc, ◌+◌, ◌-◌, ◌%◌, ◌^◌, List, [], ◌∷◌, Bool, true, false, ◌==◌, is_none, if◌then◌else◌}
-use Rattle.std.proofs.Common.{Some, None, Option, fold, map, length, refl, sym, ◌∙◌}
+use Rattle.std.proofs.Common.{◌≡◌, ℕ, zero, suc, ◌-◌, ◌%◌, ◌^◌, List, [], ◌∷◌, Bool, true, false, ◌==◌, is_none, if◌then◌else◌}
+use Rattle.std.proofs.Common.{Some, None, Option, fold, map, length, refl, ◌∙◌}
 use Rattle.std.specs.List.{slice_index_or}
 use Rattle.std.specs.Prelude.{slice_set}
 use Rattle.std.proofs.lemmas.Bool.{cond_both}
@@ -12,7 +12,7 @@ use Rattle.lwb_base.specs.declared.event.Event.TheVariants.{Boot, Alarm, Heard, 
 use Rattle.bus_rules.specs.Tables.{Table}
 use Rattle.bus_rules.specs.HostPlans.{Served, serve, answered, host_plan}
 use Rattle.bus_rules.specs.Streams.{Stream, Streams, no_stream, stream_at, with_stream, taken, without_first, unbound, heard_host, is_host, names}
-use Rattle.bus_rules.specs.Streams.{acknowledged, owns, forgets, forgotten, agrees, with_agreed, after_contention, tries_after, due, schedule_heard, granted}
+use Rattle.bus_rules.specs.Streams.{acknowledged, owns, forgets, forgotten, agrees, after_contention, tries_after, due, schedule_heard, granted}
 use Rattle.bus_rules.specs.Streams.{named_in}
 use Rattle.bus_rules.specs.declared.part.Part.{Part}
 use Rattle.bus_rules.specs.declared.part.Part.TheVariants.{Opening, Data as DataSlot, Contention, Closing}

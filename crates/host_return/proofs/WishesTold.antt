@@ -1,6 +1,6 @@
 -- What a stream of a node wishes is told by the script alone.
-use Rattle.std.proofs.Common.{◌≡◌, ℕ, zero, suc, ◌+◌, ◌*◌, ◌<◌, ◌≤◌, List, [], ◌∷◌, Bool, true, false, ◌&&◌, ◌||◌, ◌==◌, nat_lt, nat_le, cond, if◌then◌else◌}
-use Rattle.std.proofs.Common.{Some, None, Option, fold, filter, length, refl, sym, ◌∙◌, ap, subst, arith, inl, inr, Contains, AllPairs, All, lt-ltb, ltb-true}
+use Rattle.std.proofs.Common.{◌≡◌, ℕ, zero, suc, ◌+◌, ◌*◌, ◌<◌, ◌≤◌, List, [], ◌∷◌, Bool, true, false, ◌&&◌, ◌||◌, ◌==◌, nat_lt, nat_le, if◌then◌else◌}
+use Rattle.std.proofs.Common.{Some, None, Option, fold, filter, length, refl, sym, ◌∙◌, ap, subst, arith, inl, inr, Contains, lt-ltb}
 use Rattle.std.specs.List.{slice_index_or, AllByRecursion}
 use Rattle.std.specs.Prelude.{slice_set}
 use Rattle.std.proofs.lemmas.Bool.{cases_Bool, cond-true, cond-false, eqb-true, eqb-false, cond_both, cases_lt, cases_order, le-ltb, le-leb, lt-leb, eq-eqb, ne_eqb}
@@ -9,8 +9,8 @@ use Rattle.std.proofs.lemmas.List.Elements.{All-contains, recursion_from_All}
 use Rattle.std.proofs.Math.Nat.{mul-le-mul_right}
 use Rattle.lwb_base.specs.Profile.{Numbers}
 use Rattle.lwb_base.specs.declared.event.Event.{Event}
-use Rattle.lwb_base.specs.declared.event.Event.TheVariants.{Boot, Alarm, Heard, Sent}
-use Rattle.bus_rules.specs.Streams.{Stream, Streams, no_stream, cleared, stream_at, wishes, emptied, refuses as drops, queued, put_to, put, declared, left}
+use Rattle.lwb_base.specs.declared.event.Event.TheVariants.{Alarm, Heard, Sent}
+use Rattle.bus_rules.specs.Streams.{Stream, no_stream, cleared, stream_at, wishes, emptied, refuses as drops, queued, put_to}
 use Rattle.bus_rules.specs.States.{refuses, queues}
 use Rattle.bus_rules.specs.Cores.{Setup}
 use Rattle.node_core.specs.Nodes.{Node}

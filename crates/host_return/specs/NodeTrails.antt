@@ -1,5 +1,5 @@
 -- Internal: what the trails of all nodes tell.
-use Rattle.std.specs.Prelude.{ℕ, List, map}
+use Rattle.std.specs.Prelude.{List, map}
 use Rattle.scenario_text.specs.ScenarioParts.{ScenarioParts}
 use Rattle.scenario_text.specs.declared.lines.NodeLine.{NodeLine}
 use Rattle.scenario_clocks.specs.StatedClocks.{scenario_clock}

@@ -1,5 +1,5 @@
 -- The scenario in which backup hosts go back, worked out return by return.
-use Rattle.std.specs.Prelude.{◌≡◌, ℕ, ◌≤◌, List, [], ◌∷◌, ◌++◌, ◌==◌, if◌then◌else◌, map, reverse, length}
+use Rattle.std.specs.Prelude.{◌≡◌, ℕ, ◌≤◌, List, [], ◌∷◌, ◌==◌, if◌then◌else◌, map, reverse, length}
 use Rattle.scenario_text.specs.AddedLines.{IsWithScript, HasRoom}
 use Rattle.scenario_text.specs.ScenarioParts.{ScenarioParts}
 use Rattle.scenario_clocks.specs.StatedClocks.{scenario_clock}

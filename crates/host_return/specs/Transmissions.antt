@@ -1,5 +1,5 @@
 -- Internal: the transmissions of a log by start, for a search.
-use Rattle.std.specs.Prelude.{ℕ, ◌+◌, ◌≤◌, List, All, AllPairs, Contains}
+use Rattle.std.specs.Prelude.{◌+◌, ◌≤◌, List, All, AllPairs, Contains}
 use Rattle.radio_model.specs.Hearing.{Before}
 use Rattle.radio_model.specs.declared.sending.Sending.{Sending}
 use Rattle.air_log.specs.declared.entry.Entry.{Entry}

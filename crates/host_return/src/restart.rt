@@ -21,7 +21,8 @@ pub(crate) fn lines_of(alloc: Global, s: &Scenario, r: &Return) -> Result<Vec<Sc
     ensures ascending { IfOk result (λ lines. AllPairs (λ a b. a.frame ≤ b.frame) lines.items) }
 {
     let script = s.script();
-    Ok(restart_lines(alloc, script, r.frame + 1, r.node)?)
+    let lines = restart_lines(alloc, script, r.frame + 1, r.node)?;
+    Ok(lines)
 }
 
 fn restart_lines(

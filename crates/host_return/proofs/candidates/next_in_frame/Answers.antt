@@ -1,4 +1,4 @@
-use Rattle.std.proofs.Common.{◌≡◌, ℕ, ◌+◌, ◌<◌, ◌≤◌, inl, inr, length, get_or, sym, ◌∙◌, ap, arith}
+use Rattle.std.proofs.Common.{◌≡◌, ℕ, inl, inr, length, get_or, sym, ◌∙◌, ap, arith}
 use Rattle.std.proofs.lemmas.Bool.{cases_lt}
 use Rattle.std.proofs.lemmas.List.{length-map}
 use Rattle.scenario_text.specs.declared.lines.NodeLine.{NodeLine}
@@ -36,19 +36,18 @@ returns-in-Some-clause-some c =
     let n : NodeLine = record { node = t.node; offset = 0 } in
     let at = at_place s air c.args.trails.now i t n is c.loop-trail-test.true c.trail-item.is in
     let own : t.node ≡ (get_or s.nodes i n).node = ap (λ (u : NodeTrail). u.node) at.1 in
-    let got = c.in-Some.ensures.some air sent (node_known s air t i n at.0 at.1) (trail_is s air t (get_or s.nodes i n) at.1) in
-    (
+    let got = c.in-Some.ensures.some air sent (node_known s air t i n at.0 at.1) (trail_is s air t (get_or s.nodes i n) at.1) in (
       got.0,
       got.1,
       got.2,
       λ q candidate fresh frame.
-      let w = place_of s q.node candidate.known in
-      elim (cases_lt w.0 i) [
-        | inl earlier ↦ absurd (c.loop-trail.invariant air is sent q candidate fresh frame w.0 earlier n (w.2 n))
-        | inr later ↦
-            let up = no_lower s i w.0 n (sound s c.requires.said) later w.1 in
-            omega (arith, up, own, w.2 n, got.3)
-      ],
+          let w = place_of s q.node candidate.known in
+          elim (cases_lt w.0 i) [
+            | inl earlier ↦ absurd (c.loop-trail.invariant air is sent q candidate fresh frame w.0 earlier n (w.2 n))
+            | inr later ↦
+                let up = no_lower s i w.0 n (sound s c.requires.said) later w.1 in
+                omega (arith, up, own, w.2 n, got.3)
+          ],
     )
 
 pub returns-clause-none : goal.returns-clause-none

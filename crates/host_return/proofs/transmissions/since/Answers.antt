@@ -1,4 +1,4 @@
-use Rattle.std.proofs.Common.{◌≡◌, ◌-◌, ℕ, List, nat_lt, length, take, drop, arith, rules, length-drop}
+use Rattle.std.proofs.Common.{◌≡◌, ◌-◌, nat_lt, length, take, drop, arith, rules, length-drop}
 use Rattle.std.proofs.lemmas.List.{take_all}
 use Rattle.std.proofs.lemmas.List.Sorted.{IsPartitionPoint-from_clause}
 use Rattle.radio_model.specs.declared.sending.Sending.{Sending}

@@ -1,4 +1,4 @@
-use Rattle.std.proofs.Common.{◌≡◌, ◌≤◌, ℕ, List, [], ◌∷◌, ◌++◌, All, AllPairs, Option, IfSome, IfNone, refl, sym, ◌∙◌, subst, rules}
+use Rattle.std.proofs.Common.{◌≡◌, ◌≤◌, List, All, AllPairs, Option, IfSome, IfNone, refl, sym, ◌∙◌, subst, rules}
 use Rattle.scenario_text.specs.AddedLines.{IsWithScript, HasRoom}
 use Rattle.scenario_text.specs.ScenarioFacts.{IsScriptLine}
 use Rattle.scenario_text.specs.ScenarioParts.{ScenarioParts}
@@ -26,13 +26,12 @@ returns-in_default-2-clause-end g c =
     let lines : c.deref-2.result.now ≡ lines_of s air r = c.deref-2.ensures.value ∙ c.in_ok-lines.ensures.lines air in
     let next : IsNext c.args.read.now s air c.args.self.now.returns.items r =
     subst (λ (ls : List Return). IsNext c.args.read.now s air ls r) c.deref.ensures.value
-    (subst (λ (o : Option Return). IfSome o (IsNext c.args.read.now s air c.deref.result.now)) c.in-Some.is c.in_ok-r.ensures.some) in
-    (
+    (subst (λ (o : Option Return). IfSome o (IsNext c.args.read.now s air c.deref.result.now)) c.in-Some.is c.in_ok-r.ensures.some) in (
       refl,
       Full r next
-      (subst (λ (ls : List ScriptLine). (t : ScenarioParts) → IsWithScript s ls t → HasRoom t → ⊥) lines
-      (subst (λ (o : Option ScenarioParts). IfNone o ((t : ScenarioParts) → IsWithScript s c.deref-2.result.now t → HasRoom t → ⊥)) c.in_default-2.is
-      c.in_ok-scenario.ensures.none)),
+          (subst (λ (ls : List ScriptLine). (t : ScenarioParts) → IsWithScript s ls t → HasRoom t → ⊥) lines
+          (subst (λ (o : Option ScenarioParts). IfNone o ((t : ScenarioParts) → IsWithScript s c.deref-2.result.now t → HasRoom t → ⊥)) c.in_default-2.is
+          c.in_ok-scenario.ensures.none)),
     )
 
 pub returns-clause-more : goal.returns-clause-more

@@ -1,4 +1,4 @@
-use Rattle.std.proofs.Common.{◌≡◌, ◌≤◌, List, Contains, All, AllPairs, subst, sym, ap, ◌∙◌, arith}
+use Rattle.std.proofs.Common.{List, Contains, AllPairs, subst, sym, arith}
 use Rattle.radio_model.specs.Hearing.{Before}
 use Rattle.radio_model.specs.declared.sending.Sending.{Sending}
 use Rattle.host_return.proofs.transmissions.Transmissions.bring_schedule.Goals as goal

@@ -1,6 +1,6 @@
-use Rattle.std.proofs.Common.{rules, ◌≡◌, ◌∙◌, sym, true}
+use Rattle.std.proofs.Common.{rules, ◌≡◌, true}
 use Rattle.schedule_codec.specs.Reading.{is_schedule as is_schedule_of}
-use Rattle.host_return.specs.Probes.{Brings, IsOfFrame}
+use Rattle.host_return.specs.Probes.{IsOfFrame}
 use Rattle.host_return.proofs.transmissions.Transmissions.brings.Goals as goal
 
 pub returns : goal.returns

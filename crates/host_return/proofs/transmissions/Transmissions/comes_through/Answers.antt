@@ -1,4 +1,4 @@
-use Rattle.std.proofs.Common.{◌≡◌, ◌≤◌, ◌+◌, ◌^◌, List, All, AllPairs, Contains, subst, sym}
+use Rattle.std.proofs.Common.{◌≤◌, ◌+◌, ◌^◌, List, All, AllPairs, subst, sym}
 use Rattle.std.proofs.lemmas.List.Elements.{All-contains}
 use Rattle.radio_model.specs.Hearing.{Before}
 use Rattle.radio_model.specs.Receptions.{AreNear}
