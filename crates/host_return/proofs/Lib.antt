@@ -1,0 +1,9 @@
+mod Gathered
+mod Since
+mod Heard
+mod NodesProbing
+mod WishesKept
+mod WishesTold
+mod Restarting
+mod Followed
+mod CountedProbes

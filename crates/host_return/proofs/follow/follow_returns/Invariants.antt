@@ -1,0 +1,9 @@
+use Rattle.std.proofs.Common.{◌-◌, length}
+use Rattle.host_return.specs.Courses.{IsFollowed}
+use Rattle.host_return.proofs.follow.follow_returns.Given as goal
+
+abbrev pub invariant-loop-course : goal.invariant-loop-course
+invariant-loop-course g l = IsFollowed l.fn.s l.course
+
+abbrev pub decreases-loop-course : goal.decreases-loop-course
+decreases-loop-course g l = 16 - length l.course.returns.items
