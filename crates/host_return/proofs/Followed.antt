@@ -1,5 +1,6 @@
 -- One return after another.
-use Rattle.std.proofs.Common.{◌≡◌, ◌<◌, List, [], ◌∷◌, length, reverse, Result, Ok, Err, IfOk, refl, sym, ◌∙◌, ap, subst, arith}
+use Rattle.std.proofs.Common.{◌≡◌, ℕ, ◌<◌, ◌≤◌, inl, inr, List, [], ◌∷◌, ◌++◌, length, reverse, Result, Ok, Err, IfOk, refl, sym, ◌∙◌, ap, subst, arith}
+use Rattle.std.proofs.lemmas.Bool.{cases_lt}
 use Rattle.std.proofs.lemmas.List.{length_push, append-nil, reverse-append, reverse-reverse}
 use Rattle.lwb_base.specs.declared.outside.Memory.{Memory}
 use Rattle.scenario_text.specs.AddedLines.{IsWithScript, HasRoom, IsMerged, in_frame}
@@ -7,11 +8,15 @@ use Rattle.scenario_text.specs.ScenarioGrammar.{IsScenario}
 use Rattle.scenario_text.specs.ScenarioParts.{ScenarioParts}
 use Rattle.scenario_text.proofs.LinesAdded.{one_with_script}
 use Rattle.scenario_text.proofs.OrderedParts.{in_order_said}
+use Rattle.scenario_text.proofs.SoundScenarios.{sound}
+use Rattle.scenario_clocks.proofs.StatedDrift.{scenario_clocks_drift}
 use Rattle.scenario_clocks.specs.StatedClocks.{scenario_clock}
 use Rattle.air_log.specs.Lawful.{Lawful}
+use Rattle.air_log.specs.Safe.{Safe}
+use Rattle.law_safety.proofs.SafeRuns.{lawful_logs_are_safe}
 use Rattle.host_return.specs.Candidates.{IsNext}
 use Rattle.host_return.specs.Courses.{IsFollowed, IsOneMore}
-use Rattle.host_return.specs.Returned.{Becomes, GoesBack, Ends, ReturnedParts, counts_in, IsReturned}
+use Rattle.host_return.specs.Returned.{Becomes, GoesBack, Ends, Sixteen, ReturnedParts, counts_in, IsReturned}
 use Rattle.host_return.specs.declared.follow.Course.{Course}
 use Rattle.host_return.specs.declared.returned.Return.{Return}
 
@@ -29,12 +34,13 @@ copy_has_room s said none =
 
 -- at first there is no return
 pub nothing_yet : (read : ScenarioParts) (c : Course) → c.scenario ≡ read → c.returns.items ≡ [] → Lawful c.scenario (scenario_clock c.scenario) c.air
-    → IsFollowed read c
-nothing_yet read c same none lawful = record {
+    → IsScenario c.scenario → IsFollowed read c
+nothing_yet read c same none lawful said = record {
   becomes = subst (λ (rs : List Return). Becomes read (reverse rs) c.scenario) (sym none) same;
   few = omega (arith, ap length none);
   lawful = lawful;
   frames = sym (ap (λ (s : ScenarioParts). s.frames) same);
+  said = said;
 }
 
 pub one_more : (read : ScenarioParts) (old new : Course) → length old.returns.items < 16 → IsFollowed read old → IsOneMore read old new → IsFollowed read new
@@ -53,6 +59,7 @@ one_more read old new less was more =
       few = omega (arith, less, ap length more.returns, length_push old.returns.items more.last);
       lawful = more.lawful;
       frames = was.frames ∙ sym (ap (λ (s : ScenarioParts). s.frames) more.added.parts);
+      said = more.said;
     }
 
 -- what is handed on at the end
@@ -66,7 +73,17 @@ pub ended_early : (read : ScenarioParts) (old new : Course) → IsFollowed read 
     → IsReturned read (parts_of new)
 ended_early read old new followed same ends = subst (λ (c : Course). IsReturned read (parts_of c)) (sym same) (ended read old followed ends)
 
-pub finished : (read : ScenarioParts) (c : Course) (o : Result ReturnedParts Memory) → IfOk o (λ x. x ≡ parts_of c) → IsReturned read (parts_of c)
-    → IfOk o (IsReturned read)
-finished read c (Ok x) is whole = subst (IsReturned read) (sym is) whole
-finished read c (Err e) is whole = tt
+pub handed : (P : ReturnedParts → Type 0) (c : Course) (o : Result ReturnedParts Memory) → IfOk o (λ x. x ≡ parts_of c) → P (parts_of c) → IfOk o P
+handed P c (Ok x) is holds = subst P (sym is) holds
+handed P c (Err e) is holds = tt
+
+pub sixteen : (read : ScenarioParts) (c : Course) → IsFollowed read c → (length c.returns.items < 16 → ⊥) → IsReturned read (parts_of c)
+sixteen read c followed not =
+    let few = followed.few in
+    ended read c followed (Sixteen (elim (cases_lt (length c.returns.items) 16) [ inl less ↦ absurd (not less) | inr past ↦ omega (arith, few, past) ]))
+
+-- the log of the last run is safe
+pub run_is_safe : (read : ScenarioParts) (c : Course) → IsFollowed read c → Safe c.scenario (scenario_clock c.scenario) c.air
+run_is_safe read c followed =
+    let s = c.scenario in
+    lawful_logs_are_safe s (scenario_clock s) c.air (record { sound = sound s followed.said; drift = scenario_clocks_drift s followed.said }) followed.lawful

@@ -7,3 +7,5 @@ mod WishesTold
 mod Restarting
 mod Followed
 mod CountedProbes
+mod SettledProbes
+mod ProbedStill

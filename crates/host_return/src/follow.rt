@@ -1,8 +1,11 @@
 //! Runs a scenario again and again, with one return more each time.
 
 ghost use Rattle.std.specs.Prelude.{◌≡◌, true, false, Ok, IfOk};
+ghost use Rattle.scenario_text.specs.ScenarioGrammar.{IsScenario};
 ghost use Rattle.scenario_clocks.specs.StatedClocks.{scenario_clock};
 ghost use Rattle.air_log.specs.Lawful.{Lawful};
+ghost use Rattle.air_log.specs.Safe.{Safe};
+ghost use Rattle.host_return.specs.AfterReturns.{AllProbed};
 ghost use Rattle.host_return.specs.Courses.{IsOneMore};
 ghost use Rattle.host_return.specs.Returned.{Ends, IsReturned, counts_in};
 
@@ -24,6 +27,8 @@ pub fn follow_returns<R: Runner>(
     runner: &mut R,
 ) -> Result<Returned, Memory>
     ensures returned { IfOk result (IsReturned s.now) }
+    ensures safe { IfOk result (λ x. Safe x.scenario (scenario_clock x.scenario) x.air) }
+    ensures probed { IfOk result AllProbed }
 {
     let scenario = copied(alloc, s)?;
     let air = runner.run(alloc, &scenario)?;
@@ -68,6 +73,7 @@ impl Course {
         let Some(scenario) = with_script(alloc, &self.scenario, &lines)? else {
             return Ok(false);
         };
+        let _frames = scenario.frames();
         self.returns.push(r)?;
         self.air = runner.run(alloc, &scenario)?;
         self.scenario = scenario;
@@ -112,7 +118,8 @@ fn counts_of(alloc: Global, s: &Scenario, air: &Air) -> Result<Vec<(NodeId, u32)
 
 // The same scenario again.
 fn copied(alloc: Global, s: &Scenario) -> Result<Scenario, Memory>
-    ensures { IfOk result (λ t. t ≡ s.now) }
+    ensures same { IfOk result (λ t. t ≡ s.now) }
+    ensures said { IfOk result IsScenario }
 {
     let _frames = s.frames();
     match with_script(alloc, s, &[])? {

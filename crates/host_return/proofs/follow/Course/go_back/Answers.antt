@@ -49,5 +49,6 @@ returns-clause-more g c =
           (subst (λ (o : Option Return). IfSome o (IsNext c.args.read.now s air c.deref.result.now)) c.in-Some.is c.in_ok-r.ensures.some);
       added = subst (λ (ls : List ScriptLine). IsWithScript s ls c.in-Some-2.scenario) lines both.0;
       room = both.1;
+      said = c.frames-frames.ensures.said;
       lawful = c.in_ok-self.ensures;
     }
