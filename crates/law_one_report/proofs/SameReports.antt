@@ -115,7 +115,7 @@ module _ (laws : Laws) (read : ScenarioParts) (said : IsScenario read) where
   one_return a b text other is also =
       let x = is.returned in
       let y = also.returned in
-      let same = laws.returned read said x y is.is also.is in
+      let same = laws.returned read x y said is.is also.is in
       let alike : ToldAlike laws x.scenario is.said (return_report x.returns x.counts) =
       λ m n of_m of_n. ap (λ (l : List ℕ). flat_map return_line x.returns ++ flat_map node_probes x.counts ++ l) (run_alike laws x.scenario is.said m n of_m of_n) in
       let scenario : IsOfRun (return_report y.returns y.counts) x.scenario b other =

@@ -7,5 +7,6 @@ pub mod ReportLines
 pub mod NodeLines
 pub mod ProbeLines
 pub mod ReturnedRuns
+pub mod ReturnTexts
 pub mod StreamsDecided
 pub mod OwnersDiffer

@@ -1,6 +1,7 @@
 //! The `energy` lines of a report.
 
-ghost use Rattle.std.specs.Prelude.{◌≡◌, ◌++◌, List, OnOk, Some, string_bytes};
+ghost use Rattle.std.specs.Prelude.{◌≡◌, ℕ, ◌++◌, Contains, List, OnOk, Some, flat_map, string_bytes};
+ghost use Rattle.scenario_text.specs.declared.lines.NodeLine.{NodeLine as NodeLineOf};
 ghost use Rattle.scenario_clocks.specs.StatedClocks.{scenario_clock};
 ghost use Rattle.air_log.specs.Lawful.{Lawful};
 ghost use Rattle.air_log.specs.declared.entry.Entry.{Entry};
@@ -54,7 +55,15 @@ fn write_account(text: &mut String, s: &Scenario, account: &Account) -> Result<(
     ensures { (air : List Entry) → IsAccount s.now (scenario_clock s.now) air account.now
         → OnOk result (string_bytes text.new ≡ string_bytes text.old ++ energy_lines s.now (scenario_clock s.now) air) }
 {
-    write_lines(text, s.nodes(), |text, line| write_energy(text, account, line))
+    write_each(text, s.nodes(), account)
+}
+
+// The line of each of these nodes, which the account has.
+fn write_each(text: &mut String, nodes: &[NodeLine], account: &Account) -> Result<(), AllocError>
+    ensures { (energy : ℕ → Energy) → ((n : NodeLineOf) → Contains nodes.now n → line_of account.now n.node ≡ Some (energy n.node))
+        → OnOk result (string_bytes text.new ≡ string_bytes text.old ++ flat_map (λ n. energy_line n.node (energy n.node)) nodes.now) }
+{
+    write_lines(text, nodes, |text, line| write_energy(text, account, line))
 }
 
 fn write_energy(text: &mut String, account: &Account, line: &NodeLine) -> Result<(), AllocError>

@@ -1,9 +1,8 @@
-use Rattle.std.proofs.Common.{◌≡◌, ◌++◌, ◌∙◌, ℕ, List, OnOk, Some, None, flat_map, string_bytes, rules, of_calls, subst}
+use Rattle.std.proofs.Common.{◌≡◌, ◌++◌, ◌∙◌, ℕ, List, OnOk, Some, None, flat_map, string_bytes, subst}
 use Rattle.std.proofs.lemmas.Bool.{cond-true}
 use Rattle.scenario_text.specs.FloodParts.{knows}
 use Rattle.scenario_text.specs.declared.lines.NodeLine.{NodeLine}
 use Rattle.scenario_clocks.specs.StatedClocks.{scenario_clock}
-use Rattle.energy_account.specs.Accounts.{line_of}
 use Rattle.energy_account.specs.Energies.{energy_of}
 use Rattle.energy_account.specs.declared.energy.Energy.{Energy}
 use Rattle.replay_tool.specs.RunReport.{node_energy}
@@ -14,12 +13,9 @@ pub returns : goal.returns
 returns c =
     λ air is.
     let s = c.args.s.now in
-    let wrote = c.write_lines in
-    let nodes = c.nodes.ensures.value in
+    let wrote = c.write_each in
     let energy : ℕ → Energy = energy_of s (scenario_clock s) air in
     subst (λ (ns : List NodeLine). OnOk wrote.result (string_bytes wrote.new.text ≡ string_bytes c.args.text.now
-    ++ flat_map (node_energy s (scenario_clock s) air) ns)) nodes
-    (wrote.ensures (node_energy s (scenario_clock s) air) (λ old item result new here post.
-    let line : line_of c.args.account.now item.now.node ≡ Some (energy item.now.node) = is item.now.node
-    ∙ cond-true (knows s.nodes item.now.node) (Some (energy item.now.node)) None (known_in c.nodes.result.now s.nodes item.now nodes here) in
-    search (rules, of_calls, post, line)))
+    ++ flat_map (node_energy s (scenario_clock s) air) ns)) c.nodes.ensures.value
+    (wrote.ensures energy (λ n here. is n.node
+    ∙ cond-true (knows s.nodes n.node) (Some (energy n.node)) None (known_in c.nodes.result.now s.nodes n c.nodes.ensures.value here)))
