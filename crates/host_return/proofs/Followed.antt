@@ -1,5 +1,5 @@
 -- One return after another.
-use Rattle.std.proofs.Common.{◌≡◌, ℕ, ◌<◌, ◌≤◌, inl, inr, List, [], ◌∷◌, ◌++◌, length, reverse, Result, Ok, Err, IfOk, refl, sym, ◌∙◌, ap, subst, arith}
+use Rattle.std.proofs.Common.{◌≡◌, ◌<◌, inl, inr, List, [], ◌∷◌, length, reverse, Result, Ok, Err, IfOk, refl, sym, ◌∙◌, ap, subst, arith}
 use Rattle.std.proofs.lemmas.Bool.{cases_lt}
 use Rattle.std.proofs.lemmas.List.{length_push, append-nil, reverse-append, reverse-reverse}
 use Rattle.lwb_base.specs.declared.outside.Memory.{Memory}
@@ -51,6 +51,7 @@ one_more read old new less was more =
       next = subst (λ (rs : List Return). IsNext read old.scenario old.air rs more.last) (sym (reverse-reverse old.returns.items)) more.next;
       added = more.added;
       room = more.room;
+      said = more.said;
     } in
     let all : Becomes read (more.last ∷ reverse old.returns.items) new.scenario = (old.scenario, was.becomes, back) in
     record {

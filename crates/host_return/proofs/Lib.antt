@@ -9,3 +9,4 @@ mod Followed
 mod CountedProbes
 mod SettledProbes
 mod ProbedStill
+mod OneReturned

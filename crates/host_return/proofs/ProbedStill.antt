@@ -1,13 +1,12 @@
 -- What was probed as a return was taken is probed in each later run, since the returns are taken by ascending frames.
-use Rattle.std.proofs.Common.{◌≡◌, ℕ, ◌+◌, ◌<◌, ◌≤◌, ◌⊎◌, inl, inr, List, [], ◌∷◌, ◌++◌, Bool, true, false, ◌||◌, ◌&&◌, ◌==◌, nat_lt, Contains}
+use Rattle.std.proofs.Common.{◌≡◌, ℕ, ◌+◌, ◌<◌, ◌≤◌, inl, inr, List, [], ◌∷◌, ◌++◌, Bool, true, false, ◌||◌, ◌&&◌, ◌==◌, nat_lt, Contains}
 use Rattle.std.proofs.Common.{refl, sym, ◌∙◌, ap, subst, arith}
-use Rattle.std.proofs.lemmas.Bool.{cases_lt, cases_Bool, lt-ltb, true≢false}
+use Rattle.std.proofs.lemmas.Bool.{cases_lt, lt-ltb, true≢false}
 use Rattle.std.proofs.lemmas.List.Elements.{Contains-push_cases}
 use Rattle.std.specs.List.{list_any}
 use Rattle.scenario_text.specs.FloodParts.{knows}
 use Rattle.scenario_text.specs.ScenarioFacts.{IsSoundScenario}
 use Rattle.scenario_text.specs.ScenarioParts.{ScenarioParts}
-use Rattle.scenario_text.specs.declared.script.ScriptLine.{ScriptLine}
 use Rattle.scenario_clocks.specs.StatedClocks.{scenario_clock}
 use Rattle.radio_model.proofs.Members.{not_in_none}
 use Rattle.air_log.specs.declared.entry.Entry.{Entry}
@@ -42,7 +41,7 @@ list_any_push test (q ∷ rs) r is = by_test (test q) is (list_any_push test rs 
     by_test true is rest = is
     by_test false is rest = rest is
 
-not_before : (q r : Return) → comes_before q r ≡ false → r.frame ≤ q.frame
+pub not_before : (q r : Return) → comes_before q r ≡ false → r.frame ≤ q.frame
 not_before q r is = elim (cases_lt q.frame r.frame) [
   | inl less ↦ absurd (true≢false (sym (ap (λ (b : Bool). b || ((q.frame == r.frame) && nat_lt q.node r.node)) (lt-ltb q.frame r.frame less)) ∙ is))
   | inr at ↦ at

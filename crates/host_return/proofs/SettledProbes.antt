@@ -1,5 +1,5 @@
 -- What a node probes in a frame, and what that brings, is settled by the script lines up to that frame.
-use Rattle.std.proofs.Common.{◌≡◌, ℕ, suc, ◌+◌, ◌*◌, ◌/◌, ◌<◌, ◌≤◌, List, [], ◌∷◌, ◌++◌, Bool, true, false, ◌&&◌, ◌==◌, filter, length, Contains, All}
+use Rattle.std.proofs.Common.{◌≡◌, ℕ, suc, ◌+◌, ◌*◌, ◌/◌, ◌<◌, ◌≤◌, List, [], ◌∷◌, ◌++◌, Bool, true, false, ◌&&◌, ◌==◌, filter, length, Contains}
 use Rattle.std.proofs.Common.{inl, inr, refl, sym, ◌∙◌, ap, subst, arith}
 use Rattle.std.proofs.lemmas.Bool.{and_parts, eqb-true, eq-eqb, ne_eqb}
 use Rattle.std.proofs.lemmas.List.{append-nil}
@@ -8,7 +8,7 @@ use Rattle.radio_model.specs.declared.sending.Sending.{Sending}
 use Rattle.radio_model.specs.OnAir.{Tuning}
 use Rattle.radio_model.specs.Hearing.{IsTuned}
 use Rattle.radio_model.specs.Holding.{Agree}
-use Rattle.radio_model.proofs.Members.{in_head, in_tail, in_either, not_in_none}
+use Rattle.radio_model.proofs.Members.{in_head, in_tail, in_either}
 use Rattle.radio_model.proofs.Settled.{settled}
 use Rattle.scenario_text.specs.AddedLines.{IsWithScript, in_frame}
 use Rattle.scenario_text.specs.ScenarioFacts.{IsSoundScenario}
@@ -16,7 +16,7 @@ use Rattle.scenario_text.specs.ScenarioParts.{ScenarioParts}
 use Rattle.scenario_text.specs.declared.script.ScriptLine.{ScriptLine}
 use Rattle.scenario_clocks.specs.StatedClocks.{scenario_clock}
 use Rattle.air_log.specs.declared.entry.Entry.{Entry}
-use Rattle.air_log.specs.Entries.{sendings_of, tunings_of}
+use Rattle.air_log.specs.Entries.{tunings_of}
 use Rattle.air_log.specs.HearsAir.{scene_of}
 use Rattle.air_log.specs.Trails.{frame_start, run_end, lines_at}
 use Rattle.air_log.proofs.QuietTicks.{refined}

@@ -1,6 +1,7 @@
 -- The scenario in which backup hosts go back, worked out return by return.
 use Rattle.std.specs.Prelude.{◌≡◌, ℕ, ◌≤◌, List, [], ◌∷◌, ◌==◌, if◌then◌else◌, map, reverse, length}
 use Rattle.scenario_text.specs.AddedLines.{IsWithScript, HasRoom}
+use Rattle.scenario_text.specs.ScenarioGrammar.{IsScenario}
 use Rattle.scenario_text.specs.ScenarioParts.{ScenarioParts}
 use Rattle.scenario_clocks.specs.StatedClocks.{scenario_clock}
 use Rattle.air_log.specs.declared.entry.Entry.{Entry}
@@ -11,13 +12,14 @@ use Rattle.host_return.specs.Restarts.{lines_of}
 use Rattle.host_return.specs.declared.returned.Return.{Return}
 
 -- a return is taken: with those before it the scenario was s, of which there is a run in which it is the next, and with its
--- lines, for which there is room, it is t
+-- lines, for which there is room, it is the scenario t
 pub record GoesBack (read s : ScenarioParts) (earlier : List Return) (r : Return) (t : ScenarioParts) : Type 0 where
   pub air : List Entry
   pub lawful : Lawful s (scenario_clock s) air
   pub next : IsNext read s air (reverse earlier) r
   pub added : IsWithScript s (lines_of s air r) t
   pub room : HasRoom t
+  pub said : IsScenario t
 
 -- after these returns, the last of them first, the scenario that was read has become t
 abbrev pub Becomes : ScenarioParts → List Return → ScenarioParts → Type 0

@@ -3,6 +3,7 @@
 
 mod candidates;
 mod follow;
+pub mod laws;
 mod restart;
 mod returned;
 mod runner;

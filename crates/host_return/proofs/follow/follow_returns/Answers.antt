@@ -1,10 +1,10 @@
-use Rattle.std.proofs.Common.{◌≡◌, ◌<◌, Bool, Ok, length, sym, ap, subst, arith, rules}
+use Rattle.std.proofs.Common.{◌<◌, Bool, Ok, length, sym, ap, subst, arith, rules}
 use Rattle.std.proofs.lemmas.List.{length_push}
 use Rattle.scenario_text.proofs.SoundScenarios.{sound}
 use Rattle.scenario_clocks.specs.StatedClocks.{scenario_clock}
 use Rattle.air_log.specs.Safe.{Safe}
 use Rattle.host_return.specs.AfterReturns.{AllProbed}
-use Rattle.host_return.specs.Courses.{IsFollowed, IsOneMore}
+use Rattle.host_return.specs.Courses.{IsOneMore}
 use Rattle.host_return.specs.Returned.{IsReturned}
 use Rattle.host_return.specs.declared.follow.Course.{Course}
 use Rattle.host_return.proofs.Followed.{nothing_yet, one_more, ended_early, sixteen, handed, run_is_safe}
