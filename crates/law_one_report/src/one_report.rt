@@ -4,6 +4,7 @@ ghost use Rattle.law_one_report.specs.OneReport.{OneReportLaw};
 
 use air_check::laws::a_log_has_one_verdict;
 use bus_time::stamp_laws::logs_have_one_list_of_stamps;
+use host_return::laws::returns_do_not_depend_on_the_runs;
 use law_one_log::{
     a_flood_has_one_log, a_scenario_has_one_cost, a_scenario_has_one_lawful_log,
     a_scenario_has_one_log_text,
@@ -27,5 +28,6 @@ pub fn a_command_has_one_report()
     made_scenarios_are_accepted();
     scenarios_are_sound();
     logs_have_one_list_of_stamps();
+    returns_do_not_depend_on_the_runs();
     a_log_has_one_verdict();
 }

@@ -13,5 +13,6 @@ returns c =
       said = c.made_scenarios_are_accepted.ensures;
       sound = c.scenarios_are_sound.ensures;
       stamps = c.logs_have_one_list_of_stamps.ensures;
+      returned = c.returns_do_not_depend_on_the_runs.ensures;
       verdict = c.a_log_has_one_verdict.ensures;
     })
