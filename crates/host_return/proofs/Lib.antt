@@ -10,3 +10,4 @@ mod CountedProbes
 mod SettledProbes
 mod ProbedStill
 mod OneReturned
+mod QuietReturns

@@ -24,11 +24,13 @@ use Rattle.host_return.proofs.SettledProbes.{lines_before, still_probed}
 -- all returns are probed in this run, and no other candidate comes in a frame before one of them
 pub record AreProbed (read s : ScenarioParts) (air : List Entry) (rs : List Return) : Type 0 where
   pub probed : (r : Return) → Contains rs r → Probed s air r.frame r.node r.rank
+  pub known : (r : Return) → Contains rs r → knows s.nodes r.node ≡ true
   pub later : (q : Return) → IsCandidate read s air q → is_listed rs q ≡ false → (r : Return) → Contains rs r → r.frame ≤ q.frame
 
 pub none_probed : (read s : ScenarioParts) (air : List Entry) (rs : List Return) → rs ≡ [] → AreProbed read s air rs
 none_probed read s air rs none = record {
   probed = λ r there. absurd (not_in_none r (subst (λ (l : List Return). Contains l r) none there));
+  known = λ r there. absurd (not_in_none r (subst (λ (l : List Return). Contains l r) none there));
   later = λ q candidate fresh r there. absurd (not_in_none r (subst (λ (l : List Return). Contains l r) none there));
 }
 
@@ -107,6 +109,11 @@ module _ (read : ScenarioParts) (old new : Course) (sound : IsSoundScenario old.
               subst (λ (q : Return). Probed new.scenario new.air q.frame q.node q.rank) is
               (on last.frame last.node last.rank (omega arith) (omega (arith, in_run, frames)) first.probed)
         ];
+        known = λ r there. subst (λ (u : ScenarioParts). knows u.nodes r.node ≡ true) (sym more.added.parts)
+            (elim (Contains-push_cases old.returns.items last r (subst (λ (l : List Return). Contains l r) more.returns there)) [
+              | inl before ↦ are.known r before
+              | inr is ↦ subst (λ (q : Return). knows s.nodes q.node ≡ true) is first.known
+            ]);
         later = λ q candidate fresh r there. elim (cases_lt q.frame g) [
           | inl soon ↦
               let free = list_any_push _ old.returns.items last (subst (λ (l : List Return). is_listed l q ≡ false) more.returns fresh) in

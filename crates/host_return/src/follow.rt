@@ -5,7 +5,7 @@ ghost use Rattle.scenario_text.specs.ScenarioGrammar.{IsScenario};
 ghost use Rattle.scenario_clocks.specs.StatedClocks.{scenario_clock};
 ghost use Rattle.air_log.specs.Lawful.{Lawful};
 ghost use Rattle.air_log.specs.Safe.{Safe};
-ghost use Rattle.host_return.specs.AfterReturns.{AllProbed};
+ghost use Rattle.host_return.specs.AfterReturns.{AllProbed, AllQuiet};
 ghost use Rattle.host_return.specs.Courses.{IsOneMore};
 ghost use Rattle.host_return.specs.Returned.{Ends, IsReturned, counts_in};
 
@@ -29,6 +29,7 @@ pub fn follow_returns<R: Runner>(
     ensures returned { IfOk result (IsReturned s.now) }
     ensures safe { IfOk result (λ x. Safe x.scenario (scenario_clock x.scenario) x.air) }
     ensures probed { IfOk result AllProbed }
+    ensures quiet { IfOk result AllQuiet }
 {
     let scenario = copied(alloc, s)?;
     let air = runner.run(alloc, &scenario)?;

@@ -3,12 +3,13 @@ use Rattle.std.proofs.lemmas.List.{length_push}
 use Rattle.scenario_text.proofs.SoundScenarios.{sound}
 use Rattle.scenario_clocks.specs.StatedClocks.{scenario_clock}
 use Rattle.air_log.specs.Safe.{Safe}
-use Rattle.host_return.specs.AfterReturns.{AllProbed}
+use Rattle.host_return.specs.AfterReturns.{AllProbed, AllQuiet}
 use Rattle.host_return.specs.Courses.{IsOneMore}
 use Rattle.host_return.specs.Returned.{IsReturned}
 use Rattle.host_return.specs.declared.follow.Course.{Course}
-use Rattle.host_return.proofs.Followed.{nothing_yet, one_more, ended_early, sixteen, handed, run_is_safe}
+use Rattle.host_return.proofs.Followed.{nothing_yet, one_more, ended_early, parts_of, sixteen, handed, run_is_safe}
 use Rattle.host_return.proofs.ProbedStill.{AreProbed, none_probed, still_are}
+use Rattle.host_return.proofs.QuietReturns.{all_quiet}
 use Rattle.host_return.proofs.follow.follow_returns.Goals as goal
 
 pub loop-course-init : goal.loop-course-init
@@ -51,6 +52,8 @@ returns-then-not-branch g c =
           (subst (λ (k : Course). Safe k.scenario (scenario_clock k.scenario) k.air) (sym end.0) (run_is_safe read old was.0));
       probed = handed AllProbed new c.finish.result c.finish.ensures
           (subst (λ (k : Course). AreProbed read k.scenario k.air k.returns.items) (sym end.0) was.1).probed;
+      quiet = handed AllQuiet new c.finish.result c.finish.ensures
+          (subst (λ (k : Course). AllQuiet (parts_of k)) (sym end.0) (all_quiet read old was.0 was.1));
     }
 
 pub returns : goal.returns
@@ -63,4 +66,5 @@ returns g c =
       returned = handed (IsReturned read) last c.finish-2.result c.finish-2.ensures (sixteen read last was.0 many);
       safe = handed (λ x. Safe x.scenario (scenario_clock x.scenario) x.air) last c.finish-2.result c.finish-2.ensures (run_is_safe read last was.0);
       probed = handed AllProbed last c.finish-2.result c.finish-2.ensures was.1.probed;
+      quiet = handed AllQuiet last c.finish-2.result c.finish-2.ensures (all_quiet read last was.0 was.1);
     }
