@@ -20,7 +20,7 @@ use Rattle.air_log.specs.LogText.{log_text}
 use Rattle.bus_time.specs.StampErrors.{AllErrLittle}
 use Rattle.bus_time.specs.Stamps.{AreStamps}
 use Rattle.bus_time.specs.declared.stamp.Stamp.{Stamp}
-use Rattle.host_return.specs.AfterReturns.{AllProbed}
+use Rattle.host_return.specs.AfterReturns.{AllProbed, AllQuiet}
 use Rattle.host_return.specs.Returned.{IsReturned, ReturnedParts}
 use Rattle.law_bus.specs.BusRuns.{IsBusRun}
 use Rattle.replay_tool.specs.FloodReport.{flood_report}
@@ -87,6 +87,7 @@ pub record IsReturnReport (s : ScenarioParts) (air : List Entry) (text : List �
   pub log : air ≡ returned.air
   pub of_run : IsOfRun (return_report returned.returns returned.counts) returned.scenario air text
   pub probed : AllProbed returned
+  pub quiet : AllQuiet returned
 
 abbrev pub IsReport : Command → List ℕ → List Entry → List ℕ → Type 0
 IsReport Flood b air text = OfFlood b (λ f. IsFloodReport f air text)

@@ -1,11 +1,13 @@
 //! Worked texts in which a host comes back, and what `return` writes of them before the energy lines.
 
 /// Three nodes within reach of each other. Node 1 is the host of rank 0, and node 2 that of rank 1.
-pub const THREE: &str = "sends 2\nnode 1 0\nnode 2 0\nnode 3 0\nhost 0 1\nhost 1 2\npair 1 2\npair 1 3\npair 2 3\n";
+pub const THREE: &str =
+    "sends 2\nnode 1 0\nnode 2 0\nnode 3 0\nhost 0 1\nhost 1 2\npair 1 2\npair 1 3\npair 2 3\n";
 
 /// Node 1 goes off in frame 6. Nodes 2 and 3 come to the round of frame 9, scan for rank 0 from frame 10 to 21 and for rank 1
 /// from frame 22 on, and node 2 hosts from frame 27 on, each fourth frame. Node 3 has its packet in the round of frame 31.
-pub const FAILOVER: &str = "on 0 1\non 0 2\non 0 3\nstream 0 3 0 4\nput 0 3 0 aa\noff 6 1\nput 20 3 0 bb\n";
+pub const FAILOVER: &str =
+    "on 0 1\non 0 2\non 0 3\nstream 0 3 0 4\nput 0 3 0 aa\noff 6 1\nput 20 3 0 bb\n";
 
 /// Node 1 comes back, scans for 5 frames, and hosts from frame 36 on, each fourth frame.
 pub const BACK: &str = "on 31 1\n";
@@ -41,7 +43,12 @@ pub const RETURNS: &[(&str, &[&str], &[&str])] = &[
     ),
     (
         "off and on in the next frame",
-        &["frames 58\n", FAILOVER, BACK, "off 37 2\non 37 2\nput 40 3 0 cc\n"],
+        &[
+            "frames 58\n",
+            FAILOVER,
+            BACK,
+            "off 37 2\non 37 2\nput 40 3 0 cc\n",
+        ],
         &["probe 2 7\n", FIRST_TWO, LAST_TWO],
     ),
     // Node 2 restarts in frame 37 with boot 2 and streams 1 and 3, the interval of the latter being that of frame 37. It comes

@@ -134,8 +134,10 @@ fn sixteen_returns(rt: HostRuntime) -> Result<(), Fail> {
 // Where nobody goes back, and no node has probed, the report is that of the run.
 #[test]
 fn a_run_without_return(rt: HostRuntime) -> Result<(), Fail> {
-    let text = "sends 2\nnode 1 0\nnode 2 0\nhost 0 1\npair 1 2\nframes 12\non 0 1\non 0 2\nstream 0 2 0 4\nput 0 2 0 aa\n";
-    let report = "deliver 9 0 1 1 2 1 0 0 aa\nenergy 1 450560 9681408 5 1238481408\nenergy 2 450560 9551872 6 1353800192\n";
+    let text =
+        "sends 2\nnode 1 0\nnode 2 0\nhost 0 1\npair 1 2\nframes 12\non 0 1\non 0 2\nstream 0 2 0 4\nput 0 2 0 aa\n";
+    let report =
+        "deliver 9 0 1 1 2 1 0 0 aa\nenergy 1 450560 9681408 5 1238481408\nenergy 2 450560 9551872 6 1353800192\n";
     let (status, got) = answer(rt.alloc(), "return", text)?;
     assert_eq!(rt; status, 0);
     assert_eq!(rt; got.as_slice(), report.as_bytes());
