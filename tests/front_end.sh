@@ -32,7 +32,7 @@ explains() {
 front_end_calls() {
     front --help
     says "--help: status $status" [ "$status" -eq 0 ]
-    for word in run log bus flood check deadlines demo --prove --version; do
+    for word in run log bus flood check deadlines times return demo --prove --version; do
         says "--help does not have $word" grep -q -- "^  foldcairn $word" "$folder/out"
     done
     front --version

@@ -1,6 +1,6 @@
 """Drawings of the documents that show no run: the parts of a frame, the guard time from the numbers of the profiles, the
-states of a node, and the crates from crates.txt. tools/pictures.py writes them; colours and frames are those of the Python
-package in python/.
+states of a node, how a stamp comes about, and the crates from crates.txt. tools/pictures.py writes them; colours and frames
+are those of the Python package in python/.
 """
 
 from matplotlib.figure import Figure
@@ -153,6 +153,62 @@ def room(drawn, start, end, row):
     look = {"arrowstyle": "|-|,widthA=0.25,widthB=0.25", "color": style.PALE, "shrinkA": 0, "shrinkB": 0}
     drawn.annotate("", (end, row), (start, row), arrowprops=look)
     drawn.annotate(f"{(end - start) / MILLISECOND:.2f} ms left", (end, row), (6, 0), textcoords="offset points", fontsize=8.5, va="center")
+
+
+def times_picture():
+    """How a stamp comes about, with drift drawn much too large; and the bound of its error over the age of the schedule."""
+    figure = Figure(figsize=(WIDTH, 3.9), layout="constrained")
+    clocks, bound = figure.subplots(1, 2, gridspec_kw={"width_ratios": (1.9, 1), "wspace": 0.06})
+    draw_clocks(style.plain(clocks))
+    draw_bound(style.plain(bound))
+    return figure
+
+
+def draw_clocks(drawn):
+    """Marks of three clocks over true time: the sender's is ahead, and faster than it could be."""
+    opening, packet, step = 1.0, 34.0, 3.0
+    rows = {"true time": (1.0, 0.0), "clock of the host": (0.98, 0.0), "clock of the sender": (1.06, 3.0)}
+    for row, (speed, offset) in enumerate(rows.values()):
+        drawn.hlines(row, -4, 44, color=style.PALE, linewidth=1.0)
+        places = [(step * mark - offset) / speed for mark in range(-1, 17)]
+        drawn.vlines([place for place in places if -4 < place < 44], row - 0.07, row + 0.07, color=style.PALE, linewidth=1.0)
+    for time, words, colour in (
+        (opening, "the host starts its schedule", style.RECEIVES),
+        (packet, "the sender starts its packet", style.TRANSMITS),
+    ):
+        drawn.vlines(time, -0.35, 2.4, color=colour, linewidth=1.4, linestyle=(0, (4, 3)))
+        drawn.text(time, -0.42, words, fontsize=8.5, ha="center", va="bottom")
+    drawn.text(opening, 2.47, "the reference", fontsize=8.5, ha="center", va="top")
+    marks = [(packet - opening) * speed / step for speed, _ in rows.values()]
+    late = f"{marks[2]:.1f} marks on the sender's: the stamp is {marks[2] - marks[1]:.1f} late"
+    for row, told in ((1, f"{marks[1]:.1f} marks pass on the host's clock"), (2, late)):
+        look = {"arrowstyle": "<->", "color": style.INK, "shrinkA": 0, "shrinkB": 0}
+        drawn.annotate("", (packet, row + 0.22), (opening, row + 0.22), arrowprops=look)
+        drawn.text((opening + packet) / 2, row + 0.3, told, fontsize=8.5, ha="center", va="top")
+    drawn.set_yticks(range(3), rows)
+    drawn.set_ylim(2.75, -0.75)
+    drawn.set_xlim(-4, 44)
+    drawn.set_xticks([])
+    for spine in drawn.spines.values():
+        spine.set_visible(False)
+    title = "A stamp: the sender's clock measures from the schedule to the packet"
+    style.heading(drawn, title, "A mark is a step of that clock. The drift is drawn some thousand times too large.")
+
+
+def draw_bound(drawn):
+    """51 ticks and 40 millionths of the age, in microseconds over seconds."""
+    ages = [10 ** (place / 20 - 2) for place in range(66)]
+    drawn.loglog(ages, [51 / 64 + 40 * age for age in ages], color=style.TRANSMITS, linewidth=2)
+    for age, words in ((0.033, "slot 1"), (0.33, "slot 10"), (1.32, "slot 40"), (17.5, "old schedule")):
+        drawn.plot(age, 51 / 64 + 40 * age, "o", color=style.TRANSMITS, markersize=5)
+        shift, side = ((-7, -3), "right") if age > 10 else ((7, -3), "left")
+        drawn.annotate(words, (age, 51 / 64 + 40 * age), shift, textcoords="offset points", fontsize=8.5, ha=side)
+    drawn.set_xticks([0.01, 0.1, 1, 10], ["10 ms", "0.1 s", "1 s", "10 s"])
+    drawn.set_yticks([1, 10, 100, 1000], ["1 µs", "10 µs", "100 µs", "1 ms"])
+    drawn.minorticks_off()
+    drawn.grid(color=style.FAINT, linewidth=0.6)
+    drawn.set_xlabel("age of the schedule")
+    style.heading(drawn, "The greatest error", "profile 1")
 
 
 def frame_picture(log, frame):

@@ -143,7 +143,7 @@ wrong_words() {
             shift
             wrong_demo "$@"
             ;;
-        run | log | bus | flood | check | deadlines)
+        run | log | bus | flood | check | deadlines | times | return)
             if [ $# -gt 2 ]; then
                 say "$1 takes one file at most, and $(($# - 1)) words come after it"
             elif [ -d "$2" ]; then

@@ -66,6 +66,7 @@ def pictures():
     yield "guard", drawings.guard_picture()
     yield "states", drawings.states_picture()
     yield "crates", drawings.crates_picture()
+    yield "times", drawings.times_picture()
     line = example("packets-along-a-line")
     yield "frame", drawings.frame_picture(line, 9)
     yield "round", window(line, 9, 0, 0.132, "The round of frame 9 of packets-along-a-line: what each radio does")
@@ -81,10 +82,18 @@ def pictures():
         yield name, plot.timeline(from_page("TUTORIAL.md", name), title=f"{name}: {title}", note=note)
     times = planning.radio_time(from_page("TUTORIAL.md", "a-backup-host"))
     yield "energy", plot.energy(times, title="a-backup-host: seconds with the radio on, of 128")
+    yield "return", return_picture()
     ten = from_page("SCENARIO.md", "ten-nodes")
     places = {node: (1.9 * column, -row) for node, (column, row) in GRID.items()}
     yield "network", plot.topology(ten.scenario, positions=places, title="ten-nodes: a network of ten nodes")
     yield "failover", plot.timeline(ten, title="ten-nodes: the host, node 1, goes off in frame 16, and node 6 hosts from frame 35")
+
+
+def return_picture():
+    """A failover and the way back: the run of the scenario with the lines that `return` adds."""
+    log = results.log(text_of("RETURN.md", "comes-back").replace("put 40", "off 37 2\non 37 2\nput 40"))
+    note = "In frame 36 node 2 receives node 1 while it probes, and restarts in frame 37; probes are not drawn."
+    return plot.timeline(log, title="comes-back: node 2 takes over, and goes back to node 1", note=note)
 
 
 def main():

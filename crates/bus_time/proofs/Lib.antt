@@ -1,8 +1,12 @@
+-- kept for the crates above
+pub mod OneList
+-- for this crate alone
 mod FirstWords
 mod KeptHosts
 mod HostingWalk
 mod HeardWords
 mod DataHosts
+mod PlaceOrder
 mod BeginningOrder
 mod ReadMore
 mod FoundWords
@@ -12,3 +16,6 @@ mod StampedLists
 mod NodePlaces
 mod StampedRuns
 mod StampErrors
+mod StampAges
+mod StampsErr
+mod OneReference

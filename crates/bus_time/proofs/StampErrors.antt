@@ -61,22 +61,22 @@ sums frames ahead lead listen J A K B D N Ht0 Ht Lt0 Lt Le z is_N low high own o
 
 module _ (s : ScenarioParts) (clocks : ℕ → ℕ → ℕ) (air : List Entry) (whole : EndsInOrder s clocks air) (x : Sending) (begun : BeginsData air x)
     (d : ℕ) (h : Sending) (reference : IsReference s air x d h) (y : Schedule) (says : message_of h.packet ≡ Some (ScheduleOf y)) where
-  heard : IsHeard air x.node h
+  pub heard : IsHeard air x.node h
   heard = reference_heard s air x d h reference
 
-  sent : Contains (sendings_of air) h
+  pub sent : Contains (sendings_of air) h
   sent = (whole.run.heedful.heard x.node h heard).sent
 
-  flood : IsOfFlood s clocks air h
+  pub flood : IsOfFlood s clocks air h
   flood = of_flood s clocks air whole h sent
 
   -- h is of the channel of x, d frames before it, and over before it starts
-  record IsBefore : Type 0 where
+  pub record IsBefore : Type 0 where
     pub channel : h.rank ≡ x.rank
     pub frames : frame_of s.profile h + d ≡ frame_of s.profile x
     pub over : h.end < x.start
 
-  before : IsBefore
+  pub before : IsBefore
   before = elim reference.by [
     | inl now ↦ (
         let is = now.1.is in
@@ -99,7 +99,7 @@ module _ (s : ScenarioParts) (clocks : ℕ → ℕ → ℕ) (air : List Entry) (
   ]
 
   module _ (o : Sending) (began : BeganFlood s air h o) (host : ℕ) (named : IsHostOf s x.rank host) where
-    o_flood : IsOfFlood s clocks air o
+    pub o_flood : IsOfFlood s clocks air o
     o_flood = of_flood s clocks air whole o began.there
 
     -- o is what the flood of h began with
@@ -127,7 +127,7 @@ module _ (s : ScenarioParts) (clocks : ℕ → ℕ → ℕ) (air : List Entry) (
     p = s.profile
 
     -- the host starts its flood at the nominal time
-    starts : o.start ≡ started s.profile (clocks host) (frame_of s.profile h) (slot_of h)
+    pub starts : o.start ≡ started s.profile (clocks host) (frame_of s.profile h) (slot_of h)
     starts =
         sym (ap (λ (z : Sending). z.start) same) ∙ flood.begins.at
         ∙ ap (λ (u : ℕ). point (clocks u) flood.zero (starting p (slot_of flood.origin))) host_node
@@ -136,24 +136,24 @@ module _ (s : ScenarioParts) (clocks : ℕ → ℕ → ℕ) (air : List Entry) (
         ∙ ap (λ (f : ℕ). started p (clocks host) f (slot_of flood.origin)) (sym flood.slot.frame)
         ∙ ap (λ (j : ℕ). started p (clocks host) (frame_of p h) j) (sym flood.slot.slot)
 
-    clock : IsClock (clocks x.node)
+    pub clock : IsClock (clocks x.node)
     clock = whole.run.driven.drift x.node (sent_known s clocks air whole.run.heedful.trails x begun.there)
 
-    host_clock : IsClock (clocks host)
+    pub host_clock : IsClock (clocks host)
     host_clock = whole.run.driven.drift host (host_known s whole.run.driven.sound x.rank host named)
 
     -- frames of hosted rounds are counted from 1
-    later_frame : 1 ≤ frame_of s.profile h
+    pub later_frame : 1 ≤ frame_of s.profile h
     later_frame =
         let good = zero_good s clocks air whole.run h flood in
         let begun_in = good.ref.begun in
         let past = good.ref.past in
         omega (arith, begun_in, past)
 
-    slot_short : slot_of h ≤ (budget_of s.profile).last
+    pub slot_short : slot_of h ≤ (budget_of s.profile).last
     slot_short = slot_in_round s clocks air whole.run h flood
 
-    in_run : x.start < run_end s
+    pub in_run : x.start < run_end s
     in_run = (sent_lasts s clocks air whole.run.heedful.trails x begun.there).0
 
     early : x.start ≤ 2 ^ 45
@@ -173,7 +173,7 @@ module _ (s : ScenarioParts) (clocks : ℕ → ℕ → ℕ) (air : List Entry) (
         by_version true = omega arith
         by_version false = omega arith
 
-    errs : Near (tick_by s air x clocks d h) (clocks host x.start) (slack y + drifted (x.start - o.start))
+    pub errs : Near (tick_by s air x clocks d h) (clocks host x.start) (slack y + drifted (x.start - o.start))
     errs =
         let L = clocks x.node in
         let H = clocks host in

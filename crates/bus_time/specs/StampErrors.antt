@@ -1,5 +1,7 @@
 -- How far a stamp is from what the clock of the host reads.
-use Rattle.std.specs.Prelude.{◌≡◌, ℕ, ◌+◌, ◌-◌, ◌*◌, ◌/◌, ◌==◌, List, Contains, Some, if◌then◌else◌}
+use Rattle.std.specs.Prelude.{◌≡◌, ℕ, ◌+◌, ◌-◌, ◌*◌, ◌/◌, ◌<◌, ◌==◌, List, Contains, true, false, Some, if◌then◌else◌}
+use Rattle.std.specs.List.{AllZip}
+use Rattle.lwb_base.specs.Profile.{Numbers}
 use Rattle.tick_clock.specs.Clocks.{Near}
 use Rattle.lwb_base.specs.Messages.{Schedule}
 use Rattle.bus_rules.specs.Slots.{ScheduleOf}
@@ -10,11 +12,12 @@ use Rattle.scenario_text.specs.ScenarioParts.{ScenarioParts}
 use Rattle.air_log.specs.declared.entry.Entry.{Entry}
 use Rattle.air_log.specs.Entries.{sendings_of}
 use Rattle.air_log.specs.Lawful.{Lawful}
-use Rattle.air_log.specs.Safe.{SameSlot}
+use Rattle.air_log.specs.Safe.{SameSlot, by_host}
 use Rattle.law_safety.specs.Invariant.{IsDrivenWell}
 use Rattle.law_safety.specs.SentPlans.{IsHostOf}
-use Rattle.bus_time.specs.Stamps.{IsReference, tick_by}
+use Rattle.bus_time.specs.Stamps.{IsReference, HasReference, stamped, tick_by}
 use Rattle.bus_time.specs.StampLaws.{BeginsData}
+use Rattle.bus_time.specs.declared.stamp.Stamp.{Stamp}
 
 -- what a schedule of 61 bytes, or of 74, leaves open: in version 2 it names its contention slots
 abbrev pub slack : Schedule → ℕ
@@ -37,3 +40,41 @@ StampsErrLittle =
     → (x : Sending) → BeginsData air x → (d : ℕ) (h : Sending) → IsReference s air x d h
     → (y : Schedule) → message_of h.packet ≡ Some (ScheduleOf y) → (o : Sending) → BeganFlood s air h o → (host : ℕ) → IsHostOf s x.rank host
     → Near (tick_by s air x clocks d h) (clocks host x.start) (slack y + drifted (x.start - o.start))
+
+-- no stamp errs by so many ticks: 0.7 ms with frames of 4 s, and 0.92 ms with those of 5 s
+abbrev pub never_reached : Numbers → ℕ
+never_reached p = if p.seconds == 4 then 44960 else 58300
+
+-- m and n differ by less than d
+pub record DifferByLess (m n d : ℕ) : Type 0 where
+  pub below : m < n + d
+  pub above : n < m + d
+
+-- a reference is of the frame itself or of one of the four before, so there is a bound for every age
+abbrev pub StampsStayClose : Type 0
+StampsStayClose =
+    (s : ScenarioParts) (clocks : ℕ → ℕ → ℕ) (air : List Entry) → IsDrivenWell s clocks → Lawful s clocks air
+    → (x : Sending) → BeginsData air x → (d : ℕ) (h : Sending) → IsReference s air x d h → (host : ℕ) → IsHostOf s x.rank host
+    → DifferByLess (tick_by s air x clocks d h) (clocks host x.start) (never_reached s.profile)
+
+module _ (s : ScenarioParts) (clocks : ℕ → ℕ → ℕ) (air : List Entry) (x : Sending) where
+  -- the tick errs by what the schedule of its reference leaves open, and by the drift since the start of that flood
+  pub record ErrsByAge (tick host : ℕ) : Type 0 where
+    pub by : HasReference s air x clocks tick
+    pub schedule : Schedule
+    pub says : message_of by.heard.packet ≡ Some (ScheduleOf schedule)
+    pub first : Sending
+    pub began : BeganFlood s air by.heard first
+    pub near : Near tick (clocks host x.start) (slack schedule + drifted (x.start - first.start))
+
+  -- the stamp of x against what the clock of the host that the scenario names for the channel of x reads as x starts
+  pub record ErrsLittle (stamp : Stamp) : Type 0 where
+    pub host : ℕ
+    pub named : IsHostOf s x.rank host
+    pub hosting : by_host s clocks air x ≡ true → stamp.tick ≡ clocks host x.start
+    pub other : by_host s clocks air x ≡ false → ErrsByAge stamp.tick host
+    pub close : DifferByLess stamp.tick (clocks host x.start) (never_reached s.profile)
+
+-- so errs the stamp of each
+abbrev pub AllErrLittle : ScenarioParts → (ℕ → ℕ → ℕ) → List Entry → List Stamp → Type 0
+AllErrLittle s clocks air stamps = AllZip (ErrsLittle s clocks air) (stamped s.profile air) stamps

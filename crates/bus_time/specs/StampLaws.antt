@@ -1,5 +1,5 @@
--- Laws of the data that nodes send.
-use Rattle.std.specs.Prelude.{◌≡◌, ◌↔◌, ℕ, List, Contains, true, Some}
+-- Laws of the data that nodes send, and of its stamps.
+use Rattle.std.specs.Prelude.{◌≡◌, ◌↔◌, ℕ, List, Contains, true, Some, IsPermutation}
 use Rattle.bus_rules.specs.Slots.{Data, DataOf}
 use Rattle.lwb_member.specs.Said.{message_of}
 use Rattle.radio_model.specs.declared.sending.Sending.{Sending}
@@ -11,6 +11,8 @@ use Rattle.air_log.specs.Lawful.{Lawful}
 use Rattle.air_log.specs.Safe.{by_host}
 use Rattle.law_safety.specs.Invariant.{IsDrivenWell}
 use Rattle.law_safety.specs.SentPlans.{IsHostOf}
+use Rattle.bus_time.specs.Stamps.{AreStamps}
+use Rattle.bus_time.specs.declared.stamp.Stamp.{Stamp}
 
 -- x begins the flood of a data packet
 pub record BeginsData (air : List Entry) (x : Sending) : Type 0 where
@@ -24,3 +26,9 @@ abbrev pub DataHostsLaw : Type 0
 DataHostsLaw =
     (s : ScenarioParts) (clocks : ℕ → ℕ → ℕ) (air : List Entry) → IsDrivenWell s clocks → Lawful s clocks air
     → (x : Sending) → BeginsData air x → (by_host s clocks air x ≡ true) ↔ IsHostOf s x.rank x.node
+
+-- two lawful logs with the same entries, each as often, have one list of stamps
+abbrev pub OneListLaw : Type 0
+OneListLaw =
+    (s : ScenarioParts) (clocks : ℕ → ℕ → ℕ) (a b : List Entry) → IsDrivenWell s clocks → Lawful s clocks a → Lawful s clocks b → IsPermutation a b
+    → (k l : List Stamp) → AreStamps s clocks a k → AreStamps s clocks b l → k ≡ l

@@ -1,3 +1,6 @@
+-- kept for the crates above
+pub mod SameBefore
+-- for this crate alone
 mod EntriesApart
 mod FloodFacts
 mod HeardApart
@@ -7,7 +10,6 @@ mod OfTrails
 mod OneFloodLog
 mod OneLog
 mod OneText
-mod SameBefore
 mod SameCosts
 mod SameElements
 mod TunedBack

@@ -16,12 +16,12 @@ use Rattle.air_log.specs.Lawful.{Lawful, heard_by, sent_by, tuned_by, trail_in}
 use Rattle.air_log.specs.Trails.{run_end, frame_start, scripted, tune_of, tune_at}
 use Rattle.energy_account.specs.Energies.{energy_of, sending_time, tuning_time, costs}
 use Rattle.law_one_log.specs.OneLog.{OneCostLaw}
-use Rattle.law_one_log.proofs.SameBefore.{alike, alike_before, same_device, same_trail}
+use Rattle.law_one_log.proofs.SameBefore.{alike_before, same_device, same_trail, one_scenario}
 
 module _ (s : ScenarioParts) (clocks : ℕ → ℕ → ℕ) (sound : IsSoundScenario s) (a b : List Entry) (of_a : Lawful s clocks a) (of_b : Lawful s clocks b)
     (v : ℕ) where
   trails : trail_in s clocks a v ≡ trail_in s clocks b v
-  trails = same_trail s clocks sound a b of_a of_b v (alike s clocks sound a b of_a of_b)
+  trails = same_trail s clocks sound a b of_a of_b v
 
   sent : sum_by sending_time (sent_by a v) ≡ sum_by sending_time (sent_by b v)
   sent =
@@ -40,10 +40,12 @@ module _ (s : ScenarioParts) (clocks : ℕ → ℕ → ℕ) (sound : IsSoundScen
     where
       by_test : (c : Bool) → nat_lt f s.frames ≡ c → tune_at s v (clocks v) (heard_by a v) f ≡ tune_at s v (clocks v) (heard_by b v) f
       by_test true is =
+          let twins = one_scenario s clocks sound a b of_a of_b in
           let t = frame_start s f in
           let within : t ≤ run_end s = mul-le-mul_right s.profile.frame (let less = ltb-true f s.frames is in omega (arith, less)) in
           ap (λ (d : Device). if nat_lt f s.frames then tune_of (scripted s v (clocks v) t d).power else None)
-          (same_device s clocks sound a b of_a of_b t v (alike_before s clocks sound a b of_a of_b t within))
+          (same_device s clocks (run_end s) s.script s.script a b twins t v within
+          (alike_before s clocks (run_end s) s.script s.script a b twins t within within))
       by_test false is = rw is refl
 
   scanned : scanned_frames s v (clocks v) (heard_by a v) ≡ scanned_frames s v (clocks v) (heard_by b v)

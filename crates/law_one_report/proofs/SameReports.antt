@@ -19,13 +19,19 @@ use Rattle.law_terms.specs.LawfulRuns.{IsLawfulRun}
 use Rattle.air_log.specs.declared.entry.Entry.{Entry}
 use Rattle.air_log.specs.Lawful.{Lawful}
 use Rattle.air_log.specs.LogText.{log_text}
-use Rattle.replay_tool.specs.Reports.{IsOfRun, IsFloodReport, Telling, OfScenario, log_report}
+use Rattle.replay_tool.specs.Reports.{IsOfRun, IsFloodReport, IsReturnReport, IsTimesReport, Telling, OfScenario, log_report}
 use Rattle.replay_tool.specs.RunReport.{report_lines, run_report, node_energy, energy_line}
 use Rattle.replay_tool.specs.Summary.{summary, number_line, sent_ticks, on_ticks}
 use Rattle.replay_tool.specs.BusReport.{bus_report}
 use Rattle.replay_tool.specs.CheckReport.{IsCheckReport, verdict_line}
 use Rattle.replay_tool.specs.DeadlineReport.{IsDeadlineReport}
-use Rattle.replay_tool.specs.declared.command.Command.TheVariants.{Flood, Run, Log, Bus, Demo, Check, Deadlines}
+use Rattle.replay_tool.specs.ReturnReport.{node_probes, return_line, return_report}
+use Rattle.replay_tool.specs.TimesReport.{stamp_line}
+use Rattle.replay_tool.specs.declared.command.Command.TheVariants.{Flood, Run, Log, Bus, Demo, Check, Deadlines, Times, Return}
+use Rattle.host_return.specs.OneReturned.{OneReturnedLaw}
+use Rattle.host_return.specs.declared.returned.Return.{Return as HostReturn}
+use Rattle.bus_time.specs.StampLaws.{OneListLaw}
+use Rattle.bus_time.specs.declared.stamp.Stamp.{Stamp}
 use Rattle.air_check.specs.CheckedText.{checked_text}
 use Rattle.air_check.specs.Verdicts.{IsVerdict}
 use Rattle.air_check.specs.declared.verdict.Verdict.{Verdict}
@@ -44,6 +50,8 @@ pub record Laws : Type 0 where
   pub drift : (s : ScenarioParts) → IsScenario s → (v : ℕ) → knows s.nodes v ≡ true → IsClock (scenario_clock s v)
   pub said : (seed n frames : ℕ) → IsSize n frames → IsSaid (made seed n frames)
   pub sound : (s : ScenarioParts) → IsScenario s → IsSoundScenario s
+  pub stamps : OneListLaw
+  pub returned : OneReturnedLaw
   pub verdict : (s : ScenarioParts) (clocks : ℕ → ℕ → ℕ) (air : List Entry) (a b : Verdict) → IsVerdict s clocks air a → IsVerdict s clocks air b → a ≡ b
 
 -- what a text says, it says alone
@@ -92,6 +100,32 @@ module _ (laws : Laws) (s : ScenarioParts) (said : IsScenario s) where
       let of_b = lawful_run b also.law in
       (is.is ∙ alike a b of_a of_b ∙ sym also.is, laws.log s (scenario_clock s) a b of_a of_b)
 
+  -- two lawful logs have one list of stamps
+  one_times : (a b : List Entry) (text other : List ℕ) → IsTimesReport s a text → IsTimesReport s b other → (text ≡ other) × IsPermutation a b
+  one_times a b text other is also =
+      let moved = laws.log s (scenario_clock s) a b (lawful_run a is.of_run.law) (lawful_run b also.of_run.law) in
+      let same : is.stamps ≡ also.stamps =
+      laws.stamps s (scenario_clock s) a b (record { sound = laws.sound s said; drift = laws.drift s said }) is.of_run.law also.of_run.law moved
+      is.stamps also.stamps is.are also.are in
+      (is.of_run.is ∙ ap (λ (ms : List Stamp). flat_map stamp_line ms) same ∙ sym also.of_run.is, moved)
+
+-- two runs of a scenario go back in the same frames, and end in runs of one scenario
+module _ (laws : Laws) (read : ScenarioParts) (said : IsScenario read) where
+  one_return : (a b : List Entry) (text other : List ℕ) → IsReturnReport read a text → IsReturnReport read b other → (text ≡ other) × IsPermutation a b
+  one_return a b text other is also =
+      let x = is.returned in
+      let y = also.returned in
+      let same = laws.returned read x y said is.is also.is in
+      let alike : ToldAlike laws x.scenario is.said (return_report x.returns x.counts) =
+      λ m n of_m of_n. ap (λ (l : List ℕ). flat_map return_line x.returns ++ flat_map node_probes x.counts ++ l) (run_alike laws x.scenario is.said m n of_m of_n) in
+      let scenario : IsOfRun (return_report y.returns y.counts) x.scenario b other =
+      subst (λ (s : ScenarioParts). IsOfRun (return_report y.returns y.counts) s b other) (sym same.scenario) also.of_run in
+      let returns : IsOfRun (return_report x.returns y.counts) x.scenario b other =
+      subst (λ (rs : List HostReturn). IsOfRun (return_report rs y.counts) x.scenario b other) (sym same.returns) scenario in
+      let counts : IsOfRun (return_report x.returns x.counts) x.scenario b other =
+      subst (λ (cs : List (ℕ × ℕ)). IsOfRun (return_report x.returns cs) x.scenario b other) (sym same.counts) returns in
+      one_run laws x.scenario is.said (return_report x.returns x.counts) alike a b text other is.of_run counts
+
 -- a log has one verdict
 one_check : Laws → (s : ScenarioParts) (log : List Entry) (text other : List ℕ) → IsCheckReport s log text → IsCheckReport s log other → text ≡ other
 one_check laws s log text other is also =
@@ -99,11 +133,16 @@ one_check laws s log text other is also =
 
 -- of the scenario that the bytes say
 module _ (laws : Laws) (bytes : List ℕ) (a b : List Entry) (text other : List ℕ) where
-  of_scenario : (told : Telling) → ((s : ScenarioParts) (said : IsScenario s) → ToldAlike laws s said told)
+  of_scenario : (P : ScenarioParts → List Entry → List ℕ → Type 0)
+      → ((s : ScenarioParts) → IsScenario s → P s a text → P s b other → (text ≡ other) × IsPermutation a b)
+      → OfScenario bytes (λ s. P s a text) → OfScenario bytes (λ s. P s b other) → (text ≡ other) × IsPermutation a b
+  of_scenario P alike is also =
+      let here : P is.0 b other = subst (λ (s : ScenarioParts). P s b other) (one_said _ also.0 is.0 also.1 is.1) also.2 in
+      alike is.0 (bytes, is.1) is.2 here
+
+  of_run : (told : Telling) → ((s : ScenarioParts) (said : IsScenario s) → ToldAlike laws s said told)
       → OfScenario bytes (λ s. IsOfRun told s a text) → OfScenario bytes (λ s. IsOfRun told s b other) → (text ≡ other) × IsPermutation a b
-  of_scenario told alike is also =
-      let here : IsOfRun told is.0 b other = subst (λ (s : ScenarioParts). IsOfRun told s b other) (one_said _ also.0 is.0 also.1 is.1) also.2 in
-      one_run laws is.0 (bytes, is.1) told (alike is.0 (bytes, is.1)) a b text other is.2 here
+  of_run told alike = of_scenario (IsOfRun told) (λ s said. one_run laws s said told (alike s said) a b text other)
 
   -- no log comes with it
   no_logs : a ≡ [] → b ≡ [] → IsPermutation a b
@@ -116,9 +155,9 @@ one_report laws Flood asked bytes a b text other is also =
     let here : IsFloodReport f b other = subst (λ (g : FloodParts). IsFloodReport g b other) (one_said _ also.0 f also.1 is.1) also.2 in
     (is.2.is ∙ sym here.is, laws.flood f (stated_clock f) a b (laws.clocks f whole.0 (whole.1, whole.2)) is.2.law here.law)
 one_report laws Run asked bytes a b text other is also =
-    of_scenario laws bytes a b text other run_report (λ s said. run_alike laws s said) is also
+    of_run laws bytes a b text other run_report (λ s said. run_alike laws s said) is also
 one_report laws Log asked bytes a b text other is also =
-    of_scenario laws bytes a b text other log_report (λ s said. log_alike laws s said) is also
+    of_run laws bytes a b text other log_report (λ s said. log_alike laws s said) is also
 one_report laws Bus asked bytes a b text other is also =
     (is.2.1 ∙ ap bus_report (one_said _ is.0 also.0 is.1 also.1) ∙ sym also.2.1, no_logs laws bytes a b text other is.2.0 also.2.0)
 one_report laws (Demo seed nodes frames) asked bytes a b text other is also =
@@ -134,3 +173,7 @@ one_report laws Check asked bytes a b text other is also =
 one_report laws Deadlines asked bytes a b text other is also =
     let here = subst (λ (p : Plan). IsDeadlineReport p other) (one_said _ also.0 is.0 also.1 is.1) also.2.1 in
     (one_plan_report is.0 text other is.2.1 here, no_logs laws bytes a b text other is.2.0 also.2.0)
+one_report laws Times asked bytes a b text other is also =
+    of_scenario laws bytes a b text other IsTimesReport (λ s said. one_times laws s said a b text other) is also
+one_report laws Return asked bytes a b text other is also =
+    of_scenario laws bytes a b text other IsReturnReport (λ s said. one_return laws s said a b text other) is also

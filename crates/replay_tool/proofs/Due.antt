@@ -6,11 +6,11 @@ use Rattle.std.specs.Io.KnownBytes.{Consumes, IsAtEnd}
 use Rattle.lwb_base.specs.declared.read.TheConstants.{INPUT_LIMIT}
 use Rattle.text_readers.specs.declared.fault.FaultKind.{FaultKind}
 use Rattle.air_log.specs.declared.entry.Entry.{Entry}
-use Rattle.replay_tool.specs.Commands.{Asks, reads, IsTextOf, HasFault}
+use Rattle.replay_tool.specs.Commands.{Asks, reads, IsReading, IsTextOf, HasFault}
 use Rattle.replay_tool.specs.CommandLine.{PartWritten, WholeRead, IsInput, IsFaultLine, IsComplete}
 use Rattle.replay_tool.specs.Reports.{IsReport}
 use Rattle.replay_tool.specs.declared.command.Command.{Command}
-use Rattle.replay_tool.specs.declared.command.Command.TheVariants.{Flood, Run, Log, Bus, Demo, Check, Deadlines}
+use Rattle.replay_tool.specs.declared.command.Command.TheVariants.{Flood, Run, Log, Bus, Demo, Check, Deadlines, Times, Return}
 
 -- a part of a text that is due
 pub part_due : (a b : Option (List ℕ)) (Due : List ℕ → Type 0) (text : List ℕ) → Due text → PartWritten a b (λ t. t ≡ text) → PartWritten a b Due
@@ -44,6 +44,8 @@ is_text Bus b air text report = ap result_err report.1
 is_text (Demo seed nodes frames) b air text report = refl
 is_text Check b air text report = ap result_err report.2
 is_text Deadlines b air text report = ap result_err report.1
+is_text Times b air text report = ap result_err report.1
+is_text Return b air text report = ap result_err report.1
 
 -- a text has no fault
 text_or_fault : (c : Command) (b : List ℕ) (n : ℕ) (k : FaultKind) → IsTextOf c b → HasFault c b n k → ⊥
@@ -60,7 +62,17 @@ faulty_reads Log b n k fault = refl
 faulty_reads Bus b n k fault = refl
 faulty_reads Check b n k fault = refl
 faulty_reads Deadlines b n k fault = refl
+faulty_reads Times b n k fault = refl
+faulty_reads Return b n k fault = refl
 faulty_reads (Demo seed nodes frames) b n k fault = absurd (text_or_fault (Demo seed nodes frames) b n k refl fault)
+
+-- where no words ask for a command that reads, this one does not
+pub not_reading : (words : List (List ℕ)) (c : Command) → Asks words c → (IsReading words → ⊥) → reads c ≡ false
+not_reading words c asks none = by_test (reads c) refl
+  where
+    by_test : (b : Bool) → reads c ≡ b → reads c ≡ false
+    by_test true is = absurd (none (c, asks, is))
+    by_test false is = is
 
 -- words ask for one command
 pub one_command : (words : List (List ℕ)) (found : Option Command) (c d : Command) → ((e : Command) → (found ≡ Some e) ↔ Asks words e) → found ≡ Some c

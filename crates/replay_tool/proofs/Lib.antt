@@ -5,5 +5,8 @@ pub mod CheckedLogs
 pub mod StatedRuns
 pub mod ReportLines
 pub mod NodeLines
+pub mod ProbeLines
+pub mod ReturnedRuns
+pub mod ReturnTexts
 pub mod StreamsDecided
 pub mod OwnersDiffer

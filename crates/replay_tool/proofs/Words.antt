@@ -10,7 +10,7 @@ use Rattle.std.proofs.lemmas.Slice.Eq.{bytes_eq-Decides}
 use Rattle.scenario_maker.specs.Made.{IsSize}
 use Rattle.replay_tool.specs.Commands.{Asks, reads}
 use Rattle.replay_tool.specs.declared.command.Command.{Command}
-use Rattle.replay_tool.specs.declared.command.Command.TheVariants.{Flood, Run, Log, Bus, Demo, Check, Deadlines}
+use Rattle.replay_tool.specs.declared.command.Command.TheVariants.{Flood, Run, Log, Bus, Demo, Check, Deadlines, Times, Return}
 
 one_of : (words : List (String Global)) (w : String Global) → length words ≡ 1 → w ≡ get_or words 0 w → words ≡ w ∷ []
 one_of [] w one is = absurd (omega arith)
@@ -71,6 +71,8 @@ module _ (ws : List (List ℕ)) (seed nodes frames : ℕ) (found : Option Comman
   asked_for Bus reading asks = absurd (false≢true (sym reading))
   asked_for Check reading asks = absurd (false≢true (sym reading))
   asked_for Deadlines reading asks = absurd (false≢true (sym reading))
+  asked_for Times reading asks = absurd (false≢true (sym reading))
+  asked_for Return reading asks = absurd (false≢true (sym reading))
   asked_for (Demo s n f) reading (words, few, size) =
       let at_seed : seed ≡ s = same_number 1 seed s ws few_s few (ap (λ (l : List (List ℕ)). get_or l 1 []) spells)
       (ap (λ (l : List (List ℕ)). get_or l 1 []) words) in

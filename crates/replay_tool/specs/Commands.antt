@@ -8,7 +8,7 @@ use Rattle.scenario_maker.specs.Made.{IsSize}
 use Rattle.deadline_plan.specs.DeadlineText.{plan_of}
 use Rattle.air_check.specs.CheckedText.{checked_text}
 use Rattle.replay_tool.specs.declared.command.Command.{Command}
-use Rattle.replay_tool.specs.declared.command.Command.TheVariants.{Flood, Run, Log, Bus, Demo, Check, Deadlines}
+use Rattle.replay_tool.specs.declared.command.Command.TheVariants.{Flood, Run, Log, Bus, Demo, Check, Deadlines, Times, Return}
 
 -- the words ask for this command. A seed has at most 13 digits
 abbrev pub Asks : List (List ℕ) → Command → Type 0
@@ -20,6 +20,8 @@ Asks words (Demo seed nodes frames) =
     (words ≡ codes "demo" ∷ decimal seed ∷ decimal nodes ∷ decimal frames ∷ []) × (seed < 10 ^ 13) × IsSize nodes frames
 Asks words Check = words ≡ codes "check" ∷ []
 Asks words Deadlines = words ≡ codes "deadlines" ∷ []
+Asks words Times = words ≡ codes "times" ∷ []
+Asks words Return = words ≡ codes "return" ∷ []
 
 -- whether it reads its source
 abbrev pub reads : Command → Bool
@@ -30,6 +32,8 @@ reads Bus = true
 reads (Demo seed nodes frames) = false
 reads Check = true
 reads Deadlines = true
+reads Times = true
+reads Return = true
 
 -- the first fault of the bytes that it reads, by its grammar
 abbrev pub fault_of : Command → List ℕ → Option (ℕ × FaultKind)
@@ -40,6 +44,8 @@ fault_of Bus b = result_err (scenario_of b)
 fault_of (Demo seed nodes frames) b = None
 fault_of Check b = result_err (checked_text b)
 fault_of Deadlines b = result_err (plan_of b)
+fault_of Times b = result_err (scenario_of b)
+fault_of Return b = result_err (scenario_of b)
 
 abbrev pub IsTextOf : Command → List ℕ → Type 0
 IsTextOf c b = fault_of c b ≡ None
@@ -55,4 +61,4 @@ abbrev pub IsReading : List (List ℕ) → Type 0
 IsReading words = (c : Command) × Asks words c × (reads c ≡ true)
 
 abbrev pub usage : List ℕ
-usage = codes "usage: flood | run | log | bus | demo SEED NODES FRAMES | check | deadlines\n"
+usage = codes "usage: flood | run | log | bus | demo SEED NODES FRAMES | check | deadlines | times | return\n"

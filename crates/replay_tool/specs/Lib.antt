@@ -4,6 +4,8 @@ pub mod BusReport
 pub mod Summary
 pub mod DeadlineReport
 pub mod CheckReport
+pub mod TimesReport
+pub mod ReturnReport
 pub mod Commands
 pub mod Reports
 pub mod CommandLine

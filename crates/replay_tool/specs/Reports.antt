@@ -3,7 +3,7 @@ use Rattle.std.specs.Prelude.{◌≡◌, ℕ, List, [], ◌++◌, Ok}
 use Rattle.scenario_text.specs.FloodParts.{FloodParts}
 use Rattle.scenario_text.specs.ScenarioParts.{ScenarioParts}
 use Rattle.scenario_text.specs.FloodGrammar.{flood_of}
-use Rattle.scenario_text.specs.ScenarioGrammar.{scenario_of}
+use Rattle.scenario_text.specs.ScenarioGrammar.{IsScenario, scenario_of}
 use Rattle.scenario_maker.specs.Made.{made}
 use Rattle.deadline_plan.specs.Admission.{Plan}
 use Rattle.deadline_plan.specs.DeadlineText.{plan_of}
@@ -17,6 +17,11 @@ use Rattle.air_log.specs.FloodLaw.{FloodLaw}
 use Rattle.air_log.specs.Lawful.{Lawful}
 use Rattle.air_log.specs.Safe.{Safe}
 use Rattle.air_log.specs.LogText.{log_text}
+use Rattle.bus_time.specs.StampErrors.{AllErrLittle}
+use Rattle.bus_time.specs.Stamps.{AreStamps}
+use Rattle.bus_time.specs.declared.stamp.Stamp.{Stamp}
+use Rattle.host_return.specs.AfterReturns.{AllProbed, AllQuiet}
+use Rattle.host_return.specs.Returned.{IsReturned, ReturnedParts}
 use Rattle.law_bus.specs.BusRuns.{IsBusRun}
 use Rattle.replay_tool.specs.FloodReport.{flood_report}
 use Rattle.replay_tool.specs.RunReport.{run_report}
@@ -25,8 +30,10 @@ use Rattle.replay_tool.specs.Summary.{summary}
 use Rattle.air_check.specs.CheckedText.{checked_text}
 use Rattle.replay_tool.specs.CheckReport.{IsCheckReport}
 use Rattle.replay_tool.specs.DeadlineReport.{IsDeadlineReport}
+use Rattle.replay_tool.specs.ReturnReport.{return_report}
+use Rattle.replay_tool.specs.TimesReport.{stamp_report}
 use Rattle.replay_tool.specs.declared.command.Command.{Command}
-use Rattle.replay_tool.specs.declared.command.Command.TheVariants.{Flood, Run, Log, Bus, Demo, Check, Deadlines}
+use Rattle.replay_tool.specs.declared.command.Command.TheVariants.{Flood, Run, Log, Bus, Demo, Check, Deadlines, Times, Return}
 
 -- the bytes are a text of a flood, of a scenario, of a scenario with a log, or of streams with deadlines, of which this holds
 abbrev pub OfFlood : List ℕ → (FloodParts → Type 0) → Type 0
@@ -64,6 +71,24 @@ pub record IsOfRun (told : Telling) (s : ScenarioParts) (air : List Entry) (text
 abbrev pub log_report : List Delivery → List DropLine → ScenarioParts → (ℕ → ℕ → ℕ) → List Entry → List ℕ
 log_report made lost s clocks air = run_report made lost s clocks air ++ log_text air
 
+-- a run that is told by its stamps, which err little
+pub record IsTimesReport (s : ScenarioParts) (air : List Entry) (text : List ℕ) : Type 0 where
+  pub stamps : List Stamp
+  pub are : AreStamps s (scenario_clock s) air stamps
+  pub errors : AllErrLittle s (scenario_clock s) air stamps
+  pub of_run : IsOfRun (stamp_report stamps) s air text
+
+-- The run of a scenario to which the returns of its backup hosts were added. In it each of them has received a schedule as it
+-- probed, and after it nobody initiates data by the old plan for longer than 3 frames
+pub record IsReturnReport (s : ScenarioParts) (air : List Entry) (text : List ℕ) : Type 0 where
+  pub returned : ReturnedParts
+  pub is : IsReturned s returned
+  pub said : IsScenario returned.scenario
+  pub log : air ≡ returned.air
+  pub of_run : IsOfRun (return_report returned.returns returned.counts) returned.scenario air text
+  pub probed : AllProbed returned
+  pub quiet : AllQuiet returned
+
 abbrev pub IsReport : Command → List ℕ → List Entry → List ℕ → Type 0
 IsReport Flood b air text = OfFlood b (λ f. IsFloodReport f air text)
 IsReport Run b air text = OfScenario b (λ s. IsOfRun run_report s air text)
@@ -72,3 +97,5 @@ IsReport Bus b air text = OfScenario b (λ s. (air ≡ []) × (text ≡ bus_repo
 IsReport (Demo seed nodes frames) b air text = IsOfRun summary (made seed nodes frames) air text
 IsReport Check b air text = OfChecked b (λ s log. (air ≡ []) × IsCheckReport s log text)
 IsReport Deadlines b air text = OfPlan b (λ p. (air ≡ []) × IsDeadlineReport p text)
+IsReport Times b air text = OfScenario b (λ s. IsTimesReport s air text)
+IsReport Return b air text = OfScenario b (λ s. IsReturnReport s air text)

@@ -26,6 +26,10 @@ pub enum Command {
     Check,
     /// What becomes of streams with deadlines, and the rounds of those that are admitted.
     Deadlines,
+    /// When each data packet of the run of a scenario was sent first, in the time of the host.
+    Times,
+    /// The run of a scenario in which backup hosts go back to a lower host that runs again.
+    Return,
 }
 
 impl Command {
@@ -40,7 +44,9 @@ impl Command {
             | Command::Log
             | Command::Bus
             | Command::Check
-            | Command::Deadlines => true,
+            | Command::Deadlines
+            | Command::Times
+            | Command::Return => true,
         }
     }
 }
@@ -61,6 +67,10 @@ pub fn command_of(words: &[String]) -> Option<Command>
         Some(Command::Check)
     } else if is_word(words, b"deadlines") {
         Some(Command::Deadlines)
+    } else if is_word(words, b"times") {
+        Some(Command::Times)
+    } else if is_word(words, b"return") {
+        Some(Command::Return)
     } else {
         demo_of(words)
     }

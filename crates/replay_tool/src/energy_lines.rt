@@ -1,11 +1,12 @@
 //! The `energy` lines of a report.
 
-ghost use Rattle.std.specs.Prelude.{◌≡◌, ℕ, ◌++◌, Contains, OnOk, Some, flat_map, string_bytes};
+ghost use Rattle.std.specs.Prelude.{◌≡◌, ℕ, ◌++◌, Contains, List, OnOk, Some, flat_map, string_bytes};
 ghost use Rattle.scenario_text.specs.declared.lines.NodeLine.{NodeLine as NodeLineOf};
 ghost use Rattle.scenario_clocks.specs.StatedClocks.{scenario_clock};
 ghost use Rattle.air_log.specs.Lawful.{Lawful};
+ghost use Rattle.air_log.specs.declared.entry.Entry.{Entry};
 ghost use Rattle.air_log.specs.NodeCharges.{charges_in};
-ghost use Rattle.energy_account.specs.Accounts.{line_of};
+ghost use Rattle.energy_account.specs.Accounts.{IsAccount, line_of};
 ghost use Rattle.energy_account.specs.declared.energy.Energy.{Energy};
 ghost use Rattle.replay_tool.specs.RunReport.{energy_line, energy_lines};
 
@@ -29,14 +30,36 @@ pub fn write_energies(
     requires charges { charges.now ≡ charges_in s.now (scenario_clock s.now) air.now }
     ensures { OnOk result (string_bytes text.new ≡ string_bytes text.old ++ energy_lines s.now (scenario_clock s.now) air.now) }
 {
-    let nodes = s.nodes();
     let account = Account::of_run(alloc, s, air, charges)?;
-    write_account(text, nodes, &account)?;
+    write_account(text, s, &account)?;
     Ok(())
 }
 
+/// The same by the log alone.
+pub fn write_energies_of_log(
+    alloc: Global,
+    text: &mut String,
+    s: &Scenario,
+    air: &Air,
+) -> Result<(), Memory>
+    requires { Lawful s.now (scenario_clock s.now) air.now }
+    ensures { OnOk result (string_bytes text.new ≡ string_bytes text.old ++ energy_lines s.now (scenario_clock s.now) air.now) }
+{
+    let account = Account::of(alloc, s, air)?;
+    write_account(text, s, &account)?;
+    Ok(())
+}
+
+// The line of each node of the scenario, by the account of a log.
+fn write_account(text: &mut String, s: &Scenario, account: &Account) -> Result<(), AllocError>
+    ensures { (air : List Entry) → IsAccount s.now (scenario_clock s.now) air account.now
+        → OnOk result (string_bytes text.new ≡ string_bytes text.old ++ energy_lines s.now (scenario_clock s.now) air) }
+{
+    write_each(text, s.nodes(), account)
+}
+
 // The line of each of these nodes, which the account has.
-fn write_account(text: &mut String, nodes: &[NodeLine], account: &Account) -> Result<(), AllocError>
+fn write_each(text: &mut String, nodes: &[NodeLine], account: &Account) -> Result<(), AllocError>
     ensures { (energy : ℕ → Energy) → ((n : NodeLineOf) → Contains nodes.now n → line_of account.now n.node ≡ Some (energy n.node))
         → OnOk result (string_bytes text.new ≡ string_bytes text.old ++ flat_map (λ n. energy_line n.node (energy n.node)) nodes.now) }
 {

@@ -13,10 +13,13 @@ mod energy_lines;
 mod flood_answer;
 mod numbers;
 mod report;
+mod return_answer;
+mod return_lines;
 mod run_answer;
 mod run_report;
 mod short_words;
 mod summary;
+mod times_answer;
 mod top_call;
 
 pub use scenario_clocks::scenario_clocks_keep_the_drift_law;

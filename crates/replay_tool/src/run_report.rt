@@ -20,9 +20,20 @@ pub fn run_report(
     ensures { IfOk result (λ text. string_bytes text ≡ report_lines deliveries.now drops.now) }
 {
     let mut text = String::new(alloc);
-    write_deliveries(&mut text, deliveries)?;
-    write_drops(&mut text, drops)?;
+    write_report(&mut text, deliveries, drops)?;
     Ok(text)
+}
+
+/// Writes that report after a text.
+pub fn write_report(
+    text: &mut String,
+    deliveries: &[Delivery],
+    drops: &[DropLine],
+) -> Result<(), AllocError>
+    ensures { OnOk result (string_bytes text.new ≡ string_bytes text.old ++ report_lines deliveries.now drops.now) }
+{
+    write_deliveries(text, deliveries)?;
+    write_drops(text, drops)
 }
 
 fn write_deliveries(text: &mut String, deliveries: &[Delivery]) -> Result<(), AllocError>

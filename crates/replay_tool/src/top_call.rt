@@ -16,7 +16,9 @@ use crate::command::{Command, command_of};
 use crate::deadline_answer::deadline_answer;
 use crate::demo_answer::demo_answer;
 use crate::flood_answer::flood_answer;
+use crate::return_answer::return_answer;
 use crate::run_answer::{log_answer, run_answer};
+use crate::times_answer::times_answer;
 use air_log::Air;
 use lwb_base::{INPUT_LIMIT, Memory, ReadStop, Sink, Source, read_all, write_all};
 use std::alloc::Global;
@@ -32,8 +34,8 @@ pub struct Outcome {
     pub air: Air,
 }
 
-const USAGE: &[u8; 76] =
-    b"usage: flood | run | log | bus | demo SEED NODES FRAMES | check | deadlines\n";
+const USAGE: &[u8; 93] =
+    b"usage: flood | run | log | bus | demo SEED NODES FRAMES | check | deadlines | times | return\n";
 
 const TOO_LONG: &[u8; 15] = b"fault too long\n";
 
@@ -126,6 +128,8 @@ fn answer(alloc: Global, command: Command, bytes: &[u8]) -> Result<Answer, Memor
         } => demo_answer(alloc, seed, nodes, frames),
         Command::Check => check_answer(alloc, bytes),
         Command::Deadlines => deadline_answer(alloc, bytes),
+        Command::Times => times_answer(alloc, bytes),
+        Command::Return => return_answer(alloc, bytes),
     }
 }
 

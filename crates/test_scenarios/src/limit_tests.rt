@@ -1,7 +1,7 @@
 //! Texts at the limits, with ample memory: no contract says that memory suffices.
 
-use lwb_base::INPUT_LIMIT;
-use scenario_text::{FaultKind, ParseFault, parse, parse_flood, print};
+use lwb_base::{INPUT_LIMIT, Memory};
+use scenario_text::{FaultKind, ParseFault, Scenario, parse, parse_flood, print, with_script};
 use std::alloc::{AllocError, Global};
 use std::fmt::Write;
 use std::test::Fail;
@@ -80,6 +80,41 @@ fn full_scenarios_come_back(rt: HostRuntime) -> Result<(), Fail> {
         };
         assert!(rt; printed.as_str() == text.as_str());
     }
+    Ok(())
+}
+
+// With each line of the script twice.
+fn doubled(alloc: Global, s: &Scenario) -> Result<Option<Scenario>, Memory> {
+    with_script(alloc, s, s.script())
+}
+
+#[test]
+fn lines_are_added_up_to_the_limit(rt: HostRuntime) -> Result<(), Fail> {
+    let alloc = rt.alloc();
+    let text = full_text(alloc, [0, 10_000, 0, 0, 0])?;
+    let Ok(scenario) = parse(alloc, text.as_bytes()) else {
+        panic!(rt; "a text is not read");
+    };
+    let Ok(Some(double)) = doubled(alloc, &scenario) else {
+        panic!(rt; "lines are not added");
+    };
+    let mut expected = full_text(alloc, [0; 5])?;
+    for n in 0..20_000 {
+        let frame = n / 200;
+        write!(expected, "put {frame} 64 3 00ff\n")?;
+    }
+    let Ok(printed) = print(alloc, &double) else {
+        panic!(rt; "a text is not printed");
+    };
+    assert!(rt; printed.as_str() == expected.as_str());
+
+    let text = full_text(alloc, [1, 10_000, 0, 0, 0])?;
+    let Ok(scenario) = parse(alloc, text.as_bytes()) else {
+        panic!(rt; "a text is not read");
+    };
+    let Ok(None) = doubled(alloc, &scenario) else {
+        panic!(rt; "more than 20,000 lines");
+    };
     Ok(())
 }
 

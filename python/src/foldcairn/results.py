@@ -1,5 +1,5 @@
-"""What the program writes, as tables: `run`, `log`, `bus`, `flood`, `deadlines`, and `times` and `returns` where the program has
-these commands. `check` is in `verdicts`.
+"""What the program writes, as tables: of `run`, `log`, `bus`, `flood`, `deadlines`, `times` and `return`. What `check` answers is
+in `verdicts`.
 
 Each function runs the program on a scenario and reads its lines, which docs/OUTPUT.md has. Nothing is simulated here.
 Columns are named in full: those that end in `_ticks` are true time in ticks of 1/64 µs, those that end in `_seconds` true
@@ -132,7 +132,7 @@ class DeadlineReport:
 
 @dataclass(frozen=True)
 class ReturnReport(Report):
-    """The report of a run in which backup hosts go back, and when they do. `scenario` is the one that was
+    """The report of a run in which backup hosts go back, and when they do (docs/RETURN.md). `scenario` is the one that was
     asked for, without the lines of the returns.
 
     returns  A row for each return: in `frame` the backup host `node` received a schedule of `rank`, the lower rank that it
@@ -229,7 +229,8 @@ def check(scenario: Scenario | str | bytes, log_text: str, *, program: Path | No
 
 def times(scenario: Scenario | str | bytes, *, program: Path | None = None) -> pd.DataFrame:
     """When each data packet was initiated, in the time of the host that planned the round, by what its node received: a row
-    for each with `frame`, `rank`, `slot`, `node`, `stream`, `number`, `host_ticks` and `host_seconds`, by frame, rank and slot."""
+    for each with `frame`, `rank`, `slot`, `node`, `stream`, `number`, `host_ticks` and `host_seconds`, by frame, rank and slot
+    (docs/TIMES.md)."""
     output = programs.execute(["times"], _text(scenario), program=program)
     stamps = columns.read(BytesIO(output), {"stamp": _STAMP})["stamp"]
     return stamps.assign(host_seconds=stamps["host_ticks"] / TICKS_A_SECOND)

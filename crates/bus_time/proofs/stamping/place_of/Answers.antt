@@ -1,13 +1,27 @@
-use Rattle.std.proofs.Common.{◌==◌, get_or, sym, ◌∙◌, eqb-true}
-use Rattle.std.proofs.lemmas.List.Quantifiers.{position-Some}
+use Rattle.std.proofs.Common.{◌<◌, ℕ, List, Ok, Err, length, get_or, subst, rules}
+use Rattle.std.proofs.lemmas.List.Sorted.{answers_always}
+use Rattle.std.specs.List.Sorted.{IsBinarySearchResult}
+use Rattle.std.specs.Ordering.{nat_cmp}
 use Rattle.scenario_text.specs.declared.lines.NodeLine.{NodeLine}
-use Rattle.bus_time.proofs.NodePlaces.{has_place}
+use Rattle.scenario_text.proofs.SoundScenarios.{sound}
+use Rattle.bus_time.proofs.NodePlaces.{found_node, none_missed}
 use Rattle.bus_time.proofs.stamping.place_of.Goals as goal
 
-pub unreachable-requires : goal.unreachable-requires
-unreachable-requires c = has_place (λ (n : NodeLine). n.node == c.args.node) c.args.nodes.now c.requires (sym c.position_of.ensures ∙ c.in-None.is)
+abbrev id_of : NodeLine → ℕ
+id_of n = n.node
+
+pub returns-clause-place : goal.returns-clause-place
+returns-clause-place c = subst (λ (l : List NodeLine). c.in-Ok.place < length l) c.nodes.ensures.value c.in-Ok.ensures.bound
 
 pub returns-clause-node : goal.returns-clause-node
 returns-clause-node c = λ d.
-    eqb-true (get_or c.args.nodes.now c.in-Some.place d).node c.args.node
-    (position-Some (λ (n : NodeLine). n.node == c.args.node) c.args.nodes.now c.in-Some.place d (sym c.position_of.ensures ∙ c.in-Some.is)).1
+    let by_id = c.in-Ok.ensures.position id_of (answers_always _ _ _ (λ f a r g called. search rules)) in
+    found_node c.args.s.now.nodes c.args.node c.in-Ok.place
+    (subst (λ (l : List NodeLine). IsBinarySearchResult (λ n. nat_cmp n.node c.args.node) l (Ok c.in-Ok.place)) c.nodes.ensures.value by_id) d
+
+pub unreachable-requires : goal.unreachable-requires
+unreachable-requires c =
+    let s = c.args.s.now in
+    let by_id = c.in-Err.ensures.position id_of (answers_always _ _ _ (λ f a r g called. search rules)) in
+    none_missed s.nodes (sound s c.nodes.ensures.said).ascending c.args.node c.in-Err.field-0 c.requires
+    (subst (λ (l : List NodeLine). IsBinarySearchResult (λ n. nat_cmp n.node c.args.node) l (Err c.in-Err.field-0)) c.nodes.ensures.value by_id)

@@ -12,5 +12,7 @@ returns c =
       drift = c.scenario_clocks_keep_the_drift_law.ensures;
       said = c.made_scenarios_are_accepted.ensures;
       sound = c.scenarios_are_sound.ensures;
+      stamps = c.logs_have_one_list_of_stamps.ensures;
+      returned = c.returns_do_not_depend_on_the_runs.ensures;
       verdict = c.a_log_has_one_verdict.ensures;
     })

@@ -1,9 +1,21 @@
-use Rattle.std.proofs.Common.{rules, of_calls}
-use Rattle.replay_tool.specs.RunReport.{energy_line}
+use Rattle.std.proofs.Common.{◌≡◌, ◌++◌, ◌∙◌, ℕ, List, OnOk, Some, None, flat_map, string_bytes, subst}
+use Rattle.std.proofs.lemmas.Bool.{cond-true}
+use Rattle.scenario_text.specs.FloodParts.{knows}
+use Rattle.scenario_text.specs.declared.lines.NodeLine.{NodeLine}
+use Rattle.scenario_clocks.specs.StatedClocks.{scenario_clock}
+use Rattle.energy_account.specs.Energies.{energy_of}
+use Rattle.energy_account.specs.declared.energy.Energy.{Energy}
+use Rattle.replay_tool.specs.RunReport.{node_energy}
+use Rattle.replay_tool.proofs.NodeLines.{known_in}
 use Rattle.replay_tool.proofs.energy_lines.write_account.Goals as goal
 
 pub returns : goal.returns
 returns c =
-    λ energy says.
-    c.write_lines.ensures (λ n. energy_line n.node (energy n.node)) (λ old item result new here post.
-    let line = says item.now here in search (rules, of_calls, post, line))
+    λ air is.
+    let s = c.args.s.now in
+    let wrote = c.write_each in
+    let energy : ℕ → Energy = energy_of s (scenario_clock s) air in
+    subst (λ (ns : List NodeLine). OnOk wrote.result (string_bytes wrote.new.text ≡ string_bytes c.args.text.now
+    ++ flat_map (node_energy s (scenario_clock s) air) ns)) c.nodes.ensures.value
+    (wrote.ensures energy (λ n here. is n.node
+    ∙ cond-true (knows s.nodes n.node) (Some (energy n.node)) None (known_in c.nodes.result.now s.nodes n c.nodes.ensures.value here)))

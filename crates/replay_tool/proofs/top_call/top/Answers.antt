@@ -2,7 +2,7 @@ use Rattle.std.proofs.Common.{◌≡◌, inl, inr, refl, sym, ◌∙◌, subst, 
 use Rattle.replay_tool.specs.Commands.{reads}
 use Rattle.replay_tool.specs.CommandLine.{too_long, WholeRead, IsFaultLine, ReportDue, FaultDue, SomeDue}
 use Rattle.replay_tool.specs.Reports.{IsReport}
-use Rattle.replay_tool.proofs.Due.{part_due, read_that, faulty_reads, one_command, complete_report, complete_fault}
+use Rattle.replay_tool.proofs.Due.{part_due, read_that, faulty_reads, not_reading, one_command, complete_report, complete_fault}
 use Rattle.replay_tool.proofs.top_call.top.Given.{Over}
 use Rattle.replay_tool.proofs.top_call.top.Goals as goal
 
@@ -43,6 +43,12 @@ report_due : (g : Over) (c : goal.After-drop-bytes g)
     → ReportDue (map string_bytes c.args.words.now) (g.S.Source.left c.args.source.now)
     (g.S.Source.left c.input.new.source) c.in-Ok-Report.air c.as_bytes.result.now
 report_due g c = (c.in-Some.command, (c.command_of.ensures c.in-Some.command).0 c.in-Some.is, report_read g c)
+
+pub returns-in-Ok-Report-clause-untouched : goal.returns-in-Ok-Report-clause-untouched
+returns-in-Ok-Report-clause-untouched g c =
+    λ none.
+    c.input.ensures.untouched
+    (not_reading (map string_bytes c.args.words.now) c.in-Some.command ((c.command_of.ensures c.in-Some.command).0 c.in-Some.is) none)
 
 pub returns-in-Ok-Report-clause-write_fault : goal.returns-in-Ok-Report-clause-write_fault
 returns-in-Ok-Report-clause-write_fault g c =

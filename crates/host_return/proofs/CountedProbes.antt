@@ -1,0 +1,51 @@
+-- In how many frames a node is idle, by its trail.
+use Rattle.std.proofs.Common.{◌≡◌, ℕ, zero, suc, ◌+◌, List, [], ◌∷◌, ◌++◌, Bool, cond, map, count_by, is_some, refl, ◌∙◌, ap, arith}
+use Rattle.std.proofs.Math.Path.{fun_ext}
+use Rattle.std.proofs.lemmas.List.Sums.{sum_by_push}
+use Rattle.std.specs.Prelude.{slice_get}
+use Rattle.std.specs.List.{range_with_len}
+use Rattle.std.specs.Option.{option_flatten}
+use Rattle.scenario_text.specs.ScenarioParts.{ScenarioParts}
+use Rattle.scenario_text.specs.declared.lines.NodeLine.{NodeLine}
+use Rattle.air_log.specs.declared.entry.Entry.{Entry}
+use Rattle.air_log.specs.TrailsTold.{TrailTold}
+use Rattle.host_return.specs.NodeTrails.{trail_for, all_trails}
+use Rattle.host_return.specs.Probes.{probed_with, probes}
+use Rattle.host_return.specs.Returned.{counts_in}
+use Rattle.host_return.specs.declared.trails.NodeTrail.{NodeTrail}
+use Rattle.host_return.proofs.NodesProbing.{told_probe}
+
+abbrev pub is_idle : TrailTold → ℕ → Bool
+is_idle t f = is_some (probed_with f (option_flatten (slice_get t.tunes f)))
+
+range_more : (a n : ℕ) → range_with_len a (suc n) ≡ range_with_len a n ++ (a + n) ∷ []
+range_more a zero = ap (λ (k : ℕ). k ∷ []) (omega arith)
+range_more a (suc n) = ap (λ (xs : List ℕ). a ∷ xs) (range_more (a + 1) n ∙ ap (λ (k : ℕ). range_with_len (a + 1) n ++ k ∷ []) (omega arith))
+
+range_next : (f : ℕ) → range_with_len 0 (f + 1) ≡ range_with_len 0 f ++ f ∷ []
+range_next f =
+    let next : f + 1 ≡ suc f = omega arith in
+    ap (range_with_len 0) next ∙ range_more 0 f ∙ ap (λ (k : ℕ). range_with_len 0 f ++ k ∷ []) (omega arith)
+
+pub count_next : (q : ℕ → Bool) (f : ℕ) → count_by q (range_with_len 0 (f + 1)) ≡ count_by q (range_with_len 0 f) + cond (q f) 1 0
+count_next q f =
+    let as_one : ℕ → ℕ = λ g. cond (q g) 1 0 in
+    ap (count_by q) (range_next f) ∙ sum_by_push as_one (range_with_len 0 f) f
+
+abbrev pub count_for : ScenarioParts → NodeTrail → ℕ × ℕ
+count_for s t = (t.node, count_by (is_idle t.trail) (range_with_len 0 s.frames))
+
+module _ (s : ScenarioParts) (air : List Entry) where
+  one_count : (n : NodeLine) → count_for s (trail_for s air n) ≡ (n.node, probes s air n.node)
+  one_count n =
+      ap (λ (test : ℕ → Bool). (n.node, count_by test (range_with_len 0 s.frames)))
+      (fun_ext (λ f. ap is_some (told_probe s air n.node f (trail_for s air n).trail refl)))
+
+  counts_by : (ns : List NodeLine) → map (count_for s) (map (trail_for s air) ns) ≡ map (λ n. (n.node, probes s air n.node)) ns
+  counts_by [] = refl
+  counts_by (n ∷ ns) =
+      ap (λ (c : ℕ × ℕ). c ∷ map (count_for s) (map (trail_for s air) ns)) (one_count n)
+      ∙ ap (λ (cs : List (ℕ × ℕ)). (n.node, probes s air n.node) ∷ cs) (counts_by ns)
+
+  pub counts_are : map (count_for s) (all_trails s air) ≡ counts_in s air
+  counts_are = counts_by s.nodes

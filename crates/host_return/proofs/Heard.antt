@@ -1,0 +1,107 @@
+-- Schedules that a node hears as it probes their channel.
+use Rattle.std.proofs.Common.{◌≡◌, ℕ, ◌+◌, ◌*◌, ◌<◌, ◌≤◌, ◌^◌, List, [], ◌∷◌, ◌++◌, zero, suc, take, get_or, length, length-take, inl, inr, Contains, All, AllPairs, refl, sym, ◌∙◌, ap, subst, arith}
+use Rattle.std.proofs.lemmas.Bool.{cases_lt}
+use Rattle.std.proofs.lemmas.List.{take_more, get_or-take, get_or_default}
+use Rattle.std.proofs.lemmas.List.Elements.{All-contains, Contains-get_or, Contains-append_cases}
+use Rattle.std.proofs.Math.Nat.{mul-le-mul_right, mul-le-mul_left}
+use Rattle.scenario_text.specs.ScenarioGrammar.{IsScenario}
+use Rattle.scenario_text.specs.ScenarioParts.{ScenarioParts}
+use Rattle.scenario_text.proofs.CanonicalGoes.{frame_bound}
+use Rattle.scenario_text.proofs.SoundScenarios.{sound}
+use Rattle.scenario_clocks.specs.StatedClocks.{scenario_clock}
+use Rattle.radio_model.specs.Hearing.{Before, TunedThrough}
+use Rattle.radio_model.specs.OnAir.{Tuning}
+use Rattle.radio_model.specs.Receptions.{AreNear}
+use Rattle.radio_model.specs.declared.sending.Sending.{Sending}
+use Rattle.radio_model.proofs.Members.{in_head}
+use Rattle.air_log.specs.declared.entry.Entry.{Entry}
+use Rattle.air_log.specs.Entries.{tunings_of}
+use Rattle.air_log.specs.HearsAir.{scene_of}
+use Rattle.air_log.specs.Lawful.{Lawful}
+use Rattle.air_log.specs.Trails.{frame_start, run_end}
+use Rattle.law_trails.proofs.SentInTrails.{sent_lasts}
+use Rattle.host_return.specs.Probes.{Brings, IsOfFrame, with_probe}
+use Rattle.host_return.specs.Transmissions.{AreSent}
+use Rattle.host_return.specs.declared.transmissions.Transmissions.{Transmissions}
+
+-- it is tuned there all the time
+pub tuned_through : (s : ScenarioParts) (air : List Entry) (f v rank : ℕ) (x : Sending) → x.rank ≡ rank → IsOfFrame s f x.start → IsOfFrame s f x.end
+    → TunedThrough (scene_of s.profile s.trace (with_probe s air f v rank)) v x
+tuned_through s air f v rank x channel starts ends t after before =
+    let own : Tuning = record { rank = rank; node = v; start = frame_start s f; end = frame_start s (f + 1) } in
+    let since = starts.since in
+    let until = ends.until in
+    record { tuning = own; there = in_head (tunings_of air) own; node = refl; rank = sym channel; since = omega (arith, since, after); until = omega (arith, until, before) }
+
+pub near_sent : (s : ScenarioParts) (air : List Entry) (f v rank : ℕ) (t : Transmissions) (near : List Sending) (x : Sending) → AreSent air t
+    → AreNear t.sent.items x near → AreNear (scene_of s.profile s.trace (with_probe s air f v rank)).sendings x near
+near_sent s air f v rank t near x sent are = record {
+  among = λ y there. sent.among y (are.among y there);
+  all = λ y there meets. are.all y (sent.all y there) meets;
+}
+
+pub near_early : (sent near : List Sending) (x : Sending) → AreNear sent x near → All (λ (y : Sending). y.start ≤ 2 ^ 46) sent
+    → All (λ (y : Sending). y.start ≤ 2 ^ 46) near
+near_early sent near x are early k d below =
+    All-contains (λ (y : Sending). y.start ≤ 2 ^ 46) sent (get_or near k d) early (are.among (get_or near k d) (Contains-get_or near k d below))
+
+-- a run ends early enough
+pub short_run : (s : ScenarioParts) → IsScenario s → run_end s ≤ 2 ^ 46
+short_run s said =
+    let all = sound s said in
+    let few = all.few_frames in
+    let frame = frame_bound s.profile all.profile in
+    let most = mul-le-mul_right s.profile.frame few in
+    let more = mul-le-mul_left 4096 frame in
+    omega (arith, most, more)
+
+pub early_sent : (s : ScenarioParts) (air : List Entry) (t : Transmissions) → IsScenario s → Lawful s (scenario_clock s) air → AreSent air t
+    → All (λ (y : Sending). y.start ≤ 2 ^ 46) t.sent.items
+early_sent s air t said lawful sent k d below =
+    let y : Sending = get_or t.sent.items k d in
+    let starts = (sent_lasts s (scenario_clock s) air lawful.trails y (sent.among y (Contains-get_or t.sent.items k d below))).0 in
+    let short = short_run s said in
+    omega (arith, starts, short)
+
+pub early_start : (s : ScenarioParts) (f : ℕ) → IsScenario s → f ≤ s.frames → f * s.profile.frame < 2 ^ 64
+early_start s f said few =
+    let most = mul-le-mul_right s.profile.frame few in
+    let short = short_run s said in
+    omega (arith, most, short)
+
+-- none of the first is one, and the next is none
+pub none_more : (B : Sending → Type 0) (some : List Sending) (i : ℕ) (x : Sending) → i < length some → x ≡ get_or some i x
+    → ((y : Sending) → Contains (take i some) y → B y → ⊥) → (B x → ⊥) → (y : Sending) → Contains (take (i + 1) some) y → B y → ⊥
+none_more B some i x below at none other y there brings =
+    let more : take (i + 1) some ≡ take i some ++ x ∷ [] = take_more some i x below ∙ ap (λ (z : Sending). take i some ++ z ∷ []) (sym at) in
+    elim (Contains-append_cases (take i some) (x ∷ []) y (subst (λ (ys : List Sending). Contains ys y) more there)) [
+      | inl earlier ↦ none y earlier brings
+      | inr here ↦ other (subst B (sym (only x y here)) brings)
+    ]
+  where
+    only : (x y : Sending) → Contains (x ∷ []) y → x ≡ y
+    only x y (zero, below, at) = at
+    only x y (suc k, below, at) = absurd (omega arith)
+
+-- where one starts after the frame, so do all after it
+pub none_after : (s : ScenarioParts) (air : List Entry) (f v rank : ℕ) (some : List Sending) (i : ℕ) (x : Sending) → i < length some → x ≡ get_or some i x
+    → AllPairs Before some → frame_start s f ≤ x.start → (IsOfFrame s f x.start → ⊥)
+    → ((y : Sending) → Contains (take i some) y → Brings s air f v rank y → ⊥)
+    → (y : Sending) → Contains some y → Brings s air f v rank y → ⊥
+none_after s air f v rank some i x below at in_order since over none y (k, within, is) brings = elim (cases_lt k i) [
+  | inl less ↦ none y (k, omega (arith, less, below, length-take i some), get_or-take i some k y less ∙ is) brings
+  | inr from ↦
+      let later : x.start ≤ y.start = elim (cases_lt i k) [
+        | inl less ↦
+            let so = (in_order i k y less within).start in
+            let first = ap (λ (z : Sending). z.start) (at ∙ get_or_default some i x y below) in
+            let second = ap (λ (z : Sending). z.start) is in
+            omega (arith, so, first, second)
+        | inr not ↦
+            let same : i ≡ k = omega arith in
+            let first = ap (λ (z : Sending). z.start) (at ∙ get_or_default some i x y below ∙ ap (λ (n : ℕ). get_or some n y) same ∙ is) in
+            omega (arith, first)
+      ] in
+      let until = brings.starts.until in
+      over (record { since = since; until = omega (arith, later, until) })
+]

@@ -1,0 +1,13 @@
+mod Gathered
+mod Since
+mod Heard
+mod NodesProbing
+mod WishesKept
+mod WishesTold
+mod Restarting
+mod Followed
+mod CountedProbes
+mod SettledProbes
+mod ProbedStill
+mod OneReturned
+mod QuietReturns

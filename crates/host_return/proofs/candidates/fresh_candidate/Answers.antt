@@ -1,0 +1,50 @@
+use Rattle.std.proofs.Common.{◌≡◌, Some, None, refl, sym, ◌∙◌, arith}
+use Rattle.std.proofs.lemmas.Bool.{both_ways}
+use Rattle.host_return.specs.Probes.{probed_rank}
+use Rattle.host_return.proofs.NodesProbing.{told_probe, moved_probe, moved_brings, one_rank, no_rank}
+use Rattle.host_return.proofs.candidates.fresh_candidate.Goals as goal
+
+pub returns-in_default-clause-none : goal.returns-in_default-clause-none
+returns-in_default-clause-none c =
+    λ air sent told q candidate fresh frame node.
+    let s = c.args.s.now in
+    let v = c.args.trail.now.node in
+    let none : probed_rank s air c.args.frame v ≡ None =
+    sym (told_probe s air v c.args.frame c.args.trail.now.trail told) ∙ sym c.probed_rank.ensures ∙ c.in_default.is in
+    no_rank (probed_rank s air c.args.frame v) q.rank none (moved_probe s air q.frame q.node c.args.frame v (Some q.rank) frame node candidate.probed.probes)
+
+pub returns-then-not-bring_schedule-clause-none : goal.returns-then-not-bring_schedule-clause-none
+returns-then-not-bring_schedule-clause-none c =
+    λ air sent told q candidate fresh frame node.
+    let s = c.args.s.now in
+    let v = c.args.trail.now.node in
+    let here : probed_rank s air c.args.frame v ≡ Some c.in-Some.rank =
+    sym (told_probe s air v c.args.frame c.args.trail.now.trail told) ∙ sym c.probed_rank.ensures ∙ c.in-Some.is in
+    let rank : q.rank ≡ c.in-Some.rank = one_rank (probed_rank s air c.args.frame v) q.rank c.in-Some.rank
+    (moved_probe s air q.frame q.node c.args.frame v (Some q.rank) frame node candidate.probed.probes) here in
+    both_ways c.bring_schedule.result c.if-not-bring_schedule.true
+    ((c.bring_schedule.ensures air sent).1 (
+      candidate.probed.schedule,
+      moved_brings s air q.frame q.node q.rank c.args.frame v c.in-Some.rank candidate.probed.schedule frame node rank candidate.probed.brings,
+    ))
+
+pub returns-clause-some : goal.returns-clause-some
+returns-clause-some c =
+    λ air sent known told.
+    let s = c.args.s.now in
+    let v = c.args.trail.now.node in
+    let here : probed_rank s air c.args.frame v ≡ Some c.in-Some.rank =
+    sym (told_probe s air v c.args.frame c.args.trail.now.trail told) ∙ sym c.probed_rank.ensures ∙ c.in-Some.is in
+    let w = (c.bring_schedule.ensures air sent).0 c.if-not-bring_schedule.false in
+    let enough = c.if-frames-frame-lt2.false in
+    let frames = c.requires.frames in (
+      record {
+        known = known;
+        probed = record { probes = here; schedule = w.0; brings = w.1 };
+        in_run = omega (arith, enough, frames, c.frames.ensures.value);
+        stays_on = sym c.goes_off.ensures ∙ c.if-goes_off.false;
+      },
+      sym c.is_listed.ensures ∙ c.if-is_listed.false,
+      refl,
+      refl,
+    )

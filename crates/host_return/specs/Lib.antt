@@ -1,0 +1,10 @@
+pub mod Probes
+pub mod Candidates
+pub mod Restarts
+pub mod Returned
+pub mod AfterReturns
+pub mod Transmissions
+pub mod NodeTrails
+pub mod Wishes
+pub mod Courses
+pub mod OneReturned

@@ -1,0 +1,15 @@
+//! Backup hosts that go back to a lower channel on which they received a schedule.
+#![tactic(auto)]
+
+mod candidates;
+mod follow;
+pub mod laws;
+mod restart;
+mod returned;
+mod runner;
+mod trails;
+mod transmissions;
+
+pub use follow::follow_returns;
+pub use returned::{Return, Returned};
+pub use runner::Runner;

@@ -1,0 +1,121 @@
+//! The script lines by which a backup host restarts, with its streams.
+
+ghost use Rattle.std.specs.Prelude.{◌≡◌, ◌+◌, ◌<◌, ◌≤◌, ◌++◌, List, true, IfOk, OnOk, All, AllPairs};
+ghost use Rattle.scenario_text.specs.FloodParts.{knows};
+ghost use Rattle.scenario_text.specs.ScenarioFacts.{IsScriptLine};
+ghost use Rattle.air_log.specs.declared.entry.Entry.{Entry as EntryOf};
+ghost use Rattle.host_return.specs.Restarts.{declared_again, restart, lines_of as lines_of_return};
+ghost use Rattle.host_return.specs.Wishes.{told, told_by};
+
+use crate::Return;
+use lwb_base::{Memory, NodeId};
+use scenario_text::{Act, Scenario, ScriptLine};
+use std::alloc::Global;
+
+/// The script lines of a return: in the next frame the node goes off and on, and declares what its streams wish.
+pub(crate) fn lines_of(alloc: Global, s: &Scenario, r: &Return) -> Result<Vec<ScriptLine>, Memory>
+    requires in_run { r.now.frame + 1 < s.now.frames }
+    requires known { knows s.now.nodes r.now.node ≡ true }
+    ensures lines { IfOk result (λ lines. (air : List EntryOf) → lines.items ≡ lines_of_return s.now air r.now) }
+    ensures in_range { IfOk result (λ lines. All (IsScriptLine s.now) lines.items) }
+    ensures ascending { IfOk result (λ lines. AllPairs (λ a b. a.frame ≤ b.frame) lines.items) }
+{
+    let script = s.script();
+    let lines = restart_lines(alloc, script, r.frame + 1, r.node)?;
+    Ok(lines)
+}
+
+fn restart_lines(
+    alloc: Global,
+    script: &[ScriptLine],
+    frame: u32,
+    node: NodeId,
+) -> Result<Vec<ScriptLine>, Memory>
+    ensures { IfOk result (λ lines. lines.items ≡ restart frame node (λ i. (told frame node i script.now).1)) }
+{
+    let mut lines = Vec::new(alloc);
+    lines.push(ScriptLine {
+        frame,
+        node,
+        act: Act::Off,
+    })?;
+    lines.push(ScriptLine {
+        frame,
+        node,
+        act: Act::On,
+    })?;
+    declare_again(&mut lines, script, frame, node, 0)?;
+    declare_again(&mut lines, script, frame, node, 1)?;
+    declare_again(&mut lines, script, frame, node, 2)?;
+    declare_again(&mut lines, script, frame, node, 3)?;
+    Ok(lines)
+}
+
+fn declare_again(
+    lines: &mut Vec<ScriptLine>,
+    script: &[ScriptLine],
+    frame: u32,
+    node: NodeId,
+    stream: u8,
+) -> Result<(), Memory>
+    ensures { OnOk result (lines.new.items ≡ lines.old.items ++ declared_again frame node stream (told frame node stream script.now).1) }
+{
+    let wish = wish_of(script, frame, node, stream);
+    if wish == 0 {
+        return Ok(());
+    }
+    lines.push(ScriptLine {
+        frame,
+        node,
+        act: Act::Declare(stream, wish),
+    })?;
+    Ok(())
+}
+
+// The interval that the stream of the node wishes after the lines of the frame, 0 for none.
+fn wish_of(script: &[ScriptLine], frame: u32, node: NodeId, stream: u8) -> u8
+    ensures { result ≡ (told frame node stream script.now).1 }
+{
+    let mut wish = Wish {
+        on: false,
+        interval: 0,
+    };
+    for line in script {
+        if line.frame <= frame && line.node == node {
+            wish.tell(&line.act, stream);
+        }
+    }
+    wish.interval
+}
+
+// Whether a node is on, and the interval that one of its streams wishes, 0 for none.
+#[derive(Drop)]
+struct Wish {
+    on: bool,
+    interval: u8,
+}
+
+impl Wish {
+    fn tell(&mut self, act: &Act, stream: u8)
+        ensures { (self.new.on, self.new.interval) ≡ told_by stream act.now (self.old.on, self.old.interval) }
+    {
+        match act {
+            Act::On => self.on = true,
+            Act::Off => {
+                self.on = false;
+                self.interval = 0;
+            }
+            Act::Declare(declared, interval) => {
+                if self.on && *declared == stream {
+                    self.interval = *interval;
+                }
+            }
+            Act::Leave(left) => {
+                if *left == stream {
+                    self.interval = 0;
+                }
+            }
+            Act::Put(_, _) => {}
+        }
+    }
+}

@@ -1,0 +1,11 @@
+//! Tests of the stamps of a run.
+#![tactic(auto)]
+
+#[cfg(test)]
+mod cases;
+#[cfg(test)]
+mod definition;
+#[cfg(test)]
+mod stamp_tests;
+#[cfg(test)]
+mod worlds;
