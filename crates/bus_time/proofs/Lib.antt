@@ -10,6 +10,7 @@ mod PlaceOrder
 mod BeginningOrder
 mod ReadMore
 mod FoundWords
+mod SameGaps
 mod GivenWords
 mod StampTimes
 mod StampedLists
