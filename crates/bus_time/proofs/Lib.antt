@@ -4,6 +4,7 @@ pub mod OneList
 mod FirstWords
 mod KeptHosts
 mod HostingWalk
+mod HostingRuns
 mod HeardWords
 mod DataHosts
 mod PlaceOrder
