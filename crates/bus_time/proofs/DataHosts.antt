@@ -27,7 +27,8 @@ use Rattle.law_safety.proofs.RunFacts.{frame_from, host_is}
 use Rattle.law_safety.proofs.RunSendings.{of_flood, begins_flood, in_trail}
 use Rattle.law_safety.proofs.SentPlans.{began_by_host}
 use Rattle.bus_time.specs.StampLaws.{BeginsData, DataHostsLaw}
-use Rattle.bus_time.proofs.HostingWalk.{HostsBy, IsHosting, hosting_before, hosting_then}
+use Rattle.bus_time.proofs.HostingRuns.{hosting_before, hosting_then}
+use Rattle.bus_time.proofs.HostingWalk.{HostsBy, IsHosting}
 use Rattle.bus_time.proofs.HeardWords.{over_before, origin_before}
 
 -- a run in whose last tick the invariant holds

@@ -1,6 +1,6 @@
 -- Who has begun a schedule's flood hosts as long as it does not go off, and who hosts sends on the channel of its own rank.
-use Rattle.std.proofs.Common.{◌≡◌, ℕ, zero, suc, ◌/◌, ◌<◌, ◌≤◌, inl, inr, List, [], ◌∷◌}
-use Rattle.std.proofs.Common.{Bool, true, false, Some, None, Option, Contains, refl, sym, ◌∙◌, ap, subst, arith}
+use Rattle.std.proofs.Common.{◌≡◌, ℕ, suc, ◌/◌, ◌<◌, ◌≤◌, inl, inr, List, [], ◌∷◌}
+use Rattle.std.proofs.Common.{Bool, true, Some, None, Option, Contains, refl, sym, ◌∙◌, ap, subst, arith}
 use Rattle.std.proofs.Common.{true≢false, eqb-true}
 use Rattle.std.proofs.lemmas.List.Elements.{Contains-append_left, Contains-append_right, Contains-push_cases}
 use Rattle.lwb_base.specs.Messages.{Schedule}
@@ -20,7 +20,6 @@ use Rattle.node_core.specs.Windows.{Window}
 use Rattle.node_core.specs.Nodes.{Node}
 use Rattle.node_core.specs.Rows.{Stepped, frame_alarms, window_opens, window_closes, window_hears, joins, sends, accepted_in}
 use Rattle.scenario_text.specs.ScenarioParts.{ScenarioParts}
-use Rattle.scenario_text.specs.FloodParts.{knows}
 use Rattle.scenario_text.specs.declared.script.Act.TheVariants.{Off}
 use Rattle.scenario_text.specs.declared.script.ScriptLine.{ScriptLine}
 use Rattle.air_log.specs.declared.entry.Entry.{Entry}
@@ -28,8 +27,8 @@ use Rattle.air_log.specs.Devices.{Device, Power, PowerOff, PowerOn, Listening, O
 use Rattle.air_log.specs.ScriptedDevices.{switched_on, switched_off, with_new_core, dropped}
 use Rattle.air_log.specs.Lawful.{heard_by}
 use Rattle.air_log.specs.Safe.{by_host, is_hosting}
-use Rattle.air_log.specs.Trails.{setup_of, run_end, before_tick, sending_from, tune_of}
-use Rattle.lwb_base.proofs.Elements.{not_in_none, contains_head}
+use Rattle.air_log.specs.Trails.{setup_of, sending_from, tune_of}
+use Rattle.air_log.proofs.Elements.{contains_head}
 use Rattle.law_trails.specs.Phases.{Phase, Lines, Hearings, End, Alarms, Start, Over, IsNextLine, IsNextAlarm, device_at}
 use Rattle.law_trails.specs.Walks.{Now, Keeps, after_row, begins}
 use Rattle.law_trails.specs.TrailLinks.{device_in}
@@ -37,22 +36,18 @@ use Rattle.law_trails.specs.DeviceRanges.{IsPower}
 use Rattle.law_trails.specs.NodeRanges.{IsNode}
 use Rattle.law_trails.specs.Lives.{Life, ByTune, ByPower}
 use Rattle.law_trails.proofs.RowsOfDevices.{row_obeyed, row_power, switched_on_is}
-use Rattle.law_trails.proofs.WalkOfRun.{holds_in_tick}
-use Rattle.law_trails.proofs.SentInTrails.{sent_below}
 use Rattle.law_safety.specs.SentPlans.{IsHostOf, StaysOnUntil}
 use Rattle.law_safety.specs.SetAlarms.{rank_at}
-use Rattle.law_safety.specs.TunedNodes.{Either, IsMember, IsRoundOf, Scans, IsTunedAt, by_hearing, is_last}
+use Rattle.law_safety.specs.TunedNodes.{Either, IsMember, IsRoundOf, IsTunedAt, by_hearing, is_last}
 use Rattle.law_safety.specs.Beginnings.{MaySay}
 use Rattle.law_safety.specs.FloodSendings.{IsOfFlood, BeginsFlood}
 use Rattle.law_safety.specs.NodesInOrder.{IsOn, InOpenWindow, InOrderBy, WindowAt}
 use Rattle.law_safety.specs.QuietHosts.{HostsInOrder, IsIn, LivesBy}
-use Rattle.law_safety.specs.Invariant.{Invariant, IsRun}
 use Rattle.law_safety.specs.Rows.{AtTick, AllRows, IsFine, told_in}
 use Rattle.law_safety.proofs.RunFacts.{frame_below}
 use Rattle.law_safety.proofs.OpenWindows.{IsAbout, where_ordered}
 use Rattle.law_safety.proofs.WellSteps.{well_at_alarms}
-use Rattle.law_safety.proofs.InvariantHolds.{all_rows, holds_throughout}
-use Rattle.bus_time.proofs.KeptHosts.{ended_hosts, opened_hosts, closed_hosts, accepts_none}
+use Rattle.bus_time.proofs.KeptHosts.{ended_hosts, opened_hosts, closed_hosts, accepts_none, not_scanning, not_by_hearing, otherwise}
 
 abbrev pub HostsBy : Power → Type 0
 HostsBy (PowerOff count) = ⊥
@@ -63,21 +58,6 @@ pub record BeginsSchedule (x : Sending) : Type 0 where
   pub first : counter_of x ≡ 0
   pub schedule : Schedule
   pub says : message_of x.packet ≡ Some (ScheduleOf schedule)
-
--- a host is no scanner, and no window that it heard opens at it
-not_scanning : (s : ScenarioParts) (clocks : ℕ → ℕ → ℕ) (v : ℕ) (n : Node) (tune : Tune) → Scans s clocks v n tune → hosts tune ≡ true → ⊥
-not_scanning s clocks v n (Scan r waited) scans host = true≢false (sym host)
-not_scanning s clocks v n (Hold r due) scans host = absurd scans
-not_scanning s clocks v n (Host r due) scans host = absurd scans
-
-not_by_hearing : (n : Node) (tune : Tune) → hosts tune ≡ true → by_hearing n tune ≡ false
-not_by_hearing n (Scan r waited) host = absurd (true≢false (sym host))
-not_by_hearing n (Hold r due) host = refl
-not_by_hearing n (Host r due) host = refl
-
-otherwise : (b : Bool) (P Q : Type 0) → b ≡ false → Either b P Q → Q
-otherwise true P Q isnt is = absurd (true≢false isnt)
-otherwise false P Q isnt is = is
 
 module _ (s : ScenarioParts) (clocks : ℕ → ℕ → ℕ) (air : List Entry) (v : ℕ) where
   abbrev S : Setup
@@ -94,7 +74,7 @@ module _ (s : ScenarioParts) (clocks : ℕ → ℕ → ℕ) (air : List Entry) (
     pub on : (x : Sending) → Contains d.made.sent x → BeginsSchedule x → StaysOnUntil s v (frame_of s.profile x) (suc t) → HostsBy d.power
     pub own : (x : Sending) → Contains d.made.sent x → by_host s clocks air x ≡ true → IsHostOf s x.rank v
 
-  abbrev All : ℕ → Phase → Device → Type 0
+  abbrev pub All : ℕ → Phase → Device → Type 0
   All t phase d = IsFine s clocks air v t phase d × IsHosting t d
 
   fine : (t : ℕ) (phase : Phase) (d : Device) → Now All s t phase d → Now (IsFine s clocks air v) s t phase d
@@ -230,7 +210,7 @@ module _ (s : ScenarioParts) (clocks : ℕ → ℕ → ℕ) (air : List Entry) (
       ];
     }
 
-  keeps_all : (t : ℕ) → AtTick s clocks air v t → AllRows → Keeps All s v (clocks v) (heard_by air v) t
+  pub keeps_all : (t : ℕ) → AtTick s clocks air v t → AllRows → Keeps All s v (clocks v) (heard_by air v) t
   keeps_all t at rows =
       let c = clocks v in
       record {
@@ -314,38 +294,3 @@ module _ (s : ScenarioParts) (clocks : ℕ → ℕ → ℕ) (air : List Entry) (
           },
         );
       }
-
-  module _ (run : IsRun s clocks air) (known : knows s.nodes v ≡ true) where
-    at_tick : (t : ℕ) → t < run_end s → AtTick s clocks air v t
-    at_tick t in_run = record { run = run; known = known; in_run = in_run; before = holds_throughout s clocks air run t (omega (arith, in_run)) }
-
-    fine_before : (t : ℕ) → t ≤ run_end s → IsFine s clocks air v t Lines (device_in s clocks air v t)
-    fine_before t within =
-        let inv : Invariant s clocks air t = holds_throughout s clocks air run t within in
-        let sent = λ (x : Sending). sent_below s clocks air run.heedful.trails v known t within x in
-        record {
-          node = inv.nodes v known;
-          host = λ rank is. inv.hosts rank v is;
-          sent = λ x in_made. (let b = (sent x).1 in_made in inv.sendings x b.there b.below);
-          before = λ x in_made. ((sent x).1 in_made).below;
-        }
-
-    pub hosting_before : (t : ℕ) → t ≤ run_end s → IsHosting t (device_in s clocks air v t)
-    unfolding before_tick
-    hosting_before zero within = record {
-      grows = λ x there. there;
-      on = λ x there begins stays. absurd (not_in_none x there);
-      own = λ x there host. absurd (not_in_none x there);
-    }
-    hosting_before (suc t) within =
-        let in_run : t < run_end s = omega (arith, within) in
-        (holds_in_tick All s v (clocks v) (heard_by air v) t run.driven.sound (run.driven.drift v known) in_run
-        (keeps_all t (at_tick t in_run) all_rows)
-        (fine_before t (omega (arith, in_run)), hosting_before t (omega (arith, in_run)))).1.1
-
-    -- where what is ordered starts
-    pub hosting_then : (t : ℕ) → t < run_end s → IsHosting t (device_at s v (clocks v) (heard_by air v) t Start)
-    hosting_then t in_run =
-        ((holds_in_tick All s v (clocks v) (heard_by air v) t run.driven.sound (run.driven.drift v known) in_run
-        (keeps_all t (at_tick t in_run) all_rows)
-        (fine_before t (omega (arith, in_run)), hosting_before t (omega (arith, in_run)))).0 Start).1

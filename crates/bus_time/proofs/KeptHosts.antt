@@ -11,9 +11,11 @@ use Rattle.node_core.specs.declared.stage.Stage.TheVariants.{InWindow}
 use Rattle.node_core.specs.Windows.{Window}
 use Rattle.node_core.specs.Nodes.{Node}
 use Rattle.node_core.specs.Rows.{accepted_in}
+use Rattle.scenario_text.specs.ScenarioParts.{ScenarioParts}
 use Rattle.law_trails.specs.NodeRanges.{IsNode, IsAt, IsOpen, IsCarried}
 use Rattle.law_trails.specs.PacketKinds.{kind_of}
 use Rattle.law_trails.proofs.SaidPackets.{kind_says}
+use Rattle.law_safety.specs.TunedNodes.{Either, Scans, by_hearing}
 use Rattle.bus_rules.specs.declared.part.Part.{Part}
 use Rattle.bus_rules.specs.declared.part.Part.TheVariants.{Opening, Data as DataSlot, Contention, Closing}
 use Rattle.bus_rules.specs.declared.tune.Tune.{Tune}
@@ -95,3 +97,18 @@ accepts_none s n j w ranged stage own y accepted =
     subst (λ (o : Option (List ℕ)). IfSome o (IsCarried s (kind_for w.part) j)) listens.1 open_so.flood.first in
     let of_kind = no_schedule w.part (kind_for w.part) taken.0.0 y carried.spelled taken.2 in
     true≢false (sym (own (of_schedules w.part of_kind)) ∙ listens.0)
+
+-- a host is no scanner, and no window that it heard opens at it
+pub not_scanning : (s : ScenarioParts) (clocks : ℕ → ℕ → ℕ) (v : ℕ) (n : Node) (tune : Tune) → Scans s clocks v n tune → hosts tune ≡ true → ⊥
+not_scanning s clocks v n (Scan r waited) scans host = true≢false (sym host)
+not_scanning s clocks v n (Hold r due) scans host = absurd scans
+not_scanning s clocks v n (Host r due) scans host = absurd scans
+
+pub not_by_hearing : (n : Node) (tune : Tune) → hosts tune ≡ true → by_hearing n tune ≡ false
+not_by_hearing n (Scan r waited) host = absurd (true≢false (sym host))
+not_by_hearing n (Hold r due) host = refl
+not_by_hearing n (Host r due) host = refl
+
+pub otherwise : (b : Bool) (P Q : Type 0) → b ≡ false → Either b P Q → Q
+otherwise true P Q isnt is = absurd (true≢false isnt)
+otherwise false P Q isnt is = is

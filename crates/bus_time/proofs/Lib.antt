@@ -4,12 +4,14 @@ pub mod OneList
 mod FirstWords
 mod KeptHosts
 mod HostingWalk
+mod HostingRuns
 mod HeardWords
 mod DataHosts
 mod PlaceOrder
 mod BeginningOrder
 mod ReadMore
 mod FoundWords
+mod SameGaps
 mod GivenWords
 mod StampTimes
 mod StampedLists

@@ -22,10 +22,10 @@ use Rattle.law_safety.proofs.RunFacts.{run_fits}
 use Rattle.law_safety.proofs.RunSendings.{of_flood}
 use Rattle.law_safety.proofs.SafeSteps.{no_overlap}
 use Rattle.law_safety.proofs.SlotFloods.{one_flood}
-use Rattle.bus_time.specs.Stamps.{IsAhead, IsFirst, IsOfFrame, IsReference, IsScheduleHeard, tick_by}
+use Rattle.bus_time.specs.Stamps.{IsAhead, IsOfFrame, IsReference, IsScheduleHeard, tick_by}
 use Rattle.bus_time.specs.StampLaws.{BeginsData}
 use Rattle.bus_time.proofs.StampAges.{reference_says}
-use Rattle.bus_time.proofs.StampErrors.{before, flood, sent}
+use Rattle.bus_time.proofs.StampErrors.{before, sent}
 
 -- ---- in another log
 

@@ -1,5 +1,5 @@
 -- A reference is of the frame itself or of one of the four before it, so its stamp is close.
-use Rattle.std.proofs.Common.{◌≡◌, ℕ, ◌+◌, ◌-◌, ◌*◌, ◌/◌, ◌^◌, ◌<◌, ◌≤◌, inl, inr, List, Contains, Bool, true, false, ◌==◌, if◌then◌else◌, Some}
+use Rattle.std.proofs.Common.{◌≡◌, ℕ, ◌+◌, ◌-◌, ◌*◌, ◌<◌, ◌≤◌, inl, inr, List, Bool, true, false, ◌==◌, if◌then◌else◌, Some}
 use Rattle.std.proofs.Common.{refl, sym, ◌∙◌, ap, subst, arith}
 use Rattle.std.specs.Prelude.{slice_index}
 use Rattle.std.proofs.Math.Nat.{add-mul, mul-le-mul_right}
@@ -10,22 +10,21 @@ use Rattle.tick_clock.specs.Clocks.{Near, IsClock, due}
 use Rattle.tick_clock.proofs.Readings.{rounded}
 use Rattle.time_reference.specs.Budgets.{Budget, Fits, budget_of, budget_one, budget_two}
 use Rattle.time_reference.specs.Reference.{host_zero}
-use Rattle.time_reference.specs.Zeros.{Good, apart, nominal, opening, point, started, starting}
+use Rattle.time_reference.specs.Zeros.{Good, apart, opening, point, started, starting}
 use Rattle.time_reference.proofs.BudgetRoom.{ages_end, window_order, window_room}
 use Rattle.time_reference.proofs.Points.{good_later, host_good}
 use Rattle.time_reference.proofs.Rounds.{start, spread}
 use Rattle.bus_rules.specs.Slots.{ScheduleOf}
 use Rattle.lwb_member.specs.Said.{message_of}
 use Rattle.radio_model.specs.declared.sending.Sending.{Sending}
-use Rattle.radio_model.specs.Hearing.{frame_of, slot_of, counter_of}
+use Rattle.radio_model.specs.Hearing.{frame_of, slot_of}
 use Rattle.scenario_text.specs.ScenarioParts.{ScenarioParts}
 use Rattle.air_log.specs.declared.entry.Entry.{Entry}
-use Rattle.air_log.specs.Entries.{sendings_of}
 use Rattle.law_trails.proofs.ProfilePackets.{in_slot}
 use Rattle.law_safety.specs.Endings.{EndsInOrder}
 use Rattle.law_safety.specs.FloodSendings.{BeginsFlood, IsOfFlood}
 use Rattle.law_safety.specs.SentPlans.{IsHostOf}
-use Rattle.law_safety.proofs.FloodTimes.{frame_of_run, slot_in_round, zero_good}
+use Rattle.law_safety.proofs.FloodTimes.{frame_of_run, slot_in_round}
 use Rattle.law_safety.proofs.RunFacts.{frame_begins, frame_ends, host_is, run_fits}
 use Rattle.law_safety.proofs.RunSendings.{begins_flood, of_flood}
 use Rattle.bus_time.specs.Stamps.{IsReference, tick_by}

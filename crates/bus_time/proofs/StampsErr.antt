@@ -14,7 +14,7 @@ use Rattle.law_safety.specs.Invariant.{IsDrivenWell}
 use Rattle.law_safety.specs.SentPlans.{IsHostOf}
 use Rattle.law_safety.proofs.RunFacts.{host_is, host_named}
 use Rattle.law_safety.proofs.RunSendings.{of_flood}
-use Rattle.bus_time.specs.Stamps.{AreStamps, HasReference, IsStamp, stamped, tick_by}
+use Rattle.bus_time.specs.Stamps.{AreStamps, HasReference, IsStamp, stamped}
 use Rattle.bus_time.specs.StampErrors.{AllErrLittle, DifferByLess, ErrsByAge, ErrsLittle, drifted, never_reached, slack}
 use Rattle.bus_time.specs.StampLaws.{BeginsData}
 use Rattle.bus_time.specs.declared.stamp.Stamp.{Stamp}

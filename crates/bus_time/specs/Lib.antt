@@ -4,3 +4,4 @@ pub mod Words
 pub mod Reading
 pub mod Stamping
 pub mod StampErrors
+pub mod Gaps

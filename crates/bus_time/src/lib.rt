@@ -2,6 +2,7 @@
 #![tactic(auto)]
 
 mod beginning;
+mod gaps;
 mod reading;
 mod stamp;
 pub mod stamp_laws;

@@ -6,10 +6,10 @@ ghost use Rattle.air_log.specs.declared.entry.Entry.TheVariants.{Sent, Heard};
 ghost use Rattle.bus_time.specs.Reading.{IsRead};
 
 use crate::beginning::{Beginning, begun_by};
+use crate::gaps::Gaps;
 use crate::words::{Round, Word, Words};
 use air_log::{Air, Entry, HeardEntry, SentEntry};
 use lwb_base::{Memory, Profile};
-use schedule_codec::read;
 use std::alloc::Global;
 
 // The words on the frame in which they were received, those on a later frame, and the transmissions in the order of the log.
@@ -18,6 +18,7 @@ pub(crate) struct Reading {
     pub(crate) present: Words,
     pub(crate) ahead: Words,
     pub(crate) beginnings: Vec<Beginning>,
+    gaps: Gaps,
 }
 
 impl Reading {
@@ -28,6 +29,7 @@ impl Reading {
             present: Words::new(alloc),
             ahead: Words::new(alloc),
             beginnings: Vec::new(alloc),
+            gaps: Gaps::new(),
         };
         for i in 0..air.len() {
             let entry = entry_at(air, i);
@@ -61,10 +63,9 @@ impl Reading {
         ensures { OnOk result ((air : List EntryOf) → IsRead profile.now air self.old.present self.old.ahead self.old.beginnings.items
             → IsRead profile.now (air ++ Heard heard.now ∷ []) self.new.present self.new.ahead self.new.beginnings.items) }
     {
-        let Some(schedule) = read(&heard.packet) else {
+        let Some(gap) = self.gaps.gap_of(&heard.packet) else {
             return Ok(());
         };
-        let gap = schedule.gap;
         self.present
             .note(round_of(profile, heard, 0), word_of(heard, 0))?;
         if gap != 0 {

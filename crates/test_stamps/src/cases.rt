@@ -125,7 +125,13 @@ pub const CASES: &[Case] = &[
     // 9 * 320,000,000 + 64,000,000 + 3,584,000 + 64,000
     Case {
         name: "the second profile",
-        text: &["profile 2\n", TWO, "frames 12\nrate 2 0 -20\n", TWO_ON, ONE_STREAM],
+        text: &[
+            "profile 2\n",
+            TWO,
+            "frames 12\nrate 2 0 -20\n",
+            TWO_ON,
+            ONE_STREAM,
+        ],
         lines: "stamp 9 0 1 2 0 0 2947648000\n",
     },
     Case {

@@ -4,14 +4,14 @@ use air_log::{Air, Entry, HeardEntry, SentEntry};
 use bus_time::Stamp;
 use lwb_base::Profile;
 use lwb_packets::decode_payload;
-use schedule_codec::read;
 use scenario_text::Scenario;
+use schedule_codec::read;
 use std::alloc::Global;
 use std::test::Fail;
 use tick_clock::{DriftClock, SegmentClock};
 
-/// A schedule that a node received: how many frames before the round that it stands for, when its reception ended, and where the
-/// zero of its own round is by the clock of the node.
+/// A schedule that a node received: how many frames before the round that it names, when its reception ended, and where the zero
+/// of its own round is by the clock of the node.
 #[derive(Clone, Copy)]
 struct Reference {
     ahead: u64,

@@ -37,7 +37,11 @@ fn stamps_of_made_scenarios(rt: HostRuntime) -> Result<(), Fail> {
     for seed in 0..24u64 {
         let s = made(alloc, seed, 2 + (seed % 6) as u8, 60)?;
         let lines = stamp_lines(alloc, &s)?;
-        assert_eq!(rt; lines.as_str(), defined_lines(alloc, &s)?.as_str(), "of seed {seed}");
+        assert_eq!(rt;
+            lines.as_str(),
+            defined_lines(alloc, &s)?.as_str(),
+            "of seed {seed}"
+        );
         count = count.saturating_add(lines.len());
     }
     assert!(rt; count > 10_000, "lines of {count} bytes");
