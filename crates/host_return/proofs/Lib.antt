@@ -11,3 +11,4 @@ mod SettledProbes
 mod ProbedStill
 mod OneReturned
 mod QuietReturns
+mod BackupHosts

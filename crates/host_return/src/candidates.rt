@@ -7,9 +7,8 @@ ghost use Rattle.scenario_clocks.specs.StatedClocks.{scenario_clock};
 ghost use Rattle.scenario_text.specs.FloodParts.{knows};
 ghost use Rattle.scenario_text.specs.ScenarioGrammar.{IsScenario};
 ghost use Rattle.air_log.specs.declared.entry.Entry.{Entry as EntryOf};
-ghost use Rattle.air_log.specs.Lawful.{Lawful, heard_by};
-ghost use Rattle.air_log.specs.TrailsTold.{trail_told};
-ghost use Rattle.host_return.specs.NodeTrails.{all_trails};
+ghost use Rattle.air_log.specs.Lawful.{Lawful};
+ghost use Rattle.host_return.specs.NodeTrails.{all_trails, told_for};
 ghost use Rattle.host_return.specs.Candidates.{is_off, AllListed, IsCandidate, IsNext, is_listed as is_listed_in};
 ghost use Rattle.host_return.specs.Transmissions.{AreSent, IsSearchable};
 ghost use Rattle.host_return.specs.declared.returned.Return.{Return as ReturnOf};
@@ -59,10 +58,10 @@ fn next_in_frame(
     requires frame { frame < s.now.frames }
     requires searchable { IsSearchable sent.now }
     requires early { All (λ y. y.start ≤ 2 ^ 46) sent.now.sent.items }
-    ensures some { (air : List EntryOf) → trails.now ≡ all_trails s.now air → AreSent air sent.now
+    ensures some { (air : List EntryOf) → Lawful s.now (scenario_clock s.now) air → trails.now ≡ all_trails s.now air → AreSent air sent.now
         → IfSome result (λ r. IsCandidate read.now s.now air r × (is_listed_in listed.now r ≡ false) × (r.frame ≡ frame)
         × ((q : ReturnOf) → IsCandidate read.now s.now air q → is_listed_in listed.now q ≡ false → q.frame ≡ frame → r.node ≤ q.node)) }
-    ensures none { (air : List EntryOf) → trails.now ≡ all_trails s.now air → AreSent air sent.now
+    ensures none { (air : List EntryOf) → Lawful s.now (scenario_clock s.now) air → trails.now ≡ all_trails s.now air → AreSent air sent.now
         → IfNone result ((q : ReturnOf) → IsCandidate read.now s.now air q → is_listed_in listed.now q ≡ false → q.frame ≡ frame → ⊥) }
 {
     for trail in trails {
@@ -82,15 +81,16 @@ fn fresh_candidate(
     listed: &[Return],
     frame: u32,
 ) -> Option<Return>
+    requires said { IsScenario s.now }
     requires frames { read.now.frames ≡ s.now.frames }
     requires frame { frame < s.now.frames }
     requires searchable { IsSearchable sent.now }
     requires early { All (λ y. y.start ≤ 2 ^ 46) sent.now.sent.items }
-    ensures some { (air : List EntryOf) → AreSent air sent.now → knows s.now.nodes trail.now.node ≡ true
-        → trail.now.trail ≡ trail_told s.now trail.now.node (scenario_clock s.now trail.now.node) (heard_by air trail.now.node)
+    ensures some { (air : List EntryOf) → Lawful s.now (scenario_clock s.now) air → AreSent air sent.now → knows s.now.nodes trail.now.node ≡ true
+        → trail.now.trail ≡ told_for s.now air trail.now.node
         → IfSome result (λ r. IsCandidate read.now s.now air r × (is_listed_in listed.now r ≡ false) × (r.frame ≡ frame) × (r.node ≡ trail.now.node)) }
-    ensures none { (air : List EntryOf) → AreSent air sent.now
-        → trail.now.trail ≡ trail_told s.now trail.now.node (scenario_clock s.now trail.now.node) (heard_by air trail.now.node)
+    ensures none { (air : List EntryOf) → Lawful s.now (scenario_clock s.now) air → AreSent air sent.now → knows s.now.nodes trail.now.node ≡ true
+        → trail.now.trail ≡ told_for s.now air trail.now.node
         → IfNone result ((q : ReturnOf) → IsCandidate read.now s.now air q → is_listed_in listed.now q ≡ false → q.frame ≡ frame
         → q.node ≡ trail.now.node → ⊥) }
 {

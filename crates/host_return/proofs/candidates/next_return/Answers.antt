@@ -12,7 +12,7 @@ loop-frame-preserved c =
     λ q candidate fresh less.
     elim (cases_lt q.frame c.loop-frame.frame) [
       | inl earlier ↦ c.loop-frame.invariant q candidate fresh earlier
-      | inr at ↦ c.in_default.ensures.none c.args.air.now (c.deref.ensures.value ∙ c.in_ok-trails.ensures) c.in_ok-sent.ensures.sent q candidate fresh
+      | inr at ↦ c.in_default.ensures.none c.args.air.now c.requires.lawful (c.deref.ensures.value ∙ c.in_ok-trails.ensures) c.in_ok-sent.ensures.sent q candidate fresh
           (omega (arith, less, at))
     ]
 
@@ -23,7 +23,7 @@ next_in_frame-requires-clause-early c =
 pub returns-in-Some-clause-some : goal.returns-in-Some-clause-some
 returns-in-Some-clause-some c =
     let r = c.in-Some.next in
-    let got = c.in-Some.ensures.some c.args.air.now (c.deref.ensures.value ∙ c.in_ok-trails.ensures) c.in_ok-sent.ensures.sent in
+    let got = c.in-Some.ensures.some c.args.air.now c.requires.lawful (c.deref.ensures.value ∙ c.in_ok-trails.ensures) c.in_ok-sent.ensures.sent in
     record {
       candidate = got.0;
       fresh = got.1;
