@@ -1,5 +1,5 @@
 -- Candidates by the trails of all nodes.
-use Rattle.std.proofs.Common.{◌≡◌, ℕ, ◌<◌, ◌≤◌, List, Bool, true, false, ◌&&◌, ◌||◌, ◌==◌, nat_lt, map, get_or, length, inl, inr, Option, Some, None, refl, sym, ◌∙◌, ap, subst, arith}
+use Rattle.std.proofs.Common.{◌≡◌, ℕ, ◌<◌, ◌≤◌, List, Bool, true, false, ◌&&◌, ◌||◌, ◌==◌, nat_lt, if◌then◌else◌, map, get_or, length, inl, inr, Option, Some, None, refl, sym, ◌∙◌, ap, subst, arith}
 use Rattle.std.proofs.lemmas.Bool.{cases_lt, cond-false, le-ltb, eqb-true, eq-eqb}
 use Rattle.std.proofs.lemmas.List.{get_or-map, length-map, get_or_default}
 use Rattle.std.proofs.lemmas.List.Elements.{Contains-get_or}
@@ -11,18 +11,20 @@ use Rattle.std.specs.Option.{option_flatten}
 use Rattle.bus_rules.specs.declared.tune.Tune.{Tune}
 use Rattle.scenario_text.specs.FloodParts.{knows}
 use Rattle.scenario_text.specs.ScenarioFacts.{IsSoundScenario}
+use Rattle.scenario_text.specs.ScenarioGrammar.{IsScenario}
 use Rattle.scenario_text.specs.ScenarioParts.{ScenarioParts}
 use Rattle.scenario_text.specs.declared.lines.NodeLine.{NodeLine}
 use Rattle.scenario_clocks.specs.StatedClocks.{scenario_clock}
 use Rattle.radio_model.specs.declared.sending.Sending.{Sending}
 use Rattle.radio_model.proofs.Members.{any_of, some_of}
 use Rattle.air_log.specs.declared.entry.Entry.{Entry}
-use Rattle.air_log.specs.Lawful.{heard_by}
+use Rattle.air_log.specs.Lawful.{Lawful, heard_by}
 use Rattle.air_log.specs.Trails.{Reception, tune_at}
 use Rattle.air_log.specs.TrailsTold.{TrailTold, trail_told}
 use Rattle.host_return.specs.Candidates.{comes_before}
-use Rattle.host_return.specs.NodeTrails.{trail_for, all_trails}
+use Rattle.host_return.specs.NodeTrails.{is_backup, told_for, trail_for, all_trails, probed_by}
 use Rattle.host_return.specs.Probes.{Brings, probed_with, probed_rank}
+use Rattle.host_return.proofs.BackupHosts.{never_idle}
 use Rattle.host_return.specs.declared.returned.Return.{Return}
 use Rattle.host_return.specs.declared.trails.NodeTrail.{NodeTrail}
 
@@ -40,10 +42,16 @@ told_tune s v clock hs f =
           ∙ sym (cond-false (nat_lt f s.frames) _ none (le-ltb f s.frames past))
     ]
 
-pub told_probe : (s : ScenarioParts) (air : List Entry) (v f : ℕ) (t : TrailTold) → t ≡ trail_told s v (scenario_clock s v) (heard_by air v)
-    → probed_with f (option_flatten (slice_get t.tunes f)) ≡ probed_rank s air f v
-told_probe s air v f t is =
-    ap (λ (u : TrailTold). probed_with f (option_flatten (slice_get u.tunes f))) is ∙ ap (probed_with f) (told_tune s v (scenario_clock s v) (heard_by air v) f)
+pub told_probe : (s : ScenarioParts) (air : List Entry) → IsScenario s → Lawful s (scenario_clock s) air → (v : ℕ) → knows s.nodes v ≡ true → (f : ℕ)
+    (t : Option TrailTold) → t ≡ told_for s air v → probed_by f t ≡ probed_rank s air f v
+told_probe s air said lawful v known f t is = ap (probed_by f) is ∙ by_test (is_backup s v) refl
+  where
+    own : TrailTold
+    own = trail_told s v (scenario_clock s v) (heard_by air v)
+
+    by_test : (b : Bool) → is_backup s v ≡ b → probed_by f (if b then Some own else None) ≡ probed_rank s air f v
+    by_test true backup = ap (probed_with f) (told_tune s v (scenario_clock s v) (heard_by air v) f)
+    by_test false other = sym (never_idle s said air lawful v f known other)
 
 pub moved_probe : (s : ScenarioParts) (air : List Entry) (f v g u : ℕ) (o : Option ℕ) → f ≡ g → v ≡ u → probed_rank s air f v ≡ o → probed_rank s air g u ≡ o
 moved_probe s air f v g u o frame node is =
@@ -66,9 +74,8 @@ at_place s air trails i t n is below at =
     let less : i < length s.nodes = omega (arith, below, ap length is, length-map s.nodes (trail_for s air)) in
     (less, at ∙ ap (λ (ts : List NodeTrail). get_or ts i t) is ∙ get_or-map (trail_for s air) s.nodes i n t less)
 
-pub trail_is : (s : ScenarioParts) (air : List Entry) (t : NodeTrail) (n : NodeLine) → t ≡ trail_for s air n
-    → t.trail ≡ trail_told s t.node (scenario_clock s t.node) (heard_by air t.node)
-trail_is s air t n is = subst (λ (u : NodeTrail). u.trail ≡ trail_told s u.node (scenario_clock s u.node) (heard_by air u.node)) (sym is) refl
+pub trail_is : (s : ScenarioParts) (air : List Entry) (t : NodeTrail) (n : NodeLine) → t ≡ trail_for s air n → t.trail ≡ told_for s air t.node
+trail_is s air t n is = subst (λ (u : NodeTrail). u.trail ≡ told_for s air u.node) (sym is) refl
 
 pub node_known : (s : ScenarioParts) (air : List Entry) (t : NodeTrail) (i : ℕ) (n : NodeLine) → i < length s.nodes → t ≡ trail_for s air (get_or s.nodes i n)
     → knows s.nodes t.node ≡ true

@@ -1,8 +1,8 @@
 -- The rank that a node hosted is quiet after its return.
-use Rattle.std.proofs.Common.{◌≡◌, ℕ, zero, suc, ◌+◌, ◌<◌, inl, inr, List, length, Contains, Bool, true, false, ◌&&◌, ◌==◌, nat_lt, if◌then◌else◌, Some, None, Option, ◌%◌}
+use Rattle.std.proofs.Common.{◌≡◌, ℕ, zero, suc, ◌+◌, ◌<◌, inl, inr, List, length, Contains, Bool, true, false, ◌==◌, if◌then◌else◌, Some, None}
 use Rattle.std.proofs.Common.{refl, sym, ◌∙◌, ap, subst, arith}
 use Rattle.std.specs.Prelude.{slice_index}
-use Rattle.std.proofs.lemmas.Bool.{cases_Bool, cases_lt, cond-false, ne_eqb, lt-ltb, ltb-true, and_parts}
+use Rattle.std.proofs.lemmas.Bool.{cases_Bool, cases_lt, cond-false, ne_eqb, lt-ltb}
 use Rattle.time_reference.specs.Budgets.{budget_of}
 use Rattle.time_reference.specs.Zeros.{starting, Good}
 use Rattle.lwb_base.specs.Messages.{Schedule}
@@ -12,7 +12,6 @@ use Rattle.bus_rules.specs.declared.part.Part.TheVariants.{Opening, Data as Data
 use Rattle.bus_rules.specs.declared.tune.Tune.{Tune}
 use Rattle.bus_rules.specs.declared.tune.Tune.TheVariants.{Host}
 use Rattle.bus_rules.specs.Slots.{ScheduleOf, DataOf, part_of}
-use Rattle.bus_rules.specs.Tuning.{hosts, rank_of}
 use Rattle.lwb_member.specs.Said.{message_of, data_in}
 use Rattle.node_core.specs.Nodes.{Node}
 use Rattle.node_core.specs.Rows.{stage_for}
@@ -26,17 +25,15 @@ use Rattle.scenario_clocks.proofs.StatedDrift.{scenario_clocks_drift}
 use Rattle.radio_model.specs.declared.sending.Sending.{Sending}
 use Rattle.radio_model.specs.Hearing.{frame_of, slot_of, counter_of}
 use Rattle.air_log.specs.declared.entry.Entry.{Entry}
-use Rattle.air_log.specs.Devices.{Power, PowerOff, PowerOn}
+use Rattle.air_log.specs.Devices.{Power, PowerOn}
 use Rattle.air_log.specs.Entries.{sendings_of}
 use Rattle.air_log.specs.Lawful.{heard_by}
 use Rattle.air_log.specs.Safe.{by_host}
-use Rattle.air_log.specs.Trails.{run_end, frame_start, setup_of, tune_of, tune_at}
+use Rattle.air_log.specs.Trails.{run_end, tune_of, tune_at}
 use Rattle.air_log.specs.WindowLogs.{WindowLog}
-use Rattle.law_trails.specs.DeviceRanges.{IsPower}
 use Rattle.law_trails.specs.TrailLinks.{device_in}
 use Rattle.law_trails.proofs.HeedfulLogs.{lawful_is_heedful}
 use Rattle.law_trails.proofs.HostRanks.{host_is_of_rank}
-use Rattle.law_trails.proofs.LogsInRange.{all_through}
 use Rattle.law_trails.proofs.SaidPackets.{says}
 use Rattle.law_trails.proofs.SlotBounds.{slots_apart}
 use Rattle.law_safety.specs.Beginnings.{MaySay, SaysData, SaysSchedule}
@@ -46,7 +43,7 @@ use Rattle.law_safety.specs.Invariant.{IsRun}
 use Rattle.law_safety.specs.SentPlans.{IsHostOf}
 use Rattle.law_safety.proofs.FloodTimes.{host_drifts, in_flood, origin_drifts, packet_short, slot_in_round, zero_good}
 use Rattle.law_safety.proofs.InvariantHolds.{holds_throughout}
-use Rattle.law_safety.proofs.RunFacts.{frame_begins, frame_from, host_is, known_id, run_fits}
+use Rattle.law_safety.proofs.RunFacts.{frame_begins, frame_from, host_is, run_fits}
 use Rattle.law_safety.proofs.RunSendings.{begins_flood, in_trail, of_flood}
 use Rattle.law_terms.specs.FrameCourses.{power_at, IsWindowIn, IsCourse, GoesThrough}
 use Rattle.law_terms.specs.LawfulRuns.{IsLawfulRun}
@@ -58,6 +55,7 @@ use Rattle.host_return.specs.AfterReturns.{QuietAfter, AllQuiet}
 use Rattle.host_return.specs.Courses.{IsFollowed}
 use Rattle.host_return.specs.Probes.{probed_with}
 use Rattle.host_return.specs.declared.follow.Course.{Course}
+use Rattle.host_return.proofs.BackupHosts.{on_node, own_of_host, in_run, probing}
 use Rattle.host_return.proofs.Followed.{parts_of}
 use Rattle.host_return.proofs.ProbedStill.{AreProbed}
 
@@ -68,10 +66,6 @@ whole_run s clocks air is =
 
 data_message : (p : List ℕ) → is_data p ≡ true → message_of p ≡ Some (DataOf (data_in p))
 data_message p is = rw is refl
-
-on_node : (p : Power) (t : Tune) → tune_of p ≡ Some t → (n : Node) × (p ≡ PowerOn n) × (n.core.tune ≡ t)
-on_node (PowerOff boots) t is = absurd (cc)
-on_node (PowerOn n) t is = (n, refl, (let same : ◌≡◌ {A = Option Tune} (Some n.core.tune) (Some t) = is in cc))
 
 module _ (s : ScenarioParts) (clocks : ℕ → ℕ → ℕ) (air : List Entry) (lawful : IsLawfulRun s clocks air) where
   whole : EndsInOrder s clocks air
@@ -152,12 +146,7 @@ module _ (s : ScenarioParts) (clocks : ℕ → ℕ → ℕ) (air : List Entry) (
 
   hosts_rank : (v f rank due : ℕ) (n : Node) → knows s.nodes v ≡ true → power_at s clocks air v f ≡ PowerOn n → n.core.tune ≡ Host rank due → IsHostOf s rank v
   hosts_rank v f rank due n known on tune =
-      let id = known_id s lawful.sound v known in
-      let well = (all_through s lawful.sound clocks air whole.run.heedful.trails (λ u x there. (whole.run.heedful.heard u x there).sent) v (frame_start s f)
-      id.0 id.1).told in
-      let is = subst (IsPower (setup_of s v)) on well.power in
-      let own = (is.core.hosted (ap hosts tune)).own in
-      (host_is_of_rank s lawful.sound v rank).0 (subst (λ (t : Tune). (setup_of s v).own ≡ Some (rank_of t)) tune own)
+      (host_is_of_rank s lawful.sound v rank).0 (own_of_host s clocks air lawful.sound lawful.lawful v f rank due n known on tune)
 
   pub quiet_after : (v f rank due : ℕ) → knows s.nodes v ≡ true → f < s.frames → f < due → tune_at s v (clocks v) (heard_by air v) f ≡ Some (Host rank due)
       → QuietAfter s air f rank
@@ -211,21 +200,6 @@ module _ (s : ScenarioParts) (clocks : ℕ → ℕ → ℕ) (air : List Entry) (
         ]
       ]
 
--- a frame in which a node probes is before its next round
-pub before_round : (f rank due probed : ℕ) → (if nat_lt 0 rank && nat_lt f due then Some (f % rank) else None) ≡ Some probed → f < due
-before_round f rank due probed is = by_test (nat_lt 0 rank && nat_lt f due) refl is
-  where
-    by_test : (b : Bool) → (nat_lt 0 rank && nat_lt f due) ≡ b → (if b then Some (f % rank) else None) ≡ Some probed → f < due
-    by_test true both some = ltb-true f due (and_parts (nat_lt 0 rank) (nat_lt f due) both).1
-    by_test false neither none = absurd (cc)
-
-pub frame_of_run : (s : ScenarioParts) (f : ℕ) (o : Option Tune) (t : Tune) → (if nat_lt f s.frames then o else None) ≡ Some t → f < s.frames
-frame_of_run s f o t is = by_test (nat_lt f s.frames) refl is
-  where
-    by_test : (b : Bool) → nat_lt f s.frames ≡ b → (if b then o else None) ≡ Some t → f < s.frames
-    by_test true within some = ltb-true f s.frames within
-    by_test false past none = absurd (cc)
-
 -- after all returns
 pub all_quiet : (read : ScenarioParts) (c : Course) → IsFollowed read c → AreProbed read c.scenario c.air c.returns.items → AllQuiet (parts_of c)
 all_quiet read c followed are r there rank hosts_at =
@@ -234,7 +208,8 @@ all_quiet read c followed are r there rank hosts_at =
     record { sound = sound s followed.said; drift = scenario_clocks_drift s followed.said; lawful = followed.lawful } in
     let tune = hosts_at.1 in
     let probes = are.probed r there in
-    let waits = before_round r.frame rank hosts_at.0 r.rank
+    let waits =
+    probing r.frame rank hosts_at.0 r.rank
     (sym (ap (probed_with r.frame) tune) ∙ probes.probes) in
     quiet_after s (scenario_clock s) c.air lawful r.node r.frame rank hosts_at.0 (are.known r there)
-    (frame_of_run s r.frame (tune_of (power_at s (scenario_clock s) c.air r.node r.frame)) (Host rank hosts_at.0) tune) waits tune
+    (in_run s r.frame (tune_of (power_at s (scenario_clock s) c.air r.node r.frame)) (Host rank hosts_at.0) tune).0 waits.1 tune

@@ -1,21 +1,20 @@
 //! The next return in a run.
 
-ghost use Rattle.std.specs.Prelude.{◌≡◌, ◌↔◌, ◌<◌, ◌≤◌, ◌^◌, ℕ, List, true, false, IfOk, IfSome, IfNone, All, Contains};
+ghost use Rattle.std.specs.Prelude.{◌≡◌, ◌↔◌, ◌<◌, ◌≤◌, ◌^◌, ℕ, List, true, false, IfOk, IfSome, IfNone, All, Contains, count_by, is_some, nat_lt};
 ghost use Rattle.scenario_text.specs.declared.lines.NodeLine.{NodeLine as NodeLineOf};
-ghost use Rattle.std.specs.List.{list_any};
+ghost use Rattle.std.specs.List.{list_any, range_with_len};
 ghost use Rattle.scenario_clocks.specs.StatedClocks.{scenario_clock};
 ghost use Rattle.scenario_text.specs.FloodParts.{knows};
 ghost use Rattle.scenario_text.specs.ScenarioGrammar.{IsScenario};
 ghost use Rattle.air_log.specs.declared.entry.Entry.{Entry as EntryOf};
-ghost use Rattle.air_log.specs.Lawful.{Lawful, heard_by};
-ghost use Rattle.air_log.specs.TrailsTold.{trail_told};
-ghost use Rattle.host_return.specs.NodeTrails.{all_trails};
+ghost use Rattle.air_log.specs.Lawful.{Lawful};
+ghost use Rattle.host_return.specs.NodeTrails.{all_trails, probed_by, told_for};
 ghost use Rattle.host_return.specs.Candidates.{is_off, AllListed, IsCandidate, IsNext, is_listed as is_listed_in};
 ghost use Rattle.host_return.specs.Transmissions.{AreSent, IsSearchable};
 ghost use Rattle.host_return.specs.declared.returned.Return.{Return as ReturnOf};
 
 use crate::Return;
-use crate::trails::{NodeTrail, probed_rank, trails_of};
+use crate::trails::{NodeTrail, probed_rank, probes, trails_of};
 use crate::transmissions::Transmissions;
 use air_log::Air;
 use lwb_base::{Memory, NodeId};
@@ -36,6 +35,9 @@ pub(crate) fn next_return(
     ensures none { IfOk result (λ o. IfNone o (AllListed read.now s.now air.now listed.now)) }
 {
     let trails = trails_of(alloc, s, air)?;
+    if !is_some_idle(&trails, s.frames()) {
+        return Ok(None);
+    }
     let sent = Transmissions::of(alloc, air)?;
     for frame in 0..s.frames() {
         if let Some(next) = next_in_frame(read, s, &trails, &sent, listed, frame) {
@@ -43,6 +45,13 @@ pub(crate) fn next_return(
         }
     }
     Ok(None)
+}
+
+// Whether a node is idle in one of the frames. Where none is, the transmissions need not be put in order.
+fn is_some_idle(trails: &[NodeTrail], frames: u32) -> bool
+    ensures { result ≡ list_any (λ t. nat_lt 0 (count_by (λ f. is_some (probed_by f t.trail)) (range_with_len 0 frames))) trails.now }
+{
+    trails.iter().any(|trail| probes(&trail.trail, frames) > 0)
 }
 
 // That of this frame.
@@ -59,10 +68,10 @@ fn next_in_frame(
     requires frame { frame < s.now.frames }
     requires searchable { IsSearchable sent.now }
     requires early { All (λ y. y.start ≤ 2 ^ 46) sent.now.sent.items }
-    ensures some { (air : List EntryOf) → trails.now ≡ all_trails s.now air → AreSent air sent.now
+    ensures some { (air : List EntryOf) → Lawful s.now (scenario_clock s.now) air → trails.now ≡ all_trails s.now air → AreSent air sent.now
         → IfSome result (λ r. IsCandidate read.now s.now air r × (is_listed_in listed.now r ≡ false) × (r.frame ≡ frame)
         × ((q : ReturnOf) → IsCandidate read.now s.now air q → is_listed_in listed.now q ≡ false → q.frame ≡ frame → r.node ≤ q.node)) }
-    ensures none { (air : List EntryOf) → trails.now ≡ all_trails s.now air → AreSent air sent.now
+    ensures none { (air : List EntryOf) → Lawful s.now (scenario_clock s.now) air → trails.now ≡ all_trails s.now air → AreSent air sent.now
         → IfNone result ((q : ReturnOf) → IsCandidate read.now s.now air q → is_listed_in listed.now q ≡ false → q.frame ≡ frame → ⊥) }
 {
     for trail in trails {
@@ -82,15 +91,16 @@ fn fresh_candidate(
     listed: &[Return],
     frame: u32,
 ) -> Option<Return>
+    requires said { IsScenario s.now }
     requires frames { read.now.frames ≡ s.now.frames }
     requires frame { frame < s.now.frames }
     requires searchable { IsSearchable sent.now }
     requires early { All (λ y. y.start ≤ 2 ^ 46) sent.now.sent.items }
-    ensures some { (air : List EntryOf) → AreSent air sent.now → knows s.now.nodes trail.now.node ≡ true
-        → trail.now.trail ≡ trail_told s.now trail.now.node (scenario_clock s.now trail.now.node) (heard_by air trail.now.node)
+    ensures some { (air : List EntryOf) → Lawful s.now (scenario_clock s.now) air → AreSent air sent.now → knows s.now.nodes trail.now.node ≡ true
+        → trail.now.trail ≡ told_for s.now air trail.now.node
         → IfSome result (λ r. IsCandidate read.now s.now air r × (is_listed_in listed.now r ≡ false) × (r.frame ≡ frame) × (r.node ≡ trail.now.node)) }
-    ensures none { (air : List EntryOf) → AreSent air sent.now
-        → trail.now.trail ≡ trail_told s.now trail.now.node (scenario_clock s.now trail.now.node) (heard_by air trail.now.node)
+    ensures none { (air : List EntryOf) → Lawful s.now (scenario_clock s.now) air → AreSent air sent.now → knows s.now.nodes trail.now.node ≡ true
+        → trail.now.trail ≡ told_for s.now air trail.now.node
         → IfNone result ((q : ReturnOf) → IsCandidate read.now s.now air q → is_listed_in listed.now q ≡ false → q.frame ≡ frame
         → q.node ≡ trail.now.node → ⊥) }
 {

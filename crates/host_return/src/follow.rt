@@ -83,6 +83,7 @@ impl Course {
 
     // What came of it, with the counts of its run.
     fn finish(self, alloc: Global) -> Result<Returned, Memory>
+        requires { Lawful self.scenario (scenario_clock self.scenario) self.air }
         ensures { IfOk result (λ x. x ≡ record {
           scenario = self.scenario;
           returns = self.returns.items;
@@ -107,12 +108,14 @@ impl Course {
 
 // In how many frames each node is idle.
 fn counts_of(alloc: Global, s: &Scenario, air: &Air) -> Result<Vec<(NodeId, u32)>, Memory>
+    requires { Lawful s.now (scenario_clock s.now) air.now }
     ensures { IfOk result (λ counts. counts.items ≡ counts_in s.now air.now) }
 {
+    let frames = s.frames();
     let trails = trails_of(alloc, s, air)?;
     let mut counts = Vec::new(alloc);
     for trail in &trails {
-        counts.push((trail.node, probes(&trail.trail, s.frames())))?;
+        counts.push((trail.node, probes(&trail.trail, frames)))?;
     }
     Ok(counts)
 }

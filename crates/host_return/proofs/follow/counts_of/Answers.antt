@@ -14,7 +14,7 @@ loop-trail-preserved c =
     let i = c.loop-trail.trail-index in
     let raw : c.push.new.self.items ≡ c.loop-trail.counts.items ++ (t.node, c.probes.result) ∷ [] = search rules in
     let count : c.probes.result ≡ count_by (is_idle t.trail) (range_with_len 0 s.frames) =
-    c.probes.ensures ∙ ap (λ (k : ℕ). count_by (is_idle t.trail) (range_with_len 0 k)) c.frames.ensures.value in
+    c.probes.ensures ∙ ap (λ (k : ℕ). count_by (is_idle t.trail) (range_with_len 0 k)) c.frames-frames.ensures.value in
     let one : ◌≡◌ {A = ℕ × ℕ} (t.node, c.probes.result) (count_for s t) = ap (λ (k : ℕ). (t.node, k)) count in
     raw
     ∙ map_pushed (count_for s) xs i t c.loop-trail.counts.items (t.node, c.probes.result) c.loop-trail-test.true c.trail-item.is
@@ -28,4 +28,4 @@ returns c =
     c.loop-trail.invariant
     ∙ ap (map (count_for s))
     (take_all c.loop-trail.trail-index c.deref-trail-items.result.now (omega (arith, past)) ∙ c.deref-trail-items.ensures.value ∙ c.in_ok-trails.ensures)
-    ∙ counts_are s air
+    ∙ counts_are s air c.frames-frames.ensures.said c.requires

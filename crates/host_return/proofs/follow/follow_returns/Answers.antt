@@ -2,6 +2,7 @@ use Rattle.std.proofs.Common.{◌<◌, Bool, Ok, length, sym, ap, subst, arith, 
 use Rattle.std.proofs.lemmas.List.{length_push}
 use Rattle.scenario_text.proofs.SoundScenarios.{sound}
 use Rattle.scenario_clocks.specs.StatedClocks.{scenario_clock}
+use Rattle.air_log.specs.Lawful.{Lawful}
 use Rattle.air_log.specs.Safe.{Safe}
 use Rattle.host_return.specs.AfterReturns.{AllProbed, AllQuiet}
 use Rattle.host_return.specs.Courses.{IsOneMore}
@@ -38,6 +39,11 @@ loop-course-smaller g c =
     let less : length old.returns.items < 16 = search rules in
     let more : IsOneMore c.args.s.now old c.go_back.new.self = c.in_ok-go_back.ensures.more (ap (λ (b : Bool). Ok b) c.if-not-branch.false) in
     omega (arith, less, ap length more.returns, length_push old.returns.items more.last)
+
+pub finish-requires : goal.finish-requires
+finish-requires g c =
+    let end = c.in_ok-go_back.ensures.end (ap (λ (b : Bool). Ok b) c.if-not-branch.true) in
+    subst (λ (k : Course). Lawful k.scenario (scenario_clock k.scenario) k.air) (sym end.0) c.loop-course.invariant.0.lawful
 
 pub returns-then-not-branch : goal.returns-then-not-branch
 returns-then-not-branch g c =

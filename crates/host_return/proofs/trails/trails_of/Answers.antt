@@ -1,4 +1,4 @@
-use Rattle.std.proofs.Common.{◌≡◌, ◌++◌, ◌∷◌, [], ℕ, map, get_or, ◌∙◌, ap, arith, rules}
+use Rattle.std.proofs.Common.{◌≡◌, ◌++◌, ◌∷◌, [], ℕ, if◌then◌else◌, Option, Some, None, map, get_or, ◌∙◌, ap, arith, rules}
 use Rattle.std.proofs.lemmas.List.{take_all}
 use Rattle.scenario_text.specs.declared.lines.NodeLine.{NodeLine}
 use Rattle.scenario_text.proofs.SoundScenarios.{sound}
@@ -7,7 +7,7 @@ use Rattle.air_log.specs.Lawful.{heard_by}
 use Rattle.air_log.specs.TrailsTold.{TrailTold, trail_told}
 use Rattle.air_log.proofs.Elements.{map_pushed}
 use Rattle.energy_account.proofs.StatedPlaces.{stated_place}
-use Rattle.host_return.specs.NodeTrails.{trail_for}
+use Rattle.host_return.specs.NodeTrails.{is_backup, trail_for}
 use Rattle.host_return.specs.declared.trails.NodeTrail.{NodeTrail}
 use Rattle.host_return.proofs.trails.trails_of.Goals as goal
 
@@ -26,8 +26,8 @@ loop-i-preserved c =
     c.rates.ensures clocks.count clocks.stated i c.index-nodes-i.result c.index.result.now (omega arith) c.index.ensures in
     let one : NodeTrail = record { node = n.node; trail = c.in_ok-trail.trail } in
     let is : one ≡ trail_for s air n =
-    ap (λ (t : TrailTold). record { node = n.node; trail = t })
-    (c.in_ok-trail.ensures ∙ ap (λ (k : ℕ → ℕ). trail_told s n.node k (heard_by air n.node)) clock) in
+    ap (λ (t : Option TrailTold). record { node = n.node; trail = t })
+    (c.in_ok-trail.ensures ∙ ap (λ (k : ℕ → ℕ). if is_backup s n.node then Some (trail_told s n.node k (heard_by air n.node)) else None) clock) in
     let pushed : c.push.new.self.items ≡ c.loop-i.trails.items ++ one ∷ [] = search rules in
     pushed ∙ map_pushed (trail_for s air) nodes i n c.loop-i.trails.items one (omega arith) (ap (λ (d : NodeLine). get_or nodes i d) c.index-nodes-i.is)
     c.loop-i.invariant is

@@ -1,0 +1,72 @@
+-- Backup hosts alone are idle.
+use Rattle.std.proofs.Common.{◌≡◌, ℕ, ◌<◌, List, Bool, true, false, ◌&&◌, nat_lt, if◌then◌else◌, Some, None, Option, refl, sym, ◌∙◌, ap, subst}
+use Rattle.std.specs.Prelude.{◌%◌}
+use Rattle.std.proofs.lemmas.Bool.{and_parts, ltb-true, true≢false}
+use Rattle.bus_rules.specs.declared.tune.Tune.{Tune}
+use Rattle.bus_rules.specs.declared.tune.Tune.TheVariants.{Scan, Hold, Host}
+use Rattle.bus_rules.specs.Cores.{own_rank}
+use Rattle.bus_rules.specs.Tuning.{hosts, rank_of}
+use Rattle.node_core.specs.Nodes.{Node}
+use Rattle.scenario_text.specs.FloodParts.{knows}
+use Rattle.scenario_text.specs.ScenarioFacts.{IsSoundScenario}
+use Rattle.scenario_text.specs.ScenarioGrammar.{IsScenario}
+use Rattle.scenario_text.specs.ScenarioParts.{ScenarioParts}
+use Rattle.scenario_text.proofs.SoundScenarios.{sound}
+use Rattle.scenario_clocks.specs.StatedClocks.{scenario_clock}
+use Rattle.air_log.specs.declared.entry.Entry.{Entry}
+use Rattle.air_log.specs.Devices.{Power, PowerOff, PowerOn}
+use Rattle.air_log.specs.Lawful.{Lawful, heard_by}
+use Rattle.air_log.specs.Trails.{frame_start, setup_of, tune_of, tune_at, at_frame}
+use Rattle.law_trails.specs.DeviceRanges.{IsPower}
+use Rattle.law_trails.proofs.LogsInRange.{all_through}
+use Rattle.law_safety.proofs.RunFacts.{known_id}
+use Rattle.host_return.specs.NodeTrails.{above_first, is_backup}
+use Rattle.host_return.specs.Probes.{probed_with, probed_rank}
+
+pub on_node : (p : Power) (t : Tune) → tune_of p ≡ Some t → (n : Node) × (p ≡ PowerOn n) × (n.core.tune ≡ t)
+on_node (PowerOff boots) t is = absurd (cc)
+on_node (PowerOn n) t is = (n, refl, (let same : ◌≡◌ {A = Option Tune} (Some n.core.tune) (Some t) = is in cc))
+
+-- a host hosts its own rank
+pub own_of_host : (s : ScenarioParts) (clocks : ℕ → ℕ → ℕ) (air : List Entry) → IsSoundScenario s → Lawful s clocks air → (v f rank due : ℕ) (n : Node)
+    → knows s.nodes v ≡ true → (at_frame s v (clocks v) (heard_by air v) f).power ≡ PowerOn n → n.core.tune ≡ Host rank due → own_rank v s.hosts ≡ Some rank
+own_of_host s clocks air good lawful v f rank due n known on tune =
+    let id = known_id s good v known in
+    let well = (all_through s good clocks air lawful.trails (λ u x there. ((lawful.hearing.heard u x).0 there).1.sent) v (frame_start s f) id.0 id.1).told in
+    let is = subst (IsPower (setup_of s v)) on well.power in
+    subst (λ (t : Tune). own_rank v s.hosts ≡ Some (rank_of t)) tune (is.core.hosted (ap hosts tune)).own
+
+pub in_run : (s : ScenarioParts) (f : ℕ) (o : Option Tune) (t : Tune) → (if nat_lt f s.frames then o else None) ≡ Some t → (f < s.frames) × (o ≡ Some t)
+in_run s f o t is = by_test (nat_lt f s.frames) refl is
+  where
+    by_test : (b : Bool) → nat_lt f s.frames ≡ b → (if b then o else None) ≡ Some t → (f < s.frames) × (o ≡ Some t)
+    by_test true within some = (ltb-true f s.frames within, some)
+    by_test false past none = absurd (cc)
+
+-- a frame in which a node probes is before its next round, and its rank is above 0
+pub probing : (f rank due probed : ℕ) → (if nat_lt 0 rank && nat_lt f due then Some (f % rank) else None) ≡ Some probed
+    → (nat_lt 0 rank ≡ true) × (f < due)
+probing f rank due probed is = by_test (nat_lt 0 rank && nat_lt f due) refl is
+  where
+    by_test : (b : Bool) → (nat_lt 0 rank && nat_lt f due) ≡ b → (if b then Some (f % rank) else None) ≡ Some probed → (nat_lt 0 rank ≡ true) × (f < due)
+    by_test true both some = let parts = and_parts (nat_lt 0 rank) (nat_lt f due) both in (parts.0, ltb-true f due parts.1)
+    by_test false neither none = absurd (cc)
+
+module _ (s : ScenarioParts) (said : IsScenario s) (air : List Entry) (lawful : Lawful s (scenario_clock s) air) (v f : ℕ) (known : knows s.nodes v ≡ true) where
+  by_tune : (o : Option Tune) (q : ℕ) → tune_at s v (scenario_clock s v) (heard_by air v) f ≡ o → probed_with f o ≡ Some q → is_backup s v ≡ true
+  by_tune None q tuned is = absurd (cc)
+  by_tune (Some (Scan r waited)) q tuned is = absurd (cc)
+  by_tune (Some (Hold r due)) q tuned is = absurd (cc)
+  by_tune (Some (Host r due)) q tuned is =
+      let power : Power = (at_frame s v (scenario_clock s v) (heard_by air v) f).power in
+      let now = in_run s f (tune_of power) (Host r due) tuned in
+      let on = on_node power (Host r due) now.1 in
+      ap above_first (own_of_host s (scenario_clock s) air (sound s said) lawful v f r due on.0 known on.1 on.2) ∙ (probing f r due q is).0
+
+  by_rank : (o : Option ℕ) → probed_rank s air f v ≡ o → is_backup s v ≡ false → o ≡ None
+  by_rank None is other = refl
+  by_rank (Some q) is other =
+      absurd (true≢false (sym (by_tune (tune_at s v (scenario_clock s v) (heard_by air v) f) q refl is) ∙ other))
+
+  pub never_idle : is_backup s v ≡ false → probed_rank s air f v ≡ None
+  never_idle other = by_rank (probed_rank s air f v) refl other
