@@ -6,7 +6,7 @@ use Rattle.scenario_text.specs.FloodParts.{knows}
 use Rattle.air_log.specs.declared.entry.Entry.{Entry}
 use Rattle.air_log.specs.Lawful.{heard_by}
 use Rattle.air_log.specs.Trails.{run_end, before_tick}
-use Rattle.air_log.proofs.Elements.{not_in_none}
+use Rattle.lwb_base.proofs.Elements.{not_in_none}
 use Rattle.law_trails.specs.Phases.{Lines, Start, device_at}
 use Rattle.law_trails.specs.TrailLinks.{device_in}
 use Rattle.law_trails.proofs.WalkOfRun.{holds_in_tick}

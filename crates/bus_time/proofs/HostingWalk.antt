@@ -28,7 +28,7 @@ use Rattle.air_log.specs.ScriptedDevices.{switched_on, switched_off, with_new_co
 use Rattle.air_log.specs.Lawful.{heard_by}
 use Rattle.air_log.specs.Safe.{by_host, is_hosting}
 use Rattle.air_log.specs.Trails.{setup_of, sending_from, tune_of}
-use Rattle.air_log.proofs.Elements.{contains_head}
+use Rattle.lwb_base.proofs.Elements.{contains_head}
 use Rattle.law_trails.specs.Phases.{Phase, Lines, Hearings, End, Alarms, Start, Over, IsNextLine, IsNextAlarm, device_at}
 use Rattle.law_trails.specs.Walks.{Now, Keeps, after_row, begins}
 use Rattle.law_trails.specs.TrailLinks.{device_in}

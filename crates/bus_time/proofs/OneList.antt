@@ -18,7 +18,7 @@ use Rattle.scenario_text.specs.ScenarioParts.{ScenarioParts}
 use Rattle.air_log.specs.declared.entry.Entry.{Entry}
 use Rattle.air_log.specs.Entries.{hearing_in, sending_in, sendings_of}
 use Rattle.air_log.specs.Safe.{Begins, SameSlot, by_host}
-use Rattle.air_log.proofs.Elements.{contains_head, contains_tail, filtered, in_filtered}
+use Rattle.lwb_base.proofs.Elements.{contains_head, contains_tail, filtered, in_filtered}
 use Rattle.law_trails.specs.PacketKinds.{kind_of}
 use Rattle.law_trails.proofs.SaidPackets.{kind_says}
 use Rattle.law_safety.specs.Endings.{EndsInOrder}

@@ -10,8 +10,8 @@ use Rattle.std.proofs.lemmas.List.Kept.{AllPairs-filter}
 use Rattle.std.proofs.lemmas.List.Sorted.{ranks_by}
 use Rattle.radio_model.proofs.Members.{not_in_none, in_head, in_either}
 use Rattle.air_log.specs.LogText.{in_order}
-use Rattle.air_log.proofs.DeliveryOrder.{neither}
-use Rattle.air_log.proofs.Elements.{in_filtered, filtered}
+use Rattle.lwb_base.proofs.Truths.{both_not}
+use Rattle.lwb_base.proofs.Elements.{in_filtered, filtered}
 use Rattle.air_log.proofs.StableSorts.{same_in_order}
 
 abbrev pub Place : Type 0
@@ -89,7 +89,7 @@ module _ {X : Type 0} (place : X → Place) where
 
   tied_place : (x y : X) → ties comes_first x y ≡ true → SamePlace (place x) (place y)
   tied_place x y tied =
-      let so = neither (comes_first x y) (comes_first y x) tied in
+      let so = both_not (comes_first x y) (comes_first y x) tied in
       neither_before (place x) (place y) (λ is. true≢false (sym is ∙ so.0)) (λ is. true≢false (sym is ∙ so.1))
 
   -- lists of at most one element

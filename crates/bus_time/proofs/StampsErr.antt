@@ -8,7 +8,7 @@ use Rattle.scenario_text.specs.ScenarioParts.{ScenarioParts}
 use Rattle.air_log.specs.declared.entry.Entry.{Entry}
 use Rattle.air_log.specs.Lawful.{Lawful}
 use Rattle.air_log.specs.Safe.{by_host}
-use Rattle.air_log.proofs.Elements.{contains_head, contains_tail}
+use Rattle.lwb_base.proofs.Elements.{contains_head, contains_tail}
 use Rattle.law_safety.specs.Endings.{EndsInOrder}
 use Rattle.law_safety.specs.Invariant.{IsDrivenWell}
 use Rattle.law_safety.specs.SentPlans.{IsHostOf}

@@ -22,7 +22,8 @@ use Rattle.scenario_text.specs.declared.script.ScriptLine.{ScriptLine}
 use Rattle.air_log.specs.Devices.{Device, Power, PowerOff, PowerOn, Listening, Ordered, event, event_by}
 use Rattle.air_log.specs.ScriptedDevices.{after_act, after_line, dropped, with_new_core}
 use Rattle.air_log.specs.Trails.{Reception, hears, ended_by, is_due, alarms, one_alarm, begun_by, starts}
-use Rattle.law_trails.proofs.RowsOfDevices.{stepped_power, switched_on_is}
+use Rattle.law_trails.proofs.RowsOfDevices.{switched_on_is}
+use Rattle.air_log.proofs.EventPower.{stepped_power}
 use Rattle.host_return.specs.Wishes.{told_by}
 use Rattle.host_return.proofs.WishesKept.{SameWishes, KeepsWishes, IsNoBoot, wishes_kept, same, with_same}
 

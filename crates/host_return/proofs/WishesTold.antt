@@ -16,7 +16,7 @@ use Rattle.scenario_text.proofs.EachPair.{pairs_climb}
 use Rattle.air_log.specs.Devices.{Device, Power, PowerOff, PowerOn}
 use Rattle.air_log.specs.Trails.{Reception, setup_of, frame_start, lines_at, scripted, ending_at, heard, is_due}
 use Rattle.air_log.specs.Trails.{before_alarms, before_start, before_tick, at_frame}
-use Rattle.air_log.proofs.Elements.{filtered}
+use Rattle.lwb_base.proofs.Elements.{filtered}
 use Rattle.law_safety.proofs.RunFacts.{frame_lasts}
 use Rattle.host_return.specs.Restarts.{wish_of}
 use Rattle.host_return.specs.Wishes.{told_by, told_line, told}

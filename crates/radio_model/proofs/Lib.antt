@@ -5,6 +5,7 @@ pub mod Changes
 pub mod Agreement
 pub mod Settled
 pub mod Tunings
+pub mod Members
 pub mod Scenes
 pub mod OneCall
 pub mod NothingBefore

@@ -3,7 +3,7 @@ use Rattle.std.proofs.Common.{◌≡◌, ℕ, List, [], ◌∷◌, ◌++◌, Boo
 use Rattle.std.proofs.lemmas.Bool.{false≢true}
 use Rattle.scenario_text.specs.FloodParts.{knows}
 use Rattle.scenario_text.specs.declared.lines.NodeLine.{NodeLine}
-use Rattle.air_log.proofs.Elements.{contains_head, contains_tail}
+use Rattle.lwb_base.proofs.Elements.{contains_head, contains_tail}
 use Rattle.host_return.specs.Returned.{count_of}
 use Rattle.replay_tool.specs.ReturnReport.{node_probes, probe_line}
 use Rattle.replay_tool.proofs.NodeLines.{known_in}

@@ -1,7 +1,7 @@
 use Rattle.std.proofs.Common.{◌≡◌, ◌++◌, ◌∷◌, [], ℕ, map, count_by, ◌∙◌, ap, arith, rules}
 use Rattle.std.proofs.lemmas.List.{take_all}
 use Rattle.std.specs.List.{range_with_len}
-use Rattle.air_log.proofs.Elements.{map_pushed}
+use Rattle.lwb_base.proofs.Elements.{map_pushed}
 use Rattle.host_return.specs.declared.trails.NodeTrail.{NodeTrail}
 use Rattle.host_return.proofs.CountedProbes.{is_idle, count_for, counts_are}
 use Rattle.host_return.proofs.follow.counts_of.Goals as goal

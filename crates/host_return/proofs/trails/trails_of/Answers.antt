@@ -5,7 +5,7 @@ use Rattle.scenario_text.proofs.SoundScenarios.{sound}
 use Rattle.scenario_clocks.proofs.StatedDrift.{scenario_states}
 use Rattle.air_log.specs.Lawful.{heard_by}
 use Rattle.air_log.specs.TrailsTold.{TrailTold, trail_told}
-use Rattle.air_log.proofs.Elements.{map_pushed}
+use Rattle.lwb_base.proofs.Elements.{map_pushed}
 use Rattle.energy_account.proofs.StatedPlaces.{stated_place}
 use Rattle.host_return.specs.NodeTrails.{is_backup, trail_for}
 use Rattle.host_return.specs.declared.trails.NodeTrail.{NodeTrail}

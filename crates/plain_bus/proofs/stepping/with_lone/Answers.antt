@@ -1,7 +1,7 @@
 use Rattle.std.proofs.Common.{◌≡◌, ◌<◌, ℕ, List, length, get_or, sym, ◌∙◌, ap, arith}
 use Rattle.std.proofs.lemmas.List.{get_or-map}
 use Rattle.scenario_text.specs.declared.lines.NodeLine.{NodeLine}
-use Rattle.bus_terms.proofs.Options.{some_injective}
+use Rattle.std.proofs.lemmas.Option.{same_Some}
 use Rattle.plain_bus.proofs.HeardAlone.{only_initiator}
 use Rattle.plain_bus.proofs.stepping.with_lone.Goals as goal
 
@@ -25,5 +25,5 @@ returns-then-from-nodes c s t sealed flood =
       inside = flood.inside;
       lone = λ o v is there.
           only_initiator s t c.args.flood.now flood place c.without_bit.result c.if-without_bit-eq0.true c.without_bit.ensures.others v there ∙ node
-          ∙ some_injective named o is;
+          ∙ same_Some named o is;
     }
